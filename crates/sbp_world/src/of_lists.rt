@@ -532,11 +532,11 @@ pub fn answers_are_written_before_the_end()
     ensures { AnswersEndLaw }
 {}
 
-/// In every run in which no initiator injected packets the ORB of each run, and of each end but with the status failed, was read as
-/// the carried law says: the target got a response of 32 bytes, which answers its read of the ORB's slot in its initiator, sent behind
-/// the ORB's append and while its list was open. What runs is no dummy, an ORB has format 3 exactly where it ends so, and else the
-/// command and the direction of its append. So of ends it is all of the carried law. After every line, and behind each delivery of a
-/// line that delivers one packet after the other.
+/// In every run in which no initiator injected packets, or few logins were given, the ORB of each run, and of each end but with the
+/// status failed, of an initiator that injected none, was read as the carried law says: the target got a response of 32 bytes, which
+/// answers its read of the ORB's slot in this initiator, sent behind the ORB's append and while its list was open. What runs is no
+/// dummy, an ORB has format 3 exactly where it ends so, and else the command and the direction of its append. So of ends it is all of
+/// the carried law. After every line, and behind each delivery of a line that delivers one packet after the other.
 #[tactic(auto, using(crate::proofs::Lists::Clauses::reads_law))]
 pub fn orbs_were_read_while_their_lists_were_open()
     ensures { WereReadLaw }

@@ -115,7 +115,7 @@ module _ (given : Type 0) (wild : ℕ → Bool) (start : List Disk) (past : List
     brings = known.brings serial r.sent r.found r.to r.by.packet r.by.label p r.by.which r.by.found r.by.is_which below (set.ready.calm i own)
 
     had : Reads R m
-    had = reads_more (λ address orb. IsStillBrought start ms w p address orb) R (λ address orb x. still_had start ms behind (said (notes.Got serial) ∷ []) refl w p address orb x) m (known.agents p below open_there)
+    had = reads_more (λ address orb. IsStillBrought start ms w p address orb) R (λ address orb x. still_had start ms behind (said (notes.Got serial) ∷ []) refl w p address orb x) m (known.agents p below open_there (set.ready.calm i own))
 
     ends : Stepped R stepped
     ends = reply_steps R m p (plain wild start past s set run serial early ended r) run r.by.which heard had brings.main brings.ahead

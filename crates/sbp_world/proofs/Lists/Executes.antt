@@ -54,6 +54,7 @@ use Rattle.sbp_world.specs.Lists.Needs.{IsCalm, IsNamed, OpenAfter, OpenBefore, 
 use Rattle.sbp_world.specs.Lists.Opens.{OpensLaw}
 use Rattle.sbp_world.specs.Lists.OrbReads.{AskedAsGot}
 use Rattle.sbp_world.specs.Lists.Running.{ListsAt, ListsLaw, RunsAt, RunsLaw}
+use Rattle.sbp_world.proofs.Lists.Beside.{tame_or_few_before}
 use Rattle.sbp_world.proofs.Lists.Calm.{asked_calm, calm_before}
 use Rattle.sbp_world.proofs.Lists.DueRuns.{AtDelivery}
 use Rattle.sbp_world.proofs.Lists.DueWalk.{AreDue, where_due, end_due, line_due, next_due, one_due}
@@ -73,8 +74,8 @@ use Rattle.sbp_world.proofs.Lists.FedStillRuns.{fed_everywhere}
 use Rattle.sbp_world.proofs.Lists.StillRuns.{still_everywhere}
 use Rattle.sbp_world.proofs.Lists.StillReads.{AreStill}
 use Rattle.sbp_world.specs.Lists.OrbNames.{AreLed}
-use Rattle.sbp_world.specs.Lists.OwnLogins.{IsTame}
-use Rattle.sbp_world.specs.Lists.Closes.{OpenListsLaw}
+use Rattle.sbp_world.specs.Lists.FewLogins.{IsTameOrFew}
+use Rattle.sbp_world.specs.Lists.Closes.{ClosingLaw, OpenListsLaw}
 use Rattle.sbp_world.proofs.Lists.Courses.{EveryPlace, more_than_one}
 use Rattle.sbp_world.proofs.Lists.OpenProved.{opens_law}
 use Rattle.sbp_world.proofs.Lists.OrbLines.{line_reads}
@@ -95,16 +96,26 @@ use Rattle.sbp_world.proofs.Lists.Stays.{ready_now}
 use Rattle.sbp_world.proofs.Lists.Turns.{Ready}
 
 -- ---- the law at a moment
--- where no initiator injected packets
-abbrev pub Tamely : (ℕ → Bool) → Type 0
-Tamely wild = OpenListsLaw × ((i : ℕ) → wild i ≡ false)
+-- where no initiator injected packets, or few logins were given, so that lists are open as they should be, and were so before
+abbrev pub OpensBeside : List Moment → Type 0
+OpensBeside past = ClosingLaw × OpenListsLaw × IsTameOrFew past
+
+-- an ORB that runs was read, by its name
+abbrev pub NamedRun : (ℕ → Bool) → List Disk → Moment → List Moment → Type 0
+NamedRun wild start moment past = RunNamedAt (OpensBeside past) wild start moment past
 
 abbrev RunAt : (ℕ → Bool) → List Disk → Moment → List Moment → Type 0
-RunAt wild start moment past = LoginAt start moment past × (OutcomeAt wild start moment past × (ReadAt wild start moment past × (FedAt wild start moment past × RunNamedAt (Tamely wild) wild start moment past)))
+RunAt wild start moment past = LoginAt start moment past × (OutcomeAt wild start moment past × (ReadAt wild start moment past × (FedAt wild start moment past × NamedRun wild start moment past)))
 
 -- an ORB that ends was read, by its name
+abbrev pub NamedEnd : (ℕ → Bool) → List Disk → Moment → List Moment → Type 0
+NamedEnd wild start moment past = EndNamedAt (OpensBeside past) wild start moment past
+
 abbrev pub EndSo : (ℕ → Bool) → List Disk → Moment → List Moment → Type 0
-EndSo wild start moment past = EndAt wild start moment past × EndNamedAt (Tamely wild) wild start moment past
+EndSo wild start moment past = EndAt wild start moment past × NamedEnd wild start moment past
+
+pub opens_before : (later past : List Moment) → OpensBeside (later ++ past) → OpensBeside past
+opens_before later past so = (so.0, so.1, tame_or_few_before later past so.2)
 
 abbrev Law : (ℕ → Bool) → List Disk → List Moment → Type 0
 Law wild start past = EachMoment (RunAt wild start) past
@@ -116,7 +127,7 @@ split (n ∷ a) b past = ap (λ ms. said n ∷ ms) (split a b past)
 module _ (wild : ℕ → Bool) (start : List Disk) where
   plain_at : (note : Note) → IsPlain note → (past : List Moment) → RunAt wild start (said note) past
   plain_at (notes.Ran i n k unit cdb bytes check) h past = absurd h
-  plain_at note h past = (tt, (tt, (tt, (tt, run_plain (Tamely wild) wild start note h past))))
+  plain_at note h past = (tt, (tt, (tt, (tt, run_plain (OpensBeside past) wild start note h past))))
 
   plain_law : (more : List Note) → AllPlain more → (past : List Moment) → Law wild start past → Law wild start (map said more ++ past)
   plain_law [] h past l = l
@@ -148,21 +159,21 @@ module _ (wild : ℕ → Bool) (start : List Disk) where
   one_law past None_ran Ran old new f (inl q) passes l = plainly_law past old new q l
   one_law past None_ran Ran old new f (inr d) passes l = delivers_law past None_ran Ran old new f d passes l
 
-  run_told : (past : List Moment) (s : Scene) → IsSet wild start past s → (Tamely wild → HasNames start past s.world) → (run : Option Told) (serial : ℕ) (ran : Note) → IsRunBy s run serial ran → (let now = said (notes.Got serial) ∷ hist past s.world in PassLaw wild (said ran ∷ now) → RunAt wild start (said ran) now)
+  run_told : (past : List Moment) (s : Scene) → IsSet wild start past s → (OpensBeside (hist past s.world) → HasNames start past s.world) → (run : Option Told) (serial : ℕ) (ran : Note) → IsRunBy s run serial ran → (let now = said (notes.Got serial) ∷ hist past s.world in PassLaw wild (said ran ∷ now) → RunAt wild start (said ran) now)
   run_told past s set names run serial ran r passes =
       let x = run_so wild start past s set run ran serial r passes.0 in
-      (x.0, (x.1, (read_so wild start past s set run ran serial r passes.0, (fed_so wild start past s set run ran serial r passes.0, named_so (Tamely wild) wild start past s set names run ran serial r passes.0))))
+      (x.0, (x.1, (read_so wild start past s set run ran serial r passes.0, (fed_so wild start past s set run ran serial r passes.0, named_so (OpensBeside (said (notes.Got serial) ∷ hist past s.world)) wild start past s set (λ so. names (opens_before (said (notes.Got serial) ∷ []) (hist past s.world) so)) run ran serial r passes.0))))
 
-  one_told : (past : List Moment) (s : Scene) (set : IsSet wild start past s) → (Tamely wild → HasNames start past s.world) → (line packet : ℕ) (again : Bool) (run : List (Option Told)) (serial : ℕ) (ran : Note) → OneRan s set.ready.good line packet again run serial ran → (let now = said (notes.Got serial) ∷ hist past s.world in PassLaw wild (said ran ∷ now) → RunAt wild start (said ran) now)
+  one_told : (past : List Moment) (s : Scene) (set : IsSet wild start past s) → (OpensBeside (hist past s.world) → HasNames start past s.world) → (line packet : ℕ) (again : Bool) (run : List (Option Told)) (serial : ℕ) (ran : Note) → OneRan s set.ready.good line packet again run serial ran → (let now = said (notes.Got serial) ∷ hist past s.world in PassLaw wild (said ran ∷ now) → RunAt wild start (said ran) now)
   one_told past s set names line packet again [] serial ran r passes = absurd r
   one_told past s set names line packet again (one ∷ more) serial ran r passes = run_told past s set names one serial ran r passes
 
-  lowest_law : (past : List Moment) (s : Scene) → IsSet wild start past s → (Tamely wild → HasNames start past s.world) → (one : Option Told) (o : Option ℕ) → MayAt o one s → PassLaw wild (hist past (delivered_at o one s).world) → Law wild start (hist past s.world) → Law wild start (hist past (delivered_at o one s).world)
+  lowest_law : (past : List Moment) (s : Scene) → IsSet wild start past s → (OpensBeside (hist past s.world) → HasNames start past s.world) → (one : Option Told) (o : Option ℕ) → MayAt o one s → PassLaw wild (hist past (delivered_at o one s).world) → Law wild start (hist past s.world) → Law wild start (hist past (delivered_at o one s).world)
   lowest_law past s set names one None m passes l = absurd m
   lowest_law past s set names one (Some serial) m passes l =
       delivers_law past (IsRunlessBy s one) (IsRunBy s one) s.world.fresh (delivered_at (Some serial) one s).world.fresh (run_told past s set names one) (delivery_comes s set.ready.good serial false one m) passes l
 
-  next_law : (past : List Moment) (s : Scene) → IsSet wild start past s → (Tamely wild → HasNames start past s.world) → (one : Option Told) → MayNext one s → PassLaw wild (hist past (delivered_next one s).world) → Law wild start (hist past s.world) → Law wild start (hist past (delivered_next one s).world)
+  next_law : (past : List Moment) (s : Scene) → IsSet wild start past s → (OpensBeside (hist past s.world) → HasNames start past s.world) → (one : Option Told) → MayNext one s → PassLaw wild (hist past (delivered_next one s).world) → Law wild start (hist past s.world) → Law wild start (hist past (delivered_next one s).world)
   unfolding delivered_next MayNext
   next_law past s set names one m passes l = lowest_law past s set names one (lowest s.world) m passes l
 
@@ -175,7 +186,7 @@ module _ (wild : ℕ → Bool) (start : List Disk) where
   E past = EachMoment (EndSo wild start) past
 
   plain_end : (note : Note) → endless.IsPlain note → (past : List Moment) → EndSo wild start (said note) past
-  plain_end note h past = (end_plain wild start note h past, plain_named (Tamely wild) wild start note h past)
+  plain_end note h past = (end_plain wild start note h past, plain_named (OpensBeside past) wild start note h past)
 
   mild_law : (more : List Note) → endless.AllPlain more → (past : List Moment) → E past → E (map said more ++ past)
   mild_law [] h past l = l
@@ -198,19 +209,26 @@ module _ (wild : ℕ → Bool) (start : List Disk) where
         subst E (sym (split early (notes.Got serial ∷ old) past)) (early_law early is.1 got ((tt, tt), l)),
       )
 
-  end_told : (past : List Moment) (s : Scene) → IsSet wild start past s → (Tamely wild → HasNames start past s.world) → (run : Option Told) (serial : ℕ) (early : List Note) (ended : Note) → IsEndBy s run serial early ended → (let now = map said early ++ said (notes.Got serial) ∷ hist past s.world in EndSo wild start (said ended) now × endless.AllLight early)
-  end_told past s set names run serial early ended r = ((ended_so wild start past s set run serial early ended r, ended_named (Tamely wild) wild start past s set names run serial early ended r), r.light)
+  end_told : (past : List Moment) (s : Scene) → IsSet wild start past s → (OpensBeside (hist past s.world) → HasNames start past s.world) → (run : Option Told) (serial : ℕ) (early : List Note) (ended : Note) → IsEndBy s run serial early ended → (let now = map said early ++ said (notes.Got serial) ∷ hist past s.world in EndSo wild start (said ended) now × endless.AllLight early)
+  end_told past s set names run serial early ended r =
+      let got = said (notes.Got serial) ∷ hist past s.world in (
+        (
+          ended_so wild start past s set run serial early ended r,
+          ended_named (OpensBeside (map said early ++ got)) wild start past s set (λ so. names (opens_before (said (notes.Got serial) ∷ []) (hist past s.world) (opens_before (map said early) got so))) run serial early ended r,
+        ),
+        r.light,
+      )
 
-  one_ended : (past : List Moment) (s : Scene) (set : IsSet wild start past s) → (Tamely wild → HasNames start past s.world) → (line packet : ℕ) (again : Bool) (run : List (Option Told)) (serial : ℕ) (early : List Note) (ended : Note) → OneEnd s set.ready.good line packet again run serial early ended → (let now = map said early ++ said (notes.Got serial) ∷ hist past s.world in EndSo wild start (said ended) now × endless.AllLight early)
+  one_ended : (past : List Moment) (s : Scene) (set : IsSet wild start past s) → (OpensBeside (hist past s.world) → HasNames start past s.world) → (line packet : ℕ) (again : Bool) (run : List (Option Told)) (serial : ℕ) (early : List Note) (ended : Note) → OneEnd s set.ready.good line packet again run serial early ended → (let now = map said early ++ said (notes.Got serial) ∷ hist past s.world in EndSo wild start (said ended) now × endless.AllLight early)
   one_ended past s set names line packet again [] serial early ended r = absurd r
   one_ended past s set names line packet again (one ∷ more) serial early ended r = end_told past s set names one serial early ended r
 
-  lowest_ends : (past : List Moment) (s : Scene) → IsSet wild start past s → (Tamely wild → HasNames start past s.world) → (one : Option Told) (o : Option ℕ) → MayAt o one s → E (hist past s.world) → E (hist past (delivered_at o one s).world)
+  lowest_ends : (past : List Moment) (s : Scene) → IsSet wild start past s → (OpensBeside (hist past s.world) → HasNames start past s.world) → (one : Option Told) (o : Option ℕ) → MayAt o one s → E (hist past s.world) → E (hist past (delivered_at o one s).world)
   lowest_ends past s set names one None m l = absurd m
   lowest_ends past s set names one (Some serial) m l =
       ends_law past (IsEndBy s one) s.world.fresh (delivered_at (Some serial) one s).world.fresh (end_told past s set names one) (endless.delivery_comes s set.ready.good serial false one m) l
 
-  next_ends : (past : List Moment) (s : Scene) → IsSet wild start past s → (Tamely wild → HasNames start past s.world) → (one : Option Told) → MayNext one s → E (hist past s.world) → E (hist past (delivered_next one s).world)
+  next_ends : (past : List Moment) (s : Scene) → IsSet wild start past s → (OpensBeside (hist past s.world) → HasNames start past s.world) → (one : Option Told) → MayNext one s → E (hist past s.world) → E (hist past (delivered_next one s).world)
   unfolding delivered_next MayNext
   next_ends past s set names one m l = lowest_ends past s set names one (lowest s.world) m l
 
@@ -236,6 +254,13 @@ module _ (wild : ℕ → Bool) (start : List Disk) where
         stands_asked ms i (initiator_at w i).lists.memory slot (orb n number) prepared.small (λ cmd command. s.filled i o.inside slot n number cmd prepared.small prepared.there command) ((orbs i o.inside).stands slot (orb n number) prepared.small prepared.there)
 
 -- ---- over a run
+-- what is known of a place by names
+record KnowsNames (start : List Disk) (past : List Moment) (w : WorldState) : Type 0 where
+  waits : EachMoment (AskedAsGot start) past
+  led : AreLed start past
+  still : AreStill start past w
+  fed : AreFedStill start past w
+
 abbrev opened : (wild : ℕ → Bool) → (i : ℕ) → wild i ≡ false → OpensLaw
 opened wild i own = opens_law
 
@@ -317,28 +342,28 @@ module _ (wild : ℕ → Bool) (line : ℕ) (run : Run) (few : run.initiators �
     line_heard_here next event r as_opened waits i own = line_heard run.units logins has start here.world b.holds site_here next event r as_opened waits (asked_so_far i own)
 
     -- and by which names
-    known_here : Tamely wild → AreLed start (hist b.past here.world) × (AreStill start (hist b.past here.world) here.world × AreFedStill start (hist b.past here.world) here.world)
-    known_here tamely =
-        let place = as_front line run entries entries (so_far 0 (tamely.1 0)) in
-        let tame : IsTame (hist b.past here.world) = λ i. past_calm i (tamely.1 i) in
-        let tame_front = subst IsTame (sym same_history) tame in (
-          subst (AreLed start) same_history ((led_everywhere tamely.0).after_lines line front front_run has small size place tame_front),
-          (
-            subst (λ ms. AreStill start ms here.world) same_history ((still_everywhere tamely.0).after_lines line front front_run has small size place tame_front),
-            subst (λ ms. AreFedStill start ms here.world) same_history ((fed_everywhere tamely.0).after_lines line front front_run has small size place tame_front),
-          ),
-        )
+    known_here : OpensBeside (hist b.past here.world) → KnowsNames start (hist b.past here.world) here.world
+    known_here so =
+        let front_beside = subst IsTameOrFew (sym same_history) so.2 in
+        let place = so.0.before so.1 line front front_run has small size front_beside in
+        subst (λ ms. KnowsNames start ms here.world) same_history (record {
+          waits = asked_everywhere.after_lines line front front_run has small size place;
+          led = (led_everywhere so.1).after_lines line front front_run has small size place front_beside;
+          still = (still_everywhere so.1).after_lines line front front_run has small size place front_beside;
+          fed = (fed_everywhere so.1).after_lines line front front_run has small size place front_beside;
+        })
 
-    names_here : Tamely wild → HasNames start b.past here.world
-    names_here tamely =
-        let x = known_here tamely in
-        has_names run.units logins has start here.world b.holds (site wild (opened wild) line run few has small size entries short all fit b.past (length entries) b.holds b.is) x.0 x.1.0 (asked_so_far 0 (tamely.1 0)) x.1.1
+    names_here : OpensBeside (hist b.past here.world) → HasNames start b.past here.world
+    names_here so =
+        let x = known_here so in
+        has_names run.units logins has start here.world b.holds (site wild (opened wild) line run few has small size entries short all fit b.past (length entries) b.holds b.is) x.led x.still x.waits x.fed
 
-    names_line : (next : ℕ) (event : Event) (r : Bool) → ((t : Terms) → opened_by event t ≡ record t { repeats = r }) → AreAskedAt start (asked next event ∷ hist b.past here.world) → Tamely wild → HasNames start (asked next event ∷ hist b.past here.world) (without_notes here.world)
-    names_line next event r as_opened waits tamely =
-        let x = known_here tamely in
-        line_names start next event r as_opened b.past here.world (names_here tamely)
-        (line_fed run.units logins has start here.world b.holds site_here (asked_so_far 0 (tamely.1 0)) x.0 x.1.1 next event r as_opened waits)
+    names_line : (next : ℕ) (event : Event) (r : Bool) → ((t : Terms) → opened_by event t ≡ record t { repeats = r }) → AreAskedAt start (asked next event ∷ hist b.past here.world) → OpensBeside (asked next event ∷ hist b.past here.world) → HasNames start (asked next event ∷ hist b.past here.world) (without_notes here.world)
+    names_line next event r as_opened waits so =
+        let before = opens_before (asked next event ∷ []) (hist b.past here.world) so in
+        let x = known_here before in
+        line_names start next event r as_opened b.past here.world (names_here before)
+        (line_fed run.units logins has start here.world b.holds site_here x.waits x.led x.fed next event r as_opened waits)
 
     -- as a line begins
     module _ (next : ℕ) (event : Event) (e : is_reset event ≡ false) where
@@ -434,28 +459,21 @@ module _ (wild : ℕ → Bool) (line : ℕ) (run : Run) (few : run.initiators �
         heard_there i own =
             has_heard run.units logins has start (at told) holds_there (site_at wild (opened wild) line run few has small size entries short all fit b.past (length entries) b.holds b.is next event d told m) (asked_there i own)
 
-        names_by : Tamely wild → (o : Option ℕ) → OpenWhile (asked next (more_deliveries o) ∷ moments_behind line run entries) told (begun here) → IsTame (map said (at told).fresh ++ asked next (more_deliveries o) ∷ hist b.past here.world) → (let ms = map said (at told).fresh ++ asked next (more_deliveries o) ∷ hist b.past here.world in AreLed start ms × (AreStill start ms (at told) × AreFedStill start ms (at told)))
-        names_by tamely o goes tame =
-            let same = sym (moments_same line run entries entries) in
-            let back = sym same_history in
-            let place : OpenBetween line front next (more_deliveries o) told = record {
-              before = as_front line run entries entries (so_far 0 (tamely.1 0));
-              begins = subst (λ ms. OpenLists ms here.world) same (ends 0 (tamely.1 0));
-              goes = subst (λ ms. OpenWhile (asked next (more_deliveries o) ∷ ms) told (begun here)) same goes;
-            } in
-            let tame_front = subst (λ ms. IsTame (map said (at told).fresh ++ asked next (more_deliveries o) ∷ ms)) back tame in (
-              subst (λ ms. AreLed start (map said (at told).fresh ++ asked next (more_deliveries o) ∷ ms)) same_history ((led_everywhere tamely.0).between line front front_run has small size next o told m place tame_front),
-              (
-                subst (λ ms. AreStill start (map said (at told).fresh ++ asked next (more_deliveries o) ∷ ms) (at told)) same_history ((still_everywhere tamely.0).between line front front_run has small size next o told m place tame_front),
-                subst (λ ms. AreFedStill start (map said (at told).fresh ++ asked next (more_deliveries o) ∷ ms) (at told)) same_history ((fed_everywhere tamely.0).between line front front_run has small size next o told m place tame_front),
-              ),
-            )
+        names_by : ClosingLaw → OpenListsLaw → (o : Option ℕ) → IsTameOrFew (map said (at told).fresh ++ asked next (more_deliveries o) ∷ hist b.past here.world) → KnowsNames start (map said (at told).fresh ++ asked next (more_deliveries o) ∷ hist b.past here.world) (at told)
+        names_by closing open_lists o beside =
+            let front_beside = subst (λ ms. IsTameOrFew (map said (at told).fresh ++ asked next (more_deliveries o) ∷ ms)) (sym same_history) beside in
+            let place = closing.between open_lists line front front_run has small size next (more_deliveries o) (more_than_one o) told m front_beside in
+            subst (λ ms. KnowsNames start (map said (at told).fresh ++ asked next (more_deliveries o) ∷ ms) (at told)) same_history (record {
+              waits = asked_everywhere.between line front front_run has small size next o told m place;
+              led = (led_everywhere open_lists).between line front front_run has small size next o told m place front_beside;
+              still = (still_everywhere open_lists).between line front front_run has small size next o told m place front_beside;
+              fed = (fed_everywhere open_lists).between line front front_run has small size next o told m place front_beside;
+            })
 
-        names_there : Tamely wild → HasNames start now (at told)
-        names_there tamely =
-            let x = more_by (λ y. OpenWhile (asked next y ∷ moments_behind line run entries) told (begun here) → IsTame (map said (at told).fresh ++ asked next y ∷ hist b.past here.world) → (let ms = map said (at told).fresh ++ asked next y ∷ hist b.past here.world in AreLed start ms × (AreStill start ms (at told) × AreFedStill start ms (at told))))
-            (λ o. names_by tamely o) event d (before 0 (tamely.1 0)) (λ i. c i (tamely.1 i)) in
-            has_names run.units logins has start (at told) holds_there (site_at wild (opened wild) line run few has small size entries short all fit b.past (length entries) b.holds b.is next event d told m) x.0 x.1.0 (asked_there 0 (tamely.1 0)) x.1.1
+        names_there : OpensBeside (hist now (at told)) → HasNames start now (at told)
+        names_there so =
+            let x = more_by (λ y. IsTameOrFew (map said (at told).fresh ++ asked next y ∷ hist b.past here.world) → KnowsNames start (map said (at told).fresh ++ asked next y ∷ hist b.past here.world) (at told)) (λ o. names_by so.0 so.1 o) event d so.2 in
+            has_names run.units logins has start (at told) holds_there (site_at wild (opened wild) line run few has small size entries short all fit b.past (length entries) b.holds b.is next event d told m) x.led x.still x.waits x.fed
 
         set_there : IsSet wild start now (after_all told (begun here))
         set_there = record {
@@ -521,7 +539,7 @@ module _ (wild : ℕ → Bool) (line : ℕ) (run : Run) (few : run.initiators �
         let e = events.Deliver serial in
         let past = asked next e ∷ hist b.past here.world in
         let set = set_open next e refl (λ i own. line_reads start next e false (λ t. refl) b.past here.world (reads_here i own)) (λ i own. line_heard_here next e false (λ t. refl) (delivering_asks start (hist b.past here.world) site_here.asked next serial) i own) in
-        let names : Tamely wild → HasNames start past (without_notes here.world) = names_line next e false (λ t. refl) (delivering_asks start (hist b.past here.world) site_here.asked next serial) in
+        let names : OpensBeside past → HasNames start past (without_notes here.world) = names_line next e false (λ t. refl) (delivering_asks start (hist b.past here.world) site_here.asked next serial) in
         let comes = one_comes (begun here) set.ready.good next serial false (is_in_flight serial (begun here).world) told m in (
           one_law wild start past (NoneRun (begun here) set.ready.good next serial false told) (OneRan (begun here) set.ready.good next serial false told) [] _ (one_told wild start past (begun here) set names next serial false told) comes p ((tt, (tt, (tt, (tt, tt)))), l.0),
           (
@@ -534,7 +552,7 @@ module _ (wild : ℕ → Bool) (line : ℕ) (run : Run) (few : run.initiators �
         let e = events.Repeat serial in
         let past = asked next e ∷ hist b.past here.world in
         let set = set_open next e refl (λ i own. line_reads start next e true (λ t. refl) b.past here.world (reads_here i own)) (λ i own. line_heard_here next e true (λ t. refl) (repeating_asks start (hist b.past here.world) site_here.asked next serial) i own) in
-        let names : Tamely wild → HasNames start past (without_notes here.world) = names_line next e true (λ t. refl) (repeating_asks start (hist b.past here.world) site_here.asked next serial) in
+        let names : OpensBeside past → HasNames start past (without_notes here.world) = names_line next e true (λ t. refl) (repeating_asks start (hist b.past here.world) site_here.asked next serial) in
         let comes = one_comes (begun here) set.ready.good next serial true (may_repeat serial (begun here).world) told m in (
           one_law wild start past (NoneRun (begun here) set.ready.good next serial true told) (OneRan (begun here) set.ready.good next serial true told) [] _ (one_told wild start past (begun here) set names next serial true told) comes p ((tt, (tt, (tt, (tt, tt)))), l.0),
           (
@@ -614,7 +632,7 @@ module _ (wild : ℕ → Bool) (start : List Disk) where
   fed_part [] l = tt
   fed_part (m ∷ past) l = (l.0.1.1.1.0, fed_part past l.1)
 
-  pub run_names_part : (past : List Moment) → Law wild start past → EachMoment (RunNamedAt (Tamely wild) wild start) past
+  pub run_names_part : (past : List Moment) → Law wild start past → EachMoment (NamedRun wild start) past
   run_names_part [] l = tt
   run_names_part (m ∷ past) l = (l.0.1.1.1.1, run_names_part past l.1)
 
@@ -622,7 +640,7 @@ module _ (wild : ℕ → Bool) (start : List Disk) where
   ends_part [] l = tt
   ends_part (m ∷ past) l = (l.0.0, ends_part past l.1)
 
-  pub names_part : (past : List Moment) → EachMoment (EndSo wild start) past → EachMoment (EndNamedAt (Tamely wild) wild start) past
+  pub names_part : (past : List Moment) → EachMoment (EndSo wild start) past → EachMoment (NamedEnd wild start) past
   names_part [] l = tt
   names_part (m ∷ past) l = (l.0.1, names_part past l.1)
 
@@ -715,9 +733,9 @@ runs_fed_law = record {
       fed_part (injectors now) run.start.disks now (between_law line run r has small size (injectors now) next event d told m (λ i own. so_far) (λ i own. own)).0;
 }
 
--- by their names, where no initiator injected packets
+-- by their names
 abbrev pub NamedEnds : List Disk → List Moment → WorldState → Type 0
-NamedEnds start past w = EachMoment (EndNamedAt (Tamely (injectors past)) (injectors past) start) past
+NamedEnds start past w = EachMoment (NamedEnd (injectors past) start) past
 
 pub ends_named : EveryPlace NamedEnds
 ends_named = record {
@@ -729,7 +747,7 @@ ends_named = record {
 }
 
 abbrev pub NamedRuns : List Disk → List Moment → WorldState → Type 0
-NamedRuns start past w = EachMoment (RunNamedAt (Tamely (injectors past)) (injectors past) start) past
+NamedRuns start past w = EachMoment (NamedRun (injectors past) start) past
 
 pub runs_named : EveryPlace NamedRuns
 runs_named = record {

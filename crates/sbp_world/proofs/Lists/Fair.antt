@@ -31,10 +31,17 @@ pub fair_before : (m : Moment) (past : List Moment) → IsFair (m ∷ past) → 
 fair_before m past f = record { counts = counts_before m past f.counts; answers = f.answers.1; fair = λ node. injects_before m past node (f.fair node) }
 
 -- ---- at each place of a run
+-- and the target injected no packets
 pub record Told (past : List Moment) : Type 0 where
-  counts : SerialsCount past
-  answers : EachMoment AnswersAt past
-  fair : (terms past).injects 0 ≡ false
+  pub counts : SerialsCount past
+  pub answers : EachMoment AnswersAt past
+  pub fair : (terms past).injects 0 ≡ false
+
+pub told_before : (m : Moment) (past : List Moment) → Told (m ∷ past) → Told past
+told_before m past t = record { counts = counts_before m past t.counts; answers = t.answers.1; fair = injects_before m past 0 t.fair }
+
+pub told_of : (past : List Moment) → IsFair past → Told past
+told_of past f = record { counts = f.counts; answers = f.answers; fair = f.fair 0 }
 
 abbrev Nothing : List Disk → List Moment → WorldState → Type 0
 Nothing start past w = Unit {0}

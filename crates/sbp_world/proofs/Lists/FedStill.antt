@@ -1,5 +1,5 @@
 -- What an agent has of its ORB, by the response that brought it, and of the reads since it turned to it: what is known of that response goes on with it.
-use Rattle.std.proofs.Common.{◌≡◌, ◌∙◌, refl, sym, ap, subst, ◌<◌, ℕ, true, false, List, [], ◌∷◌, ◌++◌}
+use Rattle.std.proofs.Common.{◌≡◌, ◌∙◌, refl, sym, ap, subst, ℕ, true, false, List, [], ◌∷◌, ◌++◌}
 use Rattle.command_agent.specs.declared.phase.Phase.{Phase}
 use Rattle.command_agent.specs.declared.phase.Phase.TheVariants as phases
 use Rattle.command_agent.specs.declared.phase.ReadAhead.{ReadAhead}
@@ -36,8 +36,8 @@ module _ (start : List Disk) (Known : ℕ → ℕ → CommandOrb → ℕ → Lis
   read_on m past place at orb r = record { response = r.response; earlier = r.earlier; later = m ∷ r.later; is = ap (λ ms. m ∷ ms) r.is; known = r.known }
 
 -- ---- the agent of a place waits for an answer of the initiator that has the place
-abbrev pub Awaits : List Disk → (ℕ → ℕ) → List Moment → ℕ → Type 0
-Awaits start owner past place = place < 8 → IsAwaited start past (owner place) place
+abbrev pub Awaits : List Disk → (ℕ → ℕ → Type 0) → List Moment → ℕ → Type 0
+Awaits start Owner past place = (i : ℕ) → Owner place i → IsAwaited start past i place
 
 same_awaited : (start : List Disk) (m : Moment) → IsNoGot m → (i place : ℕ) (later before : List Moment) → AllAwaited start i place later before → AllAwaited start i place (m ∷ later) before
 same_awaited start (asked line event) n i place later before a = a
@@ -47,8 +47,8 @@ same_awaited start (said note) n i place later before a = by note n
     by (notes.Got serial) n = absurd n
     by note n = a
 
-module _ (start : List Disk) (Known : ℕ → ℕ → CommandOrb → ℕ → List Moment → Type 0) (owner : ℕ → ℕ) where
-  -- the agent turned to an ORB that a response brought, and its reads brought these since; and it waited so as each packet was got
+module _ (start : List Disk) (Known : ℕ → ℕ → CommandOrb → ℕ → List Moment → Type 0) (Owner : ℕ → ℕ → Type 0) where
+  -- the agent turned to an ORB that a response brought, and its reads brought these since; and it waited for its initiator as each packet was got
   pub record TurnedBy (past : List Moment) (place at : ℕ) (orb : CommandOrb) (reads : List Moved) : Type 0 where
     pub response : ℕ
     pub earlier : List Moment
@@ -57,10 +57,10 @@ module _ (start : List Disk) (Known : ℕ → ℕ → CommandOrb → ℕ → Lis
     pub is : later ++ (between ++ said (notes.Got response) ∷ earlier) ≡ past
     pub reads_are : reads ≡ own_reads start place later (between ++ said (notes.Got response) ∷ earlier)
     pub known : Known place at orb response earlier
-    pub awaited : place < 8 → AllAwaited start (owner place) place later (between ++ said (notes.Got response) ∷ earlier)
+    pub awaited : (i : ℕ) → Owner place i → AllAwaited start i place later (between ++ said (notes.Got response) ∷ earlier)
 
   pub turns_by : (past : List Moment) (place at : ℕ) (orb : CommandOrb) → ReadBy start Known past place at orb → TurnedBy past place at orb []
-  turns_by past place at orb r = record { response = r.response; earlier = r.earlier; later = []; between = r.later; is = r.is; reads_are = refl; known = r.known; awaited = λ small. tt }
+  turns_by past place at orb r = record { response = r.response; earlier = r.earlier; later = []; between = r.later; is = r.is; reads_are = refl; known = r.known; awaited = λ i own. tt }
 
   pub turned_on : (m : Moment) → IsNoGot m → (past : List Moment) (place at : ℕ) (orb : CommandOrb) (reads : List Moved) → TurnedBy past place at orb reads → TurnedBy (m ∷ past) place at orb reads
   turned_on m n past place at orb reads t = record {
@@ -71,10 +71,10 @@ module _ (start : List Disk) (Known : ℕ → ℕ → CommandOrb → ℕ → Lis
     is = ap (λ ms. m ∷ ms) t.is;
     reads_are = t.reads_are ∙ sym (same_reads start m n place t.later _);
     known = t.known;
-    awaited = λ small. same_awaited start m n (owner place) place t.later _ (t.awaited small);
+    awaited = λ i own. same_awaited start m n i place t.later _ (t.awaited i own);
   }
 
-  pub turned_by_got : (serial : ℕ) (past : List Moment) (place at : ℕ) (orb : CommandOrb) (reads more : List Moved) → Awaits start owner past place → main_read start past place serial ≡ more → TurnedBy past place at orb reads → TurnedBy (said (notes.Got serial) ∷ past) place at orb (reads ++ more)
+  pub turned_by_got : (serial : ℕ) (past : List Moment) (place at : ℕ) (orb : CommandOrb) (reads more : List Moved) → Awaits start Owner past place → main_read start past place serial ≡ more → TurnedBy past place at orb reads → TurnedBy (said (notes.Got serial) ∷ past) place at orb (reads ++ more)
   turned_by_got serial past place at orb reads more waits e t =
       let m = said (notes.Got serial) in
       record {
@@ -85,7 +85,7 @@ module _ (start : List Disk) (Known : ℕ → ℕ → CommandOrb → ℕ → Lis
         is = ap (λ ms. m ∷ ms) t.is;
         reads_are = ap (λ xs. xs ++ more) t.reads_are ∙ ap (λ xs. own_reads start place t.later (t.between ++ said (notes.Got t.response) ∷ t.earlier) ++ xs) (sym e ∙ ap (λ ms. main_read start ms place serial) (sym t.is));
         known = t.known;
-        awaited = λ small. (subst (λ ms. IsAwaited start ms (owner place) place) (sym t.is) (waits small), t.awaited small);
+        awaited = λ i own. (subst (λ ms. IsAwaited start ms i place) (sym t.is) (waits i own), t.awaited i own);
       }
 
 -- ---- agents that are alike

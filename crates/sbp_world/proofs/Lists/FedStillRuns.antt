@@ -1,4 +1,4 @@
--- At each place of a run in which no initiator injected packets each agent that has a list open has the buffer and the data that its reads brought since it turned to its ORB, behind the
+-- At each place of a run in which no initiator injected packets, or few logins were given, each agent that has a list open of an initiator that injected none has the buffer and the data that its reads brought since it turned to its ORB, behind the
 -- response that brought the ORB, which is the one prepared last in its slot.
 use Rattle.std.proofs.Common.{ℕ, ◌<◌, List, sym, ◌∙◌}
 use Rattle.rbc_disk.specs.Disk.{Disk}
@@ -7,11 +7,11 @@ use Rattle.sbp_world.specs.Making.{ready_logins}
 use Rattle.sbp_world.specs.Runs.{Run, beginning}
 use Rattle.sbp_world.specs.Worlds.{WorldState}
 use Rattle.sbp_world.specs.Lists.Closes.{OpenListsLaw}
-use Rattle.sbp_world.specs.Lists.OwnLogins.{IsTame}
+use Rattle.sbp_world.specs.Lists.FewLogins.{IsTameOrFew}
 use Rattle.sbp_world.proofs.Lists.Courses.{EveryPlace, Keeps, at_between, at_lines}
 use Rattle.sbp_world.proofs.Lists.FedStillReads.{AreFedStill}
 use Rattle.sbp_world.proofs.Lists.FedStillTurns.{turn_fed}
-use Rattle.sbp_world.proofs.Lists.LiveRuns.{goes_tame}
+use Rattle.sbp_world.proofs.Lists.LiveRuns.{goes_tame_or_few}
 use Rattle.sbp_world.proofs.Lists.ManageTerms.{untrue}
 use Rattle.sbp_world.proofs.Lists.StillRuns.{StillSo, first_closed, ground_everywhere, still_everywhere}
 use Rattle.sbp_world.proofs.Lists.StillTurns.{Ground}
@@ -30,16 +30,16 @@ still_ground lists = record {
 }
 
 abbrev pub FedStillSo : List Disk → List Moment → WorldState → Type 0
-FedStillSo start past w = IsTame past → AreFedStill start past w
+FedStillSo start past w = IsTameOrFew past → AreFedStill start past w
 
 all_fed : (units ready : ℕ) → 0 < units → (start : List Disk) → Keeps units ready start (StillGround start) (FedStillSo start)
-all_fed units ready has start past s later t lines more g h h_now q q_now fed tame =
-    let before = goes_tame past s later t g tame in
-    turn_fed units ready has start past s later t g lines more h h_now q.ground q_now.ground tame (q.still before) (fed before)
+all_fed units ready has start past s later t lines more g h h_now q q_now fed beside =
+    let before = goes_tame_or_few past s later t g beside in
+    turn_fed units ready has start past s later t g lines more h h_now q.ground q_now.ground beside (q.still before) (fed before)
 
 -- in a new world no agent has a list
 first_fed : (start : List Disk) (run : Run) (ms : List Moment) → FedStillSo start ms (beginning run).world
-first_fed start run ms tame place small open_there = untrue (sym (first_closed run place) ∙ open_there)
+first_fed start run ms beside place small open_there calm = untrue (sym (first_closed run place) ∙ open_there)
 
 pub fed_everywhere : OpenListsLaw → EveryPlace FedStillSo
 fed_everywhere lists = record {

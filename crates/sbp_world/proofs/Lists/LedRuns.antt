@@ -1,9 +1,8 @@
--- As the target gets a packet, in a run in which no initiator injected packets, each agent that reads an ORB reads the one prepared last in its slot, of the latest list of its
--- initiator; so each agent has an ORB that a response brought, which the slot had then.
-use Rattle.std.proofs.Common.{inl, arith, ◌≡◌, ◌∙◌, refl, sym, ap, subst, ◌<◌, ◌≤◌, ◌+◌, ℕ, suc, Bool, true, false, List, [], ◌∷◌, ◌++◌, map, length, Option, Some, Ok}
+-- As the target gets a packet, in a run in which no initiator injected packets, or few logins were given, each agent that reads an ORB of an initiator that injected none reads the
+-- one prepared last in its slot, of the latest list of this initiator; so the response brings it the ORB that the slot had then.
+use Rattle.std.proofs.Common.{arith, ◌≡◌, ◌∙◌, refl, sym, ap, subst, ◌<◌, ◌≤◌, ◌+◌, ℕ, suc, Bool, true, false, List, [], ◌∷◌, ◌++◌, map, length, Option, Some, Ok}
 use Rattle.agent_laws.specs.Along.Requests.{main_ask}
 use Rattle.sbp_world.specs.Agents.AskedRuns.{AreAskedAt, HasAsked, serial_of}
-use Rattle.sbp_world.proofs.Agents.Management.Firsts.{wire_is}
 use Rattle.sbp_world.proofs.Agents.Management.Still.{hist}
 use Rattle.command_agent.specs.declared.phase.Phase.TheVariants as phases
 use Rattle.command_agent.specs.declared.step.Which.{Which}
@@ -13,7 +12,6 @@ use Rattle.command_agent.specs.Tasks.{writes_status}
 use Rattle.sbp_world.specs.Hosts.Runs.{more_deliveries}
 use Rattle.orb_layout.specs.declared.ask.Ask.{Ask}
 use Rattle.orb_layout.specs.declared.ask.Ask.TheVariants.{Read}
-use Rattle.orb_layout.specs.declared.command.CommandOrb.{CommandOrb}
 use Rattle.orb_layout.specs.declared.pointer.OrbPointer.TheVariants.{At}
 use Rattle.orb_layout.specs.CommandOrbs.{command_orb}
 use Rattle.orb_layout.specs.Replies.{payload_of}
@@ -21,13 +19,13 @@ use Rattle.rbc_disk.specs.Disk.{Disk}
 use Rattle.rbc_disk.specs.Runs.{Told}
 use Rattle.sbp_journal.specs.Run.{Moment, asked, said}
 use Rattle.sbp_journal.specs.Transactions.{Sending}
-use Rattle.sbp_journal.specs.Wire.{Terms, terms}
+use Rattle.sbp_journal.specs.Wire.{terms}
 use Rattle.sbp_journal.specs.declared.event.Event.{Event}
 use Rattle.sbp_journal.specs.declared.note.Note.{Note}
 use Rattle.sbp_journal.specs.declared.note.Note.TheVariants as notes
 use Rattle.sbp_laws.specs.Agents.{fifo_in, initiator_at}
 use Rattle.sbp_laws.specs.Packets.{answer_in, answered_at, packet_at, receiver_in}
-use Rattle.sbp_laws.specs.Targets.{Target, agent_at, is_serial, known_at, login_at, over, target_at}
+use Rattle.sbp_laws.specs.Targets.{Target, agent_at, is_serial, login_at, over, target_at}
 use Rattle.sbp_laws.specs.Turns.{EachMoment}
 use Rattle.sbp_world.specs.Histories.{history_of}
 use Rattle.sbp_world.specs.Making.{ready_logins}
@@ -39,20 +37,20 @@ use Rattle.sbp_world.specs.Lists.Along.{AreAlong}
 use Rattle.sbp_world.specs.Lists.Closes.{OpenListsLaw}
 use Rattle.sbp_world.specs.Lists.Needs.{IsCalm, OpenBefore, OpenLists}
 use Rattle.sbp_world.specs.Lists.Opens.{OpensLaw}
-use Rattle.sbp_world.specs.Lists.OrbNames.{AreLed, IsJustBrought, IsLedTo, IsNamedBrought, LedAsGot}
-use Rattle.sbp_world.specs.Lists.OrbReads.{AskedAsGot}
-use Rattle.sbp_world.specs.Lists.OwnLogins.{IsTame}
+use Rattle.sbp_world.specs.Lists.OrbNames.{AreLed, IsJustBrought, IsLedTo, LedAsGot}
+use Rattle.sbp_world.specs.Lists.FewLogins.{IsTameOrFew}
+use Rattle.sbp_world.proofs.Lists.Calm.{asked_calm}
 use Rattle.sbp_world.proofs.Lists.Courses.{EveryPlace, Keeps, at_between, at_lines, more_than_one}
 use Rattle.sbp_world.proofs.Lists.Gots.{Next, next, next_line, same_still}
 use Rattle.sbp_world.proofs.Lists.Judging.{goes_next}
 use Rattle.sbp_world.proofs.Lists.LedReads.{are_led}
-use Rattle.sbp_world.proofs.Lists.LiveRuns.{goes_tame}
+use Rattle.sbp_world.proofs.Lists.LiveRuns.{goes_tame_or_few}
 use Rattle.sbp_world.proofs.Lists.ManageSends.{opened_terms}
 use Rattle.sbp_world.proofs.Lists.OpenProved.{opens_law}
-use Rattle.sbp_world.proofs.Lists.OrbFolds.{AreReading, Brings, over_reads}
-use Rattle.sbp_world.proofs.Lists.OrbNotes.{GotBrings, IfGot, note_reads}
-use Rattle.sbp_world.proofs.Lists.OrbReading.{are_more, nothing_read, under_way}
-use Rattle.sbp_world.proofs.Lists.OrbWaits.{asked_everywhere, over_twice}
+use Rattle.sbp_world.proofs.Lists.OrbFolds.{Brings}
+use Rattle.sbp_world.proofs.Lists.OrbNotes.{GotBrings}
+use Rattle.sbp_world.proofs.Lists.OrbReading.{under_way}
+use Rattle.sbp_world.proofs.Lists.OrbWaits.{over_twice}
 use Rattle.sbp_world.proofs.Lists.Quiet.{AllQuiet, IsQuiet}
 use Rattle.sbp_world.proofs.Lists.RunLaws.{along_law}
 use Rattle.sbp_world.proofs.Lists.RunSites.{site_after, site_between}
@@ -60,7 +58,7 @@ use Rattle.sbp_world.proofs.Lists.Runs.{KeptAfter, holds_at, kept_after}
 
 -- ---- at each place of a run
 abbrev pub Led : List Disk → List Moment → WorldState → Type 0
-Led start past w = IsTame past → AreLed start past
+Led start past w = IsTameOrFew past → AreLed start past
 
 nobody : (A : Type 0) → true ≡ false → A
 nobody A e = absurd (let no : true ≡ false = e in cc)
@@ -81,13 +79,13 @@ module _ (line : ℕ) (run : Run) (r : IsRun run) (has : 0 < run.units) (small :
   abbrev logins : ℕ
   logins = ready_logins run.initiators run.ready
 
-  led_after : OpenLists (history_of line run) last.world → AreAlong (history_of line run) last.world → IsTame (history_of line run) → AreLed run.start.disks (history_of line run)
-  led_after open_lists along tame =
+  led_after : OpenLists (history_of line run) last.world → AreAlong (history_of line run) last.world → AreLed run.start.disks (history_of line run)
+  led_after open_lists along =
       let k = kept in
       let back = sym k.is in
       subst (AreLed run.start.disks) k.is
       (are_led run.units logins has run.start.disks last.world k.holds (site_after line run r has small size k.past (length run.entries) k.holds back)
-      (subst (λ ms. OpenLists ms last.world) back open_lists) (subst (λ ms. AreAlong ms last.world) back along) (subst IsTame back tame))
+      (subst (λ ms. OpenLists ms last.world) back open_lists) (subst (λ ms. AreAlong ms last.world) back along))
 
   module _ (next : ℕ) (most : Option ℕ) (told : List (Option Told)) (m : MayAll told (begun last)) where
     abbrev end : WorldState
@@ -96,8 +94,8 @@ module _ (line : ℕ) (run : Run) (r : IsRun run) (has : 0 < run.units) (small :
     abbrev ms : List Moment
     ms = map said end.fresh ++ asked next (more_deliveries most) ∷ history_of line run
 
-    led_between : OpenLists ms end → AreAlong ms end → IsTame ms → AreLed run.start.disks ms
-    led_between open_lists along tame =
+    led_between : OpenLists ms end → AreAlong ms end → AreLed run.start.disks ms
+    led_between open_lists along =
         let k = kept in
         let d = more_than_one most in
         let holds = holds_at wilds opened line run r.few has small size run.entries r.short r.entries r.lines k.past (length run.entries) k.holds k.is next (more_deliveries most) d told m in
@@ -105,15 +103,15 @@ module _ (line : ℕ) (run : Run) (r : IsRun run) (has : 0 < run.units) (small :
         let back = sym is in
         subst (AreLed run.start.disks) is
         (are_led run.units logins has run.start.disks end holds (site_between line run r has small size next (more_deliveries most) d told m (asked next (more_deliveries most) ∷ hist k.past last.world) (length run.entries + 1) holds back)
-        (subst (λ x. OpenLists x end) back open_lists) (subst (λ x. AreAlong x end) back along) (subst IsTame back tame))
+        (subst (λ x. OpenLists x end) back open_lists) (subst (λ x. AreAlong x end) back along))
 
 pub led_everywhere : OpenListsLaw → EveryPlace Led
 led_everywhere lists = record {
-  after_lines = λ line run r has small size so_far tame.
-      led_after line run r has small size (lists.after_lines line run r has small size (inl tame)) (along_law.after_lines line run r has small size so_far) tame;
-  between = λ line run r has small size next most told m so_far tame.
-      led_between line run r has small size next most told m (lists.between line run r has small size next (more_deliveries most) (more_than_one most) told m (inl tame))
-      (along_law.between line run r has small size next (more_deliveries most) (more_than_one most) told m so_far) tame;
+  after_lines = λ line run r has small size so_far beside.
+      led_after line run r has small size (lists.after_lines line run r has small size beside) (along_law.after_lines line run r has small size so_far);
+  between = λ line run r has small size next most told m so_far beside.
+      led_between line run r has small size next most told m (lists.between line run r has small size next (more_deliveries most) (more_than_one most) told m beside)
+      (along_law.between line run r has small size next (more_deliveries most) (more_than_one most) told m so_far);
 }
 
 -- ---- as a packet is got
@@ -122,12 +120,12 @@ led_asked start line event past a =
     let e : (terms (asked line event ∷ past)).sent ≡ (terms past).sent = (opened_terms event (terms past)).sent in
     let to_is = λ (serial i : ℕ) (to : receiver_in ((terms (asked line event ∷ past)).sent serial) ≡ Some (suc i)). ap (λ (f : ℕ → Option Sending). receiver_in (f serial)) (sym e) ∙ to in
     record {
-      main = λ place b serial i to.
+      main = λ place b serial i to calm.
           subst (λ (t : Target). (agent_at t place).main ≡ Some serial → (agent_at t place).machine.phase ≡ phases.Fetching → IsLedTo (asked line event ∷ past) i (agent_at t place).machine.present) (sym (over_twice (target_at start past)))
-          (λ f p. as_asked i _ (a.main place b serial i (to_is serial i to) f p));
-      ahead = λ place b serial i offset to.
+          (λ f p. as_asked i _ (a.main place b serial i (to_is serial i to) (asked_calm line event past i calm) f p));
+      ahead = λ place b serial i offset to calm.
           subst (λ (t : Target). (agent_at t place).ahead ≡ Some serial → is_ahead (agent_at t place).machine.ahead ≡ true → (agent_at t place).machine.orb.next ≡ At offset → IsLedTo (asked line event ∷ past) i (aligned offset)) (sym (over_twice (target_at start past)))
-          (λ f g n. as_asked i _ (a.ahead place b serial i offset (to_is serial i to) f g n));
+          (λ f g n. as_asked i _ (a.ahead place b serial i offset (to_is serial i to) (asked_calm line event past i calm) f g n));
     }
   where
     as_asked : (i address : ℕ) → IsLedTo past i address → IsLedTo (asked line event ∷ past) i address
@@ -158,28 +156,25 @@ module _ (start : List Disk) where
       (led_more front (said note ∷ asked line event ∷ before) q (led_note note (asked line event ∷ before) (led_asked start line event before a), (tt, g)))
 
 abbrev pub LedSo : List Disk → List Moment → WorldState → Type 0
-LedSo start past w = IsTame past → EachMoment (LedAsGot start) past
+LedSo start past w = IsTameOrFew past → EachMoment (LedAsGot start) past
 
 all_led : (units ready : ℕ) (start : List Disk) → Keeps units ready start (Led start) (LedSo start)
-all_led units ready start past s later t lines more g h h_now a a_now e tame =
-    let before = goes_tame past s later t g tame in
+all_led units ready start past s later t lines more g h h_now a a_now e beside =
+    let before = goes_tame_or_few past s later t g beside in
     led_turn start (hist past s.world) (hist later t.world) (goes_next past s later t g) (a before) (e before)
 
 pub led_as_got : OpenListsLaw → EveryPlace LedSo
 led_as_got lists = record {
   after_lines = λ line run r has small size so_far.
-      at_lines Led (LedSo run.start.disks) (led_everywhere lists) line run r.few has small size (all_led run.units (ready_logins run.initiators run.ready) run.start.disks) (λ tame. (tt, (tt, tt))) r so_far;
+      at_lines Led (LedSo run.start.disks) (led_everywhere lists) line run r.few has small size (all_led run.units (ready_logins run.initiators run.ready) run.start.disks) (λ beside. (tt, (tt, tt))) r so_far;
   between = λ line run r has small size next most told m so_far.
-      at_between Led (LedSo run.start.disks) (led_everywhere lists) line run r.few has small size (all_led run.units (ready_logins run.initiators run.ready) run.start.disks) (λ tame. (tt, (tt, tt))) r next most told m so_far;
+      at_between Led (LedSo run.start.disks) (led_everywhere lists) line run r.few has small size (all_led run.units (ready_logins run.initiators run.ready) run.start.disks) (λ beside. (tt, (tt, tt))) r next most told m so_far;
 }
 
--- ---- so each agent has an ORB that was brought of a slot that had an ORB then
+-- ---- so a response brings the ORB that the slot had then
 module _ (start : List Disk) (past : List Moment) (serial : ℕ) (waits : AreAskedAt start past) (led : AreLed start past) (by_target : is_serial (receiver_in ((terms past).sent serial)) 0 ≡ true) where
   abbrev t : Target
   t = over (target_at start past)
-
-  abbrev now : List Moment
-  now = said (notes.Got serial) ∷ past
 
   module _ (own : ℕ) (closed : answered_at (terms past) serial ≡ Some own) (place : ℕ) (which : Which) (few : place < 8) (waited : serial_of which (agent_at t place) ≡ Some own) where
     abbrev m : Machine
@@ -194,9 +189,9 @@ module _ (start : List Disk) (past : List Moment) (serial : ℕ) (waits : AreAsk
     to_own : {ask : Ask} {is_status : Bool} → Asks ask is_status → receiver_in ((terms past).sent own) ≡ Some (suc i)
     to_own asks = asks.to ∙ (let e : i + 1 ≡ suc i = omega arith in ap (λ j. Some j) e)
 
-    made : (address : ℕ) (bytes : List ℕ) → payload_of (answer_in (packet_at (terms past) serial)) 32 ≡ Ok bytes → Asks (Read address 32) false → (receiver_in ((terms past).sent own) ≡ Some (suc i) → IsLedTo past i address) → IsJustBrought start past serial place address (command_orb bytes)
+    made : (address : ℕ) (bytes : List ℕ) → payload_of (answer_in (packet_at (terms past) serial)) 32 ≡ Ok bytes → Asks (Read address 32) false → (receiver_in ((terms past).sent own) ≡ Some (suc i) → IsCalm past i → IsLedTo past i address) → IsJustBrought start past serial place address (command_orb bytes)
     made address bytes e asks l = record {
-      named = record {
+      from = record {
         brought = record {
           response = serial;
           request = own;
@@ -235,64 +230,9 @@ module _ (start : List Disk) (past : List Moment) (serial : ℕ) (waits : AreAsk
 
     pub just : Brings (IsJustBrought start past serial) m (record { place = place; which = which; answer = answer_in (packet_at (terms past) serial) })
     just = record {
-      main = λ w p bytes e. made m.present bytes e (main_asks w p) (λ to. led.main place few own i to (main_is w) p);
-      ahead = λ w a offset n bytes e. made (aligned offset) bytes e (ahead_asks w a offset n) (λ to. led.ahead place few own i offset to (ahead_is w) a n);
+      main = λ w p bytes e. made m.present bytes e (main_asks w p) (λ to calm. led.main place few own i to calm (main_is w) p);
+      ahead = λ w a offset n bytes e. made (aligned offset) bytes e (ahead_asks w a offset n) (λ to calm. led.ahead place few own i offset to calm (ahead_is w) a n);
     }
 
   pub got_just : GotBrings (IsJustBrought start past serial) (terms past) serial t
   got_just own closed place which purpose = let x = waits.handed own place which purpose in just own closed place which x.0 x.1
-
-  got_brings : GotBrings (IsNamedBrought start now) (terms past) serial t
-  got_brings own closed place which purpose =
-      let b = got_just own closed place which purpose in
-      record { main = λ w p bytes e. (b.main w p bytes e).named; ahead = λ w a offset n bytes e. (b.ahead w a offset n bytes e).named }
-
-if_got : (start : List Disk) (note : Note) (past : List Moment) → AskedAsGot start (said note) past → LedAsGot start (said note) past → IfGot (IsNamedBrought start (said note ∷ past)) note (terms past) (target_at start past)
-if_got start (notes.Got serial) past waits led = λ e. got_brings start past serial waits led e
-if_got start note past waits led = tt
-
-pub named_more : (start : List Disk) (m : Moment) (past : List Moment) (place address : ℕ) (orb : CommandOrb) → IsNamedBrought start past place address orb → IsNamedBrought start (m ∷ past) place address orb
-named_more start m past place address orb x =
-    let b = x.brought in
-    record {
-      brought = record {
-        response = b.response;
-        request = b.request;
-        later = m ∷ b.later;
-        earlier = b.earlier;
-        is = ap (λ ms. m ∷ ms) b.is;
-        by_target = b.by_target;
-        closed = b.closed;
-        bytes = b.bytes;
-        brings = b.brings;
-        spells = b.spells;
-        which = b.which;
-        waited = b.waited;
-        asked = b.asked;
-      };
-      i = x.i;
-      to = x.to;
-      led = x.led;
-    }
-
-pub named_reading : (start : List Disk) (past : List Moment) → EachMoment (AskedAsGot start) past → EachMoment (LedAsGot start) past → AreReading (IsNamedBrought start past) (target_at start past)
-named_reading start [] h l = nothing_read start (IsNamedBrought start [])
-named_reading start (asked line event ∷ past) h l =
-    (over_reads (IsNamedBrought start (asked line event ∷ past)) (target_at start past)
-    (are_more (IsNamedBrought start past) (IsNamedBrought start (asked line event ∷ past)) (named_more start (asked line event) past) (target_at start past) (named_reading start past h.1 l.1))).reading
-named_reading start (said note ∷ past) h l =
-    note_reads (IsNamedBrought start (said note ∷ past)) note past (known_at start past).wire (target_at start past)
-    (are_more (IsNamedBrought start past) (IsNamedBrought start (said note ∷ past)) (named_more start (said note) past) (target_at start past) (named_reading start past h.1 l.1))
-    (subst (λ (wire : Terms). IfGot (IsNamedBrought start (said note ∷ past)) note wire (target_at start past)) (sym (wire_is start past)) (if_got start note past h.0 l.0))
-
--- at each place of a run
-abbrev pub NamedSo : List Disk → List Moment → WorldState → Type 0
-NamedSo start past w = IsTame past → AreReading (IsNamedBrought start past) (target_at start past)
-
-pub named_everywhere : OpenListsLaw → EveryPlace NamedSo
-named_everywhere lists = record {
-  after_lines = λ line run r has small size so_far tame.
-      named_reading run.start.disks _ (asked_everywhere.after_lines line run r has small size so_far) ((led_as_got lists).after_lines line run r has small size so_far tame);
-  between = λ line run r has small size next most told m so_far tame.
-      named_reading run.start.disks _ (asked_everywhere.between line run r has small size next most told m so_far) ((led_as_got lists).between line run r has small size next most told m so_far tame);
-}

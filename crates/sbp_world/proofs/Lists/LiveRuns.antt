@@ -29,7 +29,7 @@ use Rattle.sbp_world.proofs.Sessions.Caught.{Met}
 use Rattle.sbp_world.proofs.Sessions.Runs.{caught_between_law, caught_law, met_after, met_between}
 use Rattle.sbp_world.proofs.Sessions.Turns.{wire_generation}
 use Rattle.sbp_world.specs.Lists.Needs.{IsCalm, OpenBefore, OpenBetween}
-use Rattle.sbp_world.proofs.Lists.Beside.{AreDone, all_done, beside_before, own_done}
+use Rattle.sbp_world.proofs.Lists.Beside.{AreDone, all_done, beside_before, own_done, tame_or_few_before}
 use Rattle.sbp_world.proofs.Lists.Judging.{goes_next, grown}
 use Rattle.sbp_world.proofs.Lists.Calm.{asked_calm, calm_before}
 use Rattle.sbp_world.proofs.Lists.Courses.{EveryPlace, Goes, Keeps, at_between, at_lines, by_delivery, by_end, by_line, by_start, more_than_one}
@@ -38,7 +38,7 @@ use Rattle.sbp_world.proofs.Lists.LiveBegins.{first_grown, first_lives}
 use Rattle.sbp_world.proofs.Lists.LiveKept.{turn_kept}
 use Rattle.sbp_world.proofs.Lists.LiveLines.{end_turn, line_turn, next_turn}
 use Rattle.sbp_world.specs.Lists.OwnLogins.{IsTame}
-use Rattle.sbp_world.specs.Lists.FewLogins.{IsCalmBeside}
+use Rattle.sbp_world.specs.Lists.FewLogins.{IsCalmBeside, IsTameOrFew}
 use Rattle.sbp_world.proofs.Lists.LiveSteps.{Alive, Grown, Helps, Knows, Lives, id_in, own_of, zero_of}
 use Rattle.sbp_world.proofs.Lists.LiveTold.{none_told}
 use Rattle.sbp_world.proofs.Lists.LiveTurns.{OwnCall, TargetCall, TurnOf, Turned, acts, by_clearing, by_own, by_sight, by_target, delivers, hears, lapses, quiet_turn, rests, still}
@@ -159,6 +159,11 @@ pub goes_beside : (past : List Moment) (s : Scene) (later : List Moment) (t : Sc
 goes_beside past s later t g i beside =
     let x = grown (hist past s.world) (hist later t.world) (goes_next past s later t g) in
     beside_before x.new (hist past s.world) i (subst (λ ms. IsCalmBeside ms i) (sym x.is) beside)
+
+pub goes_tame_or_few : (past : List Moment) (s : Scene) (later : List Moment) (t : Scene) → Goes past s later t → IsTameOrFew (hist later t.world) → IsTameOrFew (hist past s.world)
+goes_tame_or_few past s later t g beside =
+    let x = grown (hist past s.world) (hist later t.world) (goes_next past s later t g) in
+    tame_or_few_before x.new (hist past s.world) (subst IsTameOrFew (sym x.is) beside)
 
 -- what is known of the logins that were done
 pub done_of : (start : List Disk) (past : List Moment) (w : WorldState) → ((j : ℕ) → j < length w.initiators → Alive start past w j) → (i : ℕ) → i < length w.initiators → IsCalmBeside past i → AreDone start (length w.initiators) past i

@@ -1,4 +1,4 @@
--- At a place of a run the agent of the target has the ORB that was prepared last in its slot; and so has it what a packet brings to it that it gets.
+-- At a place of a run the agent of the target has the ORB that was prepared last in its slot, of an initiator that injected no packets; and so has it what a packet brings to it that it gets.
 use Rattle.std.proofs.Common.{◌≡◌, ◌∙◌, refl, sym, ap, subst, ◌<◌, ◌++◌, ℕ, suc, Bool, true, List, [], ◌∷◌, length, Some}
 use Rattle.async_packet.specs.Labels.{LabelParts}
 use Rattle.async_packet.specs.Packet.{Packet, header_in}
@@ -45,7 +45,7 @@ use Rattle.sbp_world.proofs.Lists.Sites.{Site, waiting}
 use Rattle.sbp_world.proofs.Lists.StillReads.{AreStill, IsHad, named_over}
 
 pub record HasNames (start : List Disk) (past : List Moment) (w : WorldState) : Type 0 where
-  pub agents : (place : ℕ) → place < 8 → is_open_at w place ≡ true → Reads (λ address orb. IsStillBrought start (hist past w) w place address orb) (machine_at w place)
+  pub agents : (place : ℕ) → place < 8 → is_open_at w place ≡ true → IsCalm (hist past w) (initiator_in w place) → Reads (λ address orb. IsStillBrought start (hist past w) w place address orb) (machine_at w place)
   pub brings : (serial : ℕ) (sent : Sent) → found_sent serial w.store.kept ≡ Some sent → sent.to ≡ 0 → (packet : Packet) (label : LabelParts) (place : ℕ) (which : Which) → (judging_step w.target.layer sent.generation sent.bytes).0 ≡ of_response packet label (Some (purposes.Agent place)) → which_in (desk_at w.target place) (header_in packet).source label ≡ Some which → place < 8 → IsCalm (hist past w) (initiator_in w place) → Brings (λ p address orb. IsHad start (said (notes.Got serial) ∷ hist past w) (hist past w) w p address orb) (machine_at w place) (record { place = place; which = which; answer = answer_in packet })
   pub rows : (i : ℕ) → i < length w.initiators → AreRows (hist past w) i (initiator_at w i).lists.slots
   pub fed : HasFed start (hist past w) w
@@ -60,16 +60,18 @@ module _ (units ready : ℕ) (has : 0 < units) (start : List Disk) {past : List 
   same_node : (i j : ℕ) → Some (suc i) ≡ Some (suc j) → i ≡ j
   same_node i j e = cc
 
-  just_had : (serial p : ℕ) → p < 8 → (address : ℕ) (orb : CommandOrb) → IsJustBrought start ms serial p address orb → IsHad start (said (notes.Got serial) ∷ ms) ms w p address orb
-  just_had serial p b address orb x =
-      let y = x.named in
+  just_had : (serial p : ℕ) → p < 8 → IsCalm ms (initiator_in w p) → (address : ℕ) (orb : CommandOrb) → IsJustBrought start ms serial p address orb → IsHad start (said (notes.Got serial) ∷ ms) ms w p address orb
+  just_had serial p b calm address orb x =
+      let y = x.from in
       let e = x.now in
       let asked = waiting units ready has start w h s p b y.brought.which y.brought.request (subst (λ ps. serial_of y.brought.which (agent_at (over (target_at start ps)) p) ≡ Some y.brought.request) e y.brought.waited) in
       let to : receiver_in ((terms ms).sent y.brought.request) ≡ Some (suc y.i) = subst (λ ps. receiver_in ((terms ps).sent y.brought.request) ≡ Some (suc y.i)) e y.to in
+      let own : y.i ≡ initiator_in w p = same_node y.i (initiator_in w p) (sym to ∙ asked.to) in
+      let led = y.led (subst (λ ps. IsCalm ps y.i) (sym e) (subst (IsCalm ms) (sym own) calm)) in
       record {
-        named = y;
-        initiator = same_node y.i (initiator_in w p) (sym to ∙ asked.to);
-        there = subst (λ ps. prepared_in ps y.i y.led.slot ≡ Some (named_orb y.led.n y.led.k)) e y.led.there;
+        named = record { brought = y.brought; i = y.i; to = y.to; led = led };
+        initiator = own;
+        there = subst (λ ps. prepared_in ps y.i led.slot ≡ Some (named_orb led.n led.k)) e led.there;
       }
 
   pub has_names : HasNames start past w
@@ -85,7 +87,7 @@ module _ (units ready : ℕ) (has : 0 < units) (start : List Disk) {past : List 
         let brought = just start ms serial s.asked led to own closed place which b waited in
         alike_brings (R serial) a.untold a.machine (machine_at w place) (s.agents.are.each place b).machine (waits_asked units ready has start w h s serial sent found zero_to packet label place which e is_which b calm).is_open place which (laws.answer_in (laws.packet_at (terms ms) serial)) (answer_in packet)
         (tells units ready has start w h s.agents.requests s.agents.are s.agents.known s.asked serial sent found zero_to packet label place e from)
-        (record { main = λ q p bytes f. just_had serial place b _ _ (brought.main q p bytes f); ahead = λ q f offset n bytes g. just_had serial place b _ _ (brought.ahead q f offset n bytes g) });
+        (record { main = λ q p bytes f. just_had serial place b calm _ _ (brought.main q p bytes f); ahead = λ q f offset n bytes g. just_had serial place b calm _ _ (brought.ahead q f offset n bytes g) });
     rows = s.rows;
     fed = has_fed units ready has start w h s each led fed;
   }
@@ -135,8 +137,8 @@ module _ (start : List Disk) (line : ℕ) (event : Event) (r : Bool) (as_opened 
 
   pub line_names : (past : List Moment) (w : WorldState) → HasNames start past w → HasFed start (asked line event ∷ hist past w) (without_notes w) → HasNames start (asked line event ∷ hist past w) (without_notes w)
   line_names past w h fed = record {
-    agents = λ place b open_there.
-        reads_more (λ address orb. IsStillBrought start (hist past w) w place address orb) (λ address orb. IsStillBrought start (asked line event ∷ hist past w) (without_notes w) place address orb) (still_line (hist past w) w place) (machine_at w place) (h.agents place b open_there);
+    agents = λ place b open_there calm.
+        reads_more (λ address orb. IsStillBrought start (hist past w) w place address orb) (λ address orb. IsStillBrought start (asked line event ∷ hist past w) (without_notes w) place address orb) (still_line (hist past w) w place) (machine_at w place) (h.agents place b open_there (asked_calm line event (hist past w) (initiator_in w place) calm));
     brings = λ serial sent found zero_to packet label place which e is_which b calm.
         let x = h.brings serial sent found zero_to packet label place which e is_which b (asked_calm line event (hist past w) (initiator_in w place) calm) in
         record {

@@ -1,5 +1,5 @@
 -- An ORB that was brought of a slot that it had then was read as the laws have it, behind its append; and where its list was open as its read was sent, whole.
-use Rattle.std.proofs.Common.{arith, ◌≡◌, ◌∙◌, refl, sym, ap, subst, ◌<◌, ◌+◌, ℕ, suc, Bool, false, List, ◌∷◌, Some}
+use Rattle.std.proofs.Common.{arith, ◌≡◌, ◌∙◌, refl, sym, ap, subst, append_assoc, ◌<◌, ◌+◌, ℕ, suc, Bool, false, List, [], ◌∷◌, ◌++◌, Some}
 use Rattle.bus_transactions.specs.Packets.{SerialsCount}
 use Rattle.orb_layout.specs.declared.command.CommandOrb.{CommandOrb}
 use Rattle.rbc_disk.specs.Disk.{Disk}
@@ -14,6 +14,7 @@ use Rattle.sbp_journal.specs.declared.note.Note.TheVariants as notes
 use Rattle.sbp_laws.specs.OrderLaw.{OrderLaw}
 use Rattle.sbp_laws.specs.Terms.{appends, lists}
 use Rattle.sbp_world.specs.Lists.Needs.{IsCalm}
+use Rattle.sbp_world.proofs.Lists.Calm.{calm_before}
 use Rattle.sbp_world.proofs.Lists.BegunLists.{latest_then, order_from}
 use Rattle.sbp_world.specs.Lists.OrbNames.{IsNamedBrought}
 use Rattle.sbp_world.specs.Lists.OrbReads.{AnswersAt, IsBrought, SentAsGot}
@@ -65,6 +66,7 @@ module _ (start : List Disk) (past : List Moment) (place i n k : ℕ) (orb : Com
       let y = then place few b.which b.request i (record {
         waits = b.waited;
         to = x.to ∙ ap (λ j. Some (suc j)) name.initiator;
+        calm = calm_before (b.later ++ said (notes.Got b.response) ∷ []) b.earlier i (subst (λ ms. IsCalm ms i) (sym (append_assoc b.later (said (notes.Got b.response) ∷ []) b.earlier ∙ b.is)) calm);
         access = read_access (address_of past i n k) 32;
         is = b.asked.is ∙ ap (λ (a : Access). Some a) b.asked.asks;
         reads = refl;

@@ -1,4 +1,4 @@
--- As the target sent a read that an agent waits for, the latest list of its initiator was open: this agent alone of the initiator's was out of RESET, and the pointer that it took names the list. A turn keeps this.
+-- As the target sent a read that an agent waits for, to an initiator that injected no packets, the latest list of this initiator was open: this agent alone of the initiator's was out of RESET, and the pointer that it took names the list. A turn keeps this.
 use Rattle.std.proofs.Common.{inl, inr, ◌⊎◌, arith, ◌≡◌, ◌∙◌, refl, sym, ap, subst, ◌<◌, ◌≤◌, ◌+◌, not, ℕ, suc, nat_lt, Bool, true, false, List, [], ◌∷◌, ◌++◌, map, Option, Some, None}
 use Rattle.std.proofs.lemmas.Bool.Decides.{nat_tests}
 use Rattle.agent_laws.specs.Along.Along.{KnowsAhead, Progress}
@@ -34,9 +34,10 @@ use Rattle.sbp_world.proofs.Agents.Management.Still.{hist}
 use Rattle.sbp_world.proofs.Hosts.Remaining.{remains}
 use Rattle.sbp_world.proofs.Hosts.SentMoments.{sent_below}
 use Rattle.sbp_world.specs.Lists.Lists.{orbs}
-use Rattle.sbp_world.specs.Lists.Needs.{IsOpenAt, initiator_in, machine_at}
+use Rattle.sbp_world.specs.Lists.Needs.{IsCalm, IsOpenAt, initiator_in, machine_at}
 use Rattle.sbp_world.specs.Lists.OneUp.{AreApart}
-use Rattle.sbp_world.specs.Lists.OwnLogins.{IsTame}
+use Rattle.sbp_world.specs.Lists.FewLogins.{IsTameOrFew}
+use Rattle.sbp_world.proofs.Lists.LiveRuns.{goes_calm}
 use Rattle.sbp_world.proofs.Lists.Awaited.{Awaits, waits_as}
 use Rattle.sbp_world.proofs.Lists.Courses.{Goes}
 use Rattle.sbp_world.proofs.Lists.Judging.{goes_next, grown as grown_by}
@@ -60,10 +61,11 @@ pub record IsOpenThen (start : List Disk) (past : List Moment) (i : ℕ) : Type 
   pub opened : open_list start past i ≡ Some n
   pub latest : suc n ≡ lists past i
 
--- the agent of a place waits for a read
+-- the agent of a place waits for a read, which went to an initiator that injected no packets
 pub record ReadsOf (start : List Disk) (past : List Moment) (place : ℕ) (which : Which) (serial i : ℕ) : Type 0 where
   pub waits : serial_of which (agent_at (over (target_at start past)) place) ≡ Some serial
   pub to : receiver_in ((terms past).sent serial) ≡ Some (suc i)
+  pub calm : IsCalm past i
   pub access : Access
   pub is : access_at (terms past) serial ≡ Some access
   pub reads : access.is_write ≡ false
@@ -123,7 +125,7 @@ module _ (start : List Disk) where
       let t = target_at start (map said ns ++ past) in then_left (target_at start past) t (over t) (sends_leave start ns past q) (over_leaves t)
 
 -- ---- behind a turn
-module _ (units ready : ℕ) (has : 0 < units) (start : List Disk) (past : List Moment) (v : WorldState) {lines : ℕ} (h : Holding units ready start past lines v) (q : Ground start (hist past v) v) (tame : IsTame (hist past v)) (naming : AreNaming start (hist past v) v) (apart : AreApart (hist past v) v) (place : ℕ) (b : place < 8) (which : Which) (serial i : ℕ) (r : ReadsOf start (hist past v) place which serial i) (last : SentLast (hist past v) serial) where
+module _ (units ready : ℕ) (has : 0 < units) (start : List Disk) (past : List Moment) (v : WorldState) {lines : ℕ} (h : Holding units ready start past lines v) (q : Ground start (hist past v) v) (beside : IsTameOrFew (hist past v)) (naming : AreNaming start (hist past v) v) (apart : AreApart (hist past v) v) (place : ℕ) (b : place < 8) (which : Which) (serial i : ℕ) (r : ReadsOf start (hist past v) place which serial i) (last : SentLast (hist past v) serial) where
   abbrev now : List Moment
   now = hist past v
 
@@ -146,8 +148,11 @@ module _ (units ready : ℕ) (has : 0 < units) (start : List Disk) (past : List 
   i_is : i ≡ initiator_in v place
   i_is = same_number i (initiator_in v place) (sym r.to ∙ asked.to)
 
+  calm : IsCalm now (initiator_in v place)
+  calm = subst (IsCalm now) i_is r.calm
+
   abbrev o : IsOpenAt now v place
-  o = (q.lists tame).listed place b asked.is_open (tame (initiator_in v place))
+  o = (q.lists beside).listed place b asked.is_open calm
 
   same_access : (a c : Access) → Some a ≡ Some c → a ≡ c
   same_access a c e = cc
@@ -164,7 +169,7 @@ module _ (units ready : ℕ) (has : 0 < units) (start : List Disk) (past : List 
       by : (one : Which) → IsAccessFor (under_as one (machine_at v place)) asked.status fifo asked.access → is_alive (machine_at v place).phase ≡ true
       by Main a = main_alive asked.status fifo asked.access reads (machine_at v place).phase (machine_at v place) asked.is_open a
       by Ahead a =
-          let goes = q.along.all place b asked.is_open (tame (initiator_in v place)) o.n o.list in
+          let goes = q.along.all place b asked.is_open calm o.n o.list in
           ahead_alive asked.status fifo asked.access reads (machine_at v place).phase (machine_at v place) (orbs now (initiator_in v place) o.n) goes.progress asked.is_open goes.along.ahead a
 
   leaves : Leaves t T
@@ -180,7 +185,7 @@ module _ (units ready : ℕ) (has : 0 < units) (start : List Disk) (past : List 
   held = hold place (ap is_alive (phase_same place b) ∙ alive)
 
   abbrev name : NamesList now (initiator_in v place) o.n (agent_at T place).pointer
-  name = naming place b alive o.n o.list
+  name = naming place b alive calm o.n o.list
 
   list_is : list_in (pointed_in then i (agent_at t place).pointer) ≡ Some o.n
   list_is =
@@ -217,7 +222,7 @@ module _ (units ready : ℕ) (has : 0 < units) (start : List Disk) (past : List 
           let c : j < 8 = grind (arith, nat_tests) in
           let there = up_at j c u in
           let of_it : initiator_in v j ≡ i = sym (owner j c there) ∙ (ap (term_initiator t (terms then)) (sym same) ∙ e) in
-          apart i place j (tame i) b c (record { up = up_at place b up_here; own = sym i_is }) (record { up = there; own = of_it })
+          apart i place j r.calm b c (record { up = up_at place b up_here; own = sym i_is }) (record { up = there; own = of_it })
       by false f =
           let far : 8 ≤ j = grind (arith, nat_tests) in
           beyond_down T.agents j (j ≡ place) (let z = site.agents.are.size in omega (arith, z, far)) (leaves.up j u)
@@ -232,7 +237,7 @@ module _ (units ready : ℕ) (has : 0 < units) (start : List Disk) (past : List 
   }
 
 -- ---- a turn
-module _ (units ready : ℕ) (has : 0 < units) (start : List Disk) (past : List Moment) (s : Scene) (later : List Moment) (t : Scene) (g : Goes past s later t) {lines more : ℕ} (h : Holding units ready start past lines s.world) (h_now : Holding units ready start later more t.world) (q : Ground start (hist past s.world) s.world) (q_now : Ground start (hist later t.world) t.world) (tame_now : IsTame (hist later t.world)) (naming : AreNaming start (hist later t.world) t.world) (apart : AreApart (hist later t.world) t.world) (so_far : AreOpenReads start (hist past s.world)) where
+module _ (units ready : ℕ) (has : 0 < units) (start : List Disk) (past : List Moment) (s : Scene) (later : List Moment) (t : Scene) (g : Goes past s later t) {lines more : ℕ} (h : Holding units ready start past lines s.world) (h_now : Holding units ready start later more t.world) (q : Ground start (hist past s.world) s.world) (q_now : Ground start (hist later t.world) t.world) (beside_now : IsTameOrFew (hist later t.world)) (naming : AreNaming start (hist later t.world) t.world) (apart : AreApart (hist later t.world) t.world) (so_far : AreOpenReads start (hist past s.world)) where
   abbrev before : List Moment
   before = hist past s.world
 
@@ -259,12 +264,12 @@ module _ (units ready : ℕ) (has : 0 < units) (start : List Disk) (past : List 
         let sent : (terms now_then).sent serial ≡ (terms before).sent serial = ap (λ ms. (terms ms).sent serial) (sym grown.is) ∙ remain.sent serial below in
         let front : before_sent now_then serial ≡ before_sent before serial = ap (λ ms. before_sent ms serial) (sym grown.is) ∙ remain.before_it serial below in
         subst (λ ms. IsOpenThen start ms i) (sym front)
-        (so_far place b one serial i (record { waits = e; to = ap receiver_in (sym sent) ∙ r.to; access = r.access; is = ap (λ so. access_in (packet_in so)) (sym sent) ∙ r.is; reads = r.reads }))
+        (so_far place b one serial i (record { waits = e; to = ap receiver_in (sym sent) ∙ r.to; calm = goes_calm past s later t g i r.calm; access = r.access; is = ap (λ so. access_in (packet_in so)) (sym sent) ∙ r.is; reads = r.reads }))
 
     since : Awaits (agent_at (over (target_at start before)) place) serial ⊎ SentLast now_then serial → IsOpenThen start (before_sent now_then serial) i
     since (inl (inl e)) = old Main e
     since (inl (inr e)) = old Ahead e
-    since (inr last) = opened_last units ready has start later t.world h_now q_now tame_now naming apart place b which serial i r last
+    since (inr last) = opened_last units ready has start later t.world h_now q_now beside_now naming apart place b which serial i r last
 
     reads_open : IsOpenThen start (before_sent now_then serial) i
     reads_open =

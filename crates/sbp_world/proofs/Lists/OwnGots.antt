@@ -48,7 +48,7 @@ module _ (units ready : ℕ) (has : 0 < units) (start : List Disk) {past : List 
       let x = waiting units ready has start w h site place b side mine waits in
       let same : initiator_in w place ≡ i = same_initiator (initiator_in w place) i (sym x.to ∙ to) in
       subst (λ j. IsOwnOrOther start (hist past w) j place slot serial) same
-      (are_own_gots units ready has start w h site (q.lists tame) q.along tame place b x.is_open serial r other slot which closed purpose)
+      (are_own_gots units ready has start w h site (q.lists (inl tame)) q.along tame place b x.is_open serial r other slot which closed purpose)
 
 -- ---- as a line begins
 pub held_same : (event : Event) (t : Terms) → (opened event t).held ≡ t.held

@@ -42,9 +42,9 @@ module _ (units ready : ℕ) (has : 0 < units) (start : List Disk) {past : List 
   reads_here place b side mine i waits to =
       let site = site_at start past w q in
       let x = waiting units ready has start w h site place b side mine waits in
-      let o = (q.lists tame).listed place b x.is_open (tame (initiator_in w place)) in
+      let o = (q.lists (inl tame)).listed place b x.is_open (tame (initiator_in w place)) in
       subst (λ j. ReadsItsOwn start (hist past w) place j) (same_initiator (initiator_in w place) i (sym x.to ∙ to))
-      (record { n = o.n; latest = o.still.latest; each = are_own_reads units ready has start w h site (q.lists tame) q.along tame place b x.is_open o.n o.list })
+      (record { n = o.n; latest = o.still.latest; each = are_own_reads units ready has start w h site (q.lists (inl tame)) q.along tame place b x.is_open o.n o.list })
 
 -- ---- as a line begins
 reads_asked : (start : List Disk) (line : ℕ) (event : Event) (past : List Moment) → AreReadsOwn start past → AreReadsOwn start (asked line event ∷ past)

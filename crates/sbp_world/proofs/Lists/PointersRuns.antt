@@ -1,5 +1,5 @@
--- At each place of a run in which no initiator injected packets the pointer that an agent with a list took last names this list, while the agent is not about to be dead: the address is that of its first ORB as it
--- takes it, and then the list is its initiator's latest one.
+-- At each place of a run in which no initiator injected packets, or few logins were given, the pointer that an agent with a list of an initiator that injected none took last names this list, while the agent is
+-- not about to be dead: the address is that of its first ORB as it takes it, and then the list is its initiator's latest one.
 use Rattle.std.proofs.Common.{inl, inr, ◌⊎◌, arith, ◌≡◌, ◌∙◌, refl, sym, ap, subst, ◌<◌, ◌≤◌, ℕ, suc, true, List, ◌++◌, length, Option, Some}
 use Rattle.agent_laws.specs.Along.Along.{Begins as Reading, Knows}
 use Rattle.bus_memory.specs.Windows.{slot_of}
@@ -25,11 +25,11 @@ use Rattle.sbp_world.proofs.Agents.Management.Still.{hist}
 use Rattle.sbp_world.specs.Lists.Along.{GoesAlong}
 use Rattle.sbp_world.specs.Lists.Closes.{OpenListsLaw}
 use Rattle.sbp_world.specs.Lists.Lists.{orbs}
-use Rattle.sbp_world.specs.Lists.Needs.{IsOpenAt, initiator_in, is_open_at, machine_at}
-use Rattle.sbp_world.specs.Lists.OwnLogins.{IsTame}
+use Rattle.sbp_world.specs.Lists.Needs.{IsCalm, IsOpenAt, initiator_in, is_open_at, machine_at}
+use Rattle.sbp_world.specs.Lists.FewLogins.{IsTameOrFew}
 use Rattle.sbp_world.proofs.Lists.Courses.{EveryPlace, Goes, Keeps, at_between, at_lines}
 use Rattle.sbp_world.proofs.Lists.Judging.{goes_next, grown as grown_by}
-use Rattle.sbp_world.proofs.Lists.LiveRuns.{goes_size, goes_tame}
+use Rattle.sbp_world.proofs.Lists.LiveRuns.{goes_calm, goes_size, goes_tame_or_few}
 use Rattle.sbp_world.proofs.Lists.ManageTerms.{untrue}
 use Rattle.sbp_world.proofs.Lists.OpenTurns.{listing_up}
 use Rattle.sbp_world.proofs.Lists.PlaceOwners.{turn_owns}
@@ -49,7 +49,7 @@ pub record NamesList (past : List Moment) (i n : ℕ) (pointer : Option ℕ) : T
 
 -- at a place
 abbrev pub AreNaming : List Disk → List Moment → WorldState → Type 0
-AreNaming start past w = (place : ℕ) → place < 8 → is_alive (machine_at w place).phase ≡ true → (n : ℕ) → (holder w place).list ≡ Some n → NamesList past (initiator_in w place) n (agent_at (over (target_at start past)) place).pointer
+AreNaming start past w = (place : ℕ) → place < 8 → is_alive (machine_at w place).phase ≡ true → IsCalm past (initiator_in w place) → (n : ℕ) → (holder w place).list ≡ Some n → NamesList past (initiator_in w place) n (agent_at (over (target_at start past)) place).pointer
 
 pub alive_list : (phase : Phase) → is_alive phase ≡ true → has_list phase ≡ true
 alive_list phases.Reset e = untrue e
@@ -68,7 +68,7 @@ same_list a b e = cc
 
 module _ (units ready : ℕ) (has : 0 < units) (start : List Disk) where
   -- ---- a place at which an agent reads its present ORB
-  module _ (past : List Moment) (w : WorldState) {lines : ℕ} (h : Holding units ready start past lines w) (q : Ground start (hist past w) w) (tame : IsTame (hist past w)) (p : ℕ) (b : p < 8) (open_there : is_open_at w p ≡ true) where
+  module _ (past : List Moment) (w : WorldState) {lines : ℕ} (h : Holding units ready start past lines w) (q : Ground start (hist past w) w) (beside : IsTameOrFew (hist past w)) (p : ℕ) (b : p < 8) (open_there : is_open_at w p ≡ true) (calm : IsCalm (hist past w) (initiator_in w p)) where
     abbrev ms : List Moment
     ms = hist past w
 
@@ -79,10 +79,10 @@ module _ (units ready : ℕ) (has : 0 < units) (start : List Disk) where
     m = machine_at w p
 
     abbrev pub o : IsOpenAt ms w p
-    o = (q.lists tame).listed p b open_there (tame i)
+    o = (q.lists beside).listed p b open_there calm
 
     abbrev goes : GoesAlong ms i o.n m
-    goes = q.along.all p b open_there (tame i) o.n o.list
+    goes = q.along.all p b open_there calm o.n o.list
 
     pub alike : Alike (agent_at (over (target_at start ms)) p).untold (agent_at (over (target_at start ms)) p).machine m
     alike = ((site_at start past w q).agents.are.each p b).machine
@@ -98,7 +98,7 @@ module _ (units ready : ℕ) (has : 0 < units) (start : List Disk) where
         ∙ (ap (λ so. list_in (named_in ms i so)) (slot_of_law.found (slot_at ms i o.n k) x.small) ∙ ap list_in x.there)
 
   -- ---- a turn
-  module _ (past : List Moment) (s : Scene) (later : List Moment) (t : Scene) (g : Goes past s later t) {lines more : ℕ} (h : Holding units ready start past lines s.world) (h_now : Holding units ready start later more t.world) (q : Ground start (hist past s.world) s.world) (q_now : Ground start (hist later t.world) t.world) (tame_now : IsTame (hist later t.world)) (naming : AreNaming start (hist past s.world) s.world) where
+  module _ (past : List Moment) (s : Scene) (later : List Moment) (t : Scene) (g : Goes past s later t) {lines more : ℕ} (h : Holding units ready start past lines s.world) (h_now : Holding units ready start later more t.world) (q : Ground start (hist past s.world) s.world) (q_now : Ground start (hist later t.world) t.world) (beside_now : IsTameOrFew (hist later t.world)) (naming : AreNaming start (hist past s.world) s.world) where
     abbrev w : WorldState
     w = s.world
 
@@ -111,10 +111,10 @@ module _ (units ready : ℕ) (has : 0 < units) (start : List Disk) where
     abbrev now : List Moment
     now = hist later v
 
-    tame : IsTame before
-    tame = goes_tame past s later t g tame_now
+    beside : IsTameOrFew before
+    beside = goes_tame_or_few past s later t g beside_now
 
-    module _ (p : ℕ) (b : p < 8) (alive : is_alive (machine_at v p).phase ≡ true) where
+    module _ (p : ℕ) (b : p < 8) (alive : is_alive (machine_at v p).phase ≡ true) (calm_now : IsCalm now (initiator_in v p)) where
       abbrev j : ℕ
       j = initiator_in v p
 
@@ -122,13 +122,16 @@ module _ (units ready : ℕ) (has : 0 < units) (start : List Disk) where
       open_now = alive_list (machine_at v p).phase alive
 
       abbrev one : IsOpenAt now v p
-      one = (q_now.lists tame_now).listed p b open_now (tame_now j)
+      one = (q_now.lists beside_now).listed p b open_now calm_now
 
       abbrev a : Agent
       a = agent_at (over (target_at start now)) p
 
       owner : j ≡ initiator_in w p
       owner = turn_owns units ready has start s h (site_at start past w q).held later t g p b (listing_up (machine_at v p).phase open_now)
+
+      calm : IsCalm before (initiator_in w p)
+      calm = goes_calm past s later t g (initiator_in w p) (subst (IsCalm now) owner calm_now)
 
       -- it had the pointer before
       module _ (pointer : a.pointer ≡ (agent_at (over (target_at start before)) p).pointer) (was : is_alive (agent_at (over (target_at start before)) p).machine.phase ≡ true) where
@@ -139,7 +142,7 @@ module _ (units ready : ℕ) (has : 0 < units) (start : List Disk) where
         open_before = alive_list (machine_at w p).phase alive_before
 
         abbrev two : IsOpenAt before w p
-        two = (q.lists tame).listed p b open_before (tame (initiator_in w p))
+        two = (q.lists beside).listed p b open_before calm
 
         latest : suc two.n ≡ lists before j
         latest = subst (λ i. suc two.n ≡ lists before i) (sym owner) two.still.latest
@@ -160,7 +163,7 @@ module _ (units ready : ℕ) (has : 0 < units) (start : List Disk) where
         n_same = let x = one.still.latest in let y = latest in let e = begun in omega (arith, x, y, e)
 
         abbrev name : NamesList before (initiator_in w p) two.n (agent_at (over (target_at start before)) p).pointer
-        name = naming p b alive_before two.n two.list
+        name = naming p b alive_before calm two.n two.list
 
         kept : NamesList now j one.n a.pointer
         kept =
@@ -179,34 +182,35 @@ module _ (units ready : ℕ) (has : 0 < units) (start : List Disk) where
       -- or it took it in the turn
       took : a.machine.phase ≡ phases.Fetching → a.pointer ≡ Some a.machine.present → NamesList now j one.n a.pointer
       took phase pointer =
-          let x = alike later v h_now q_now tame_now p b open_now in
+          let x = alike later v h_now q_now beside_now p b open_now calm_now in
           record {
             address = (machine_at v p).present;
             is = pointer ∙ ap (λ n. Some n) (x.present open_now);
-            list = fetched later v h_now q_now tame_now p b open_now (sym x.phase ∙ phase);
+            list = fetched later v h_now q_now beside_now p b open_now calm_now (sym x.phase ∙ phase);
           }
 
       names : NamesList now j one.n a.pointer
       names =
-          by (turn_taken start before now (goes_shape past s later t g) p (ap is_alive (alike later v h_now q_now tame_now p b open_now).phase ∙ alive))
+          by (turn_taken start before now (goes_shape past s later t g) p (ap is_alive (alike later v h_now q_now beside_now p b open_now calm_now).phase ∙ alive))
         where
           by : ((a.pointer ≡ (agent_at (over (target_at start before)) p).pointer) × (is_alive (agent_at (over (target_at start before)) p).machine.phase ≡ true)) ⊎ ((a.machine.phase ≡ phases.Fetching) × (a.pointer ≡ Some a.machine.present)) → NamesList now j one.n a.pointer
           by (inl x) = kept x.0 x.1
           by (inr x) = took x.0 x.1
 
     pub turn_naming : AreNaming start now v
-    turn_naming p b alive n list = subst (λ x. NamesList now (initiator_in v p) x (a p b alive).pointer) (same_list (one p b alive).n n (sym (one p b alive).list ∙ list)) (names p b alive)
+    turn_naming p b alive calm_now n list =
+        subst (λ x. NamesList now (initiator_in v p) x (a p b alive calm_now).pointer) (same_list (one p b alive calm_now).n n (sym (one p b alive calm_now).list ∙ list)) (names p b alive calm_now)
 
 -- ---- at each place of a run
 abbrev pub NamingSo : List Disk → List Moment → WorldState → Type 0
-NamingSo start past w = IsTame past → AreNaming start past w
+NamingSo start past w = IsTameOrFew past → AreNaming start past w
 
 all_naming : (units ready : ℕ) → 0 < units → (start : List Disk) → Keeps units ready start (Ground start) (NamingSo start)
-all_naming units ready has start past s later t lines more g h h_now q q_now naming tame =
-    turn_naming units ready has start past s later t g h h_now q q_now tame (naming (goes_tame past s later t g tame))
+all_naming units ready has start past s later t lines more g h h_now q q_now naming beside =
+    turn_naming units ready has start past s later t g h h_now q q_now beside (naming (goes_tame_or_few past s later t g beside))
 
 first_naming : (start : List Disk) (run : Run) (ms : List Moment) → NamingSo start ms (beginning run).world
-first_naming start run _ _ place small alive = untrue (sym (first_closed run place) ∙ alive_list (machine_at (beginning run).world place).phase alive)
+first_naming start run _ _ place small alive _ = untrue (sym (first_closed run place) ∙ alive_list (machine_at (beginning run).world place).phase alive)
 
 pub naming_everywhere : OpenListsLaw → EveryPlace NamingSo
 naming_everywhere lists = record {

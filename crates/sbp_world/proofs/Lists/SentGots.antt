@@ -1,5 +1,5 @@
--- As the target gets a packet, in a run in which no initiator injected packets, what its agents wait for, to read in a slot, was sent behind the append of the ORB there.
-use Rattle.std.proofs.Common.{inl, ◌≡◌, ◌∙◌, sym, ap, subst, ℕ, List, [], ◌∷◌, ◌++◌, map, Option, Some}
+-- As the target gets a packet, in a run in which no initiator injected packets, or few logins were given, what its agents wait for, to read in a slot, was sent behind the append of the ORB there.
+use Rattle.std.proofs.Common.{◌≡◌, ◌∙◌, sym, ap, subst, ℕ, List, [], ◌∷◌, ◌++◌, map, Option, Some}
 use Rattle.sbp_world.specs.Agents.AskedRuns.{serial_of}
 use Rattle.sbp_world.proofs.Agents.Management.Still.{hist}
 use Rattle.sbp_world.specs.Hosts.Runs.{more_deliveries}
@@ -17,13 +17,13 @@ use Rattle.sbp_world.specs.Making.{ready_logins}
 use Rattle.sbp_world.specs.Worlds.{WorldState}
 use Rattle.sbp_world.specs.Lists.Closes.{OpenListsLaw}
 use Rattle.sbp_world.specs.Lists.OrbReads.{SentAsGot}
-use Rattle.sbp_world.specs.Lists.OwnLogins.{IsTame}
+use Rattle.sbp_world.specs.Lists.FewLogins.{IsTameOrFew}
 use Rattle.sbp_world.specs.Lists.SentReads.{AreSentBehind}
 use Rattle.sbp_world.proofs.Lists.Calm.{asked_calm}
 use Rattle.sbp_world.proofs.Lists.Courses.{EveryPlace, Keeps, at_between, at_lines, more_than_one}
 use Rattle.sbp_world.proofs.Lists.Gots.{Next, next, next_line, same_still}
 use Rattle.sbp_world.proofs.Lists.Judging.{goes_next}
-use Rattle.sbp_world.proofs.Lists.LiveRuns.{goes_tame}
+use Rattle.sbp_world.proofs.Lists.LiveRuns.{goes_tame_or_few}
 use Rattle.sbp_world.proofs.Lists.ManageSends.{opened_terms}
 use Rattle.sbp_world.proofs.Lists.OrbWaits.{over_twice}
 use Rattle.sbp_world.proofs.Lists.Quiet.{AllQuiet, IsQuiet}
@@ -72,27 +72,27 @@ module _ (start : List Disk) where
 
 -- ---- at each place of a run
 abbrev pub Sent : List Disk → List Moment → WorldState → Type 0
-Sent start past w = IsTame past → AreSentBehind start past
+Sent start past w = IsTameOrFew past → AreSentBehind start past
 
 sent_everywhere : OpenListsLaw → EveryPlace Sent
 sent_everywhere lists = record {
-  after_lines = λ line run r has small size so_far tame. sent_reads_law.after_lines line run r has small size so_far (lists.after_lines line run r has small size (inl tame));
-  between = λ line run r has small size next most told m so_far tame.
-      sent_reads_law.between line run r has small size next (more_deliveries most) (more_than_one most) told m so_far (lists.between line run r has small size next (more_deliveries most) (more_than_one most) told m (inl tame));
+  after_lines = λ line run r has small size so_far beside. sent_reads_law.after_lines line run r has small size so_far (lists.after_lines line run r has small size beside);
+  between = λ line run r has small size next most told m so_far beside.
+      sent_reads_law.between line run r has small size next (more_deliveries most) (more_than_one most) told m so_far (lists.between line run r has small size next (more_deliveries most) (more_than_one most) told m beside);
 }
 
 abbrev pub SentSo : List Disk → List Moment → WorldState → Type 0
-SentSo start past w = IsTame past → EachMoment (SentAsGot start) past
+SentSo start past w = IsTameOrFew past → EachMoment (SentAsGot start) past
 
 all_sent : (units ready : ℕ) (start : List Disk) → Keeps units ready start (Sent start) (SentSo start)
-all_sent units ready start past s later t lines more g h h_now a a_now e tame =
-    let before = goes_tame past s later t g tame in
+all_sent units ready start past s later t lines more g h h_now a a_now e beside =
+    let before = goes_tame_or_few past s later t g beside in
     sent_turn start (hist past s.world) (hist later t.world) (goes_next past s later t g) (a before) (e before)
 
 pub sent_as_got : OpenListsLaw → EveryPlace SentSo
 sent_as_got lists = record {
   after_lines = λ line run r has small size so_far.
-      at_lines Sent (SentSo run.start.disks) (sent_everywhere lists) line run r.few has small size (all_sent run.units (ready_logins run.initiators run.ready) run.start.disks) (λ tame. (tt, (tt, tt))) r so_far;
+      at_lines Sent (SentSo run.start.disks) (sent_everywhere lists) line run r.few has small size (all_sent run.units (ready_logins run.initiators run.ready) run.start.disks) (λ beside. (tt, (tt, tt))) r so_far;
   between = λ line run r has small size next most told m so_far.
-      at_between Sent (SentSo run.start.disks) (sent_everywhere lists) line run r.few has small size (all_sent run.units (ready_logins run.initiators run.ready) run.start.disks) (λ tame. (tt, (tt, tt))) r next most told m so_far;
+      at_between Sent (SentSo run.start.disks) (sent_everywhere lists) line run r.few has small size (all_sent run.units (ready_logins run.initiators run.ready) run.start.disks) (λ beside. (tt, (tt, tt))) r next most told m so_far;
 }

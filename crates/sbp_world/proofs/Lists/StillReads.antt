@@ -22,16 +22,15 @@ use Rattle.sbp_world.specs.Worlds.{WorldState}
 use Rattle.sbp_world.proofs.Agents.Management.Holding.{Holding}
 use Rattle.sbp_world.proofs.Agents.Management.Still.{hist}
 use Rattle.sbp_world.specs.Lists.Along.{AreAlong, GoesAlong}
-use Rattle.sbp_world.specs.Lists.Needs.{IsOpenAt, OpenLists, initiator_in, is_open_at, machine_at}
+use Rattle.sbp_world.specs.Lists.Needs.{IsCalm, IsOpenAt, OpenLists, initiator_in, is_open_at, machine_at}
 use Rattle.sbp_world.specs.Lists.OrbNames.{IsNamedBrought, IsStillBrought}
-use Rattle.sbp_world.specs.Lists.OwnLogins.{IsTame}
 use Rattle.sbp_world.proofs.Lists.ManageTerms.{untrue}
 use Rattle.sbp_world.proofs.Lists.OrbSteps.{Reads, holds_read}
 use Rattle.sbp_world.proofs.Lists.Sites.{Site, named_prepared}
 
--- of each agent that has a list open
+-- of each agent that has a list open of an initiator that injected no packets
 abbrev pub AreStill : List Disk → List Moment → WorldState → Type 0
-AreStill start past w = (place : ℕ) → place < 8 → is_open_at w place ≡ true → Reads (λ address orb. IsStillBrought start past w place address orb) (machine_at w place)
+AreStill start past w = (place : ℕ) → place < 8 → is_open_at w place ≡ true → IsCalm past (initiator_in w place) → Reads (λ address orb. IsStillBrought start past w place address orb) (machine_at w place)
 
 -- over a turn: it was brought in the history behind it, and is the one prepared last in its slot before it
 pub record IsHad (start : List Disk) (now before : List Moment) (w : WorldState) (place address : ℕ) (orb : CommandOrb) : Type 0 where
@@ -115,7 +114,7 @@ knows_ahead phases.ReadingNext l p next orb k offset e = kept_not_idle orb k
 knows_ahead phases.Suspended l p next orb k offset e = kept_not_idle orb k
 
 -- ---- its name, by its slot
-module _ (units ready : ℕ) (has : 0 < units) (start : List Disk) {past : List Moment} {lines : ℕ} (w : WorldState) (h : Holding units ready start past lines w) (s : Site start past w) (lists : OpenLists (hist past w) w) (along : AreAlong (hist past w) w) (tame : IsTame (hist past w)) (place : ℕ) (b : place < 8) (open_there : is_open_at w place ≡ true) where
+module _ (units ready : ℕ) (has : 0 < units) (start : List Disk) {past : List Moment} {lines : ℕ} (w : WorldState) (h : Holding units ready start past lines w) (s : Site start past w) (lists : OpenLists (hist past w) w) (along : AreAlong (hist past w) w) (place : ℕ) (b : place < 8) (open_there : is_open_at w place ≡ true) (calm : IsCalm (hist past w) (initiator_in w place)) where
   abbrev ms : List Moment
   ms = hist past w
 
@@ -126,10 +125,10 @@ module _ (units ready : ℕ) (has : 0 < units) (start : List Disk) {past : List 
   m = machine_at w place
 
   abbrev pub o : IsOpenAt ms w place
-  o = lists.listed place b open_there (tame i)
+  o = lists.listed place b open_there calm
 
   abbrev goes : GoesAlong ms i o.n m
-  goes = along.all place b open_there (tame i) o.n o.list
+  goes = along.all place b open_there calm o.n o.list
 
   abbrev pub ended : ℕ
   ended = ends ms i o.n

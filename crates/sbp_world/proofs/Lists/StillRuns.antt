@@ -1,5 +1,6 @@
--- At each place of a run in which no initiator injected packets each agent that has a list open has ORBs that responses brought, which are the ones prepared last in their slots.
-use Rattle.std.proofs.Common.{inl, ◌≡◌, ◌∙◌, refl, sym, ap, subst, ◌<◌, ◌≤◌, ◌+◌, ℕ, zero, suc, Bool, true, false, List, ◌∷◌, ◌++◌, map, length, Option}
+-- At each place of a run in which no initiator injected packets, or few logins were given, each agent that has a list open of an initiator that injected none has ORBs that responses
+-- brought, which are the ones prepared last in their slots.
+use Rattle.std.proofs.Common.{◌≡◌, ◌∙◌, refl, sym, ap, subst, ◌<◌, ◌≤◌, ◌+◌, ℕ, zero, suc, Bool, true, false, List, ◌∷◌, ◌++◌, map, length, Option}
 use Rattle.std.specs.Prelude.{replicate, slice_index_or}
 use Rattle.rbc_disk.specs.Disk.{Disk}
 use Rattle.rbc_disk.specs.Runs.{Told}
@@ -18,11 +19,11 @@ use Rattle.sbp_world.proofs.Hosts.Runs.{count_after, count_between, run_law}
 use Rattle.sbp_world.specs.Lists.Closes.{OpenListsLaw}
 use Rattle.sbp_world.specs.Lists.Needs.{IsCalm, OpenBefore, OpenBetween, is_open_at}
 use Rattle.sbp_world.specs.Lists.Opens.{OpensLaw}
-use Rattle.sbp_world.specs.Lists.OwnLogins.{IsTame}
+use Rattle.sbp_world.specs.Lists.FewLogins.{IsTameOrFew}
 use Rattle.sbp_world.proofs.Lists.Courses.{EveryPlace, Keeps, at_between, at_lines, more_than_one}
 use Rattle.sbp_world.proofs.Lists.LedRuns.{led_as_got}
 use Rattle.sbp_world.proofs.Lists.LinedAppends.{lined_appends, lined_between}
-use Rattle.sbp_world.proofs.Lists.LiveRuns.{goes_tame}
+use Rattle.sbp_world.proofs.Lists.LiveRuns.{goes_tame_or_few}
 use Rattle.sbp_world.proofs.Lists.ManageTerms.{untrue}
 use Rattle.sbp_world.proofs.Lists.OpenProved.{opens_law}
 use Rattle.sbp_world.proofs.Lists.OrbWaits.{asked_everywhere, brought_everywhere}
@@ -64,7 +65,7 @@ module _ (open_lists : OpenListsLaw) (line : ℕ) (run : Run) (r : IsRun run) (h
     lined = λ i b. lined_appends line run r i (inside i b);
     asked_so = asked_everywhere.after_lines line run r has small size so_far;
     led_so = (led_as_got open_lists).after_lines line run r has small size so_far;
-    lists = λ tame. open_lists.after_lines line run r has small size (inl tame);
+    lists = λ beside. open_lists.after_lines line run r has small size beside;
     along = along_law.after_lines line run r has small size so_far;
     brought = brought_everywhere.after_lines line run r has small size so_far;
   }
@@ -97,7 +98,7 @@ module _ (open_lists : OpenListsLaw) (line : ℕ) (run : Run) (r : IsRun run) (h
           lined = λ i b. lined_between line run r next most told m i (inside_end i b);
           asked_so = asked_everywhere.between line run r has small size next most told m so_far;
           led_so = (led_as_got open_lists).between line run r has small size next most told m so_far;
-          lists = λ tame. open_lists.between line run r has small size next event d told m (inl tame);
+          lists = λ beside. open_lists.between line run r has small size next event d told m beside;
           along = along_law.between line run r has small size next event d told m so_far;
           brought = brought_everywhere.between line run r has small size next most told m so_far;
         }
@@ -109,11 +110,11 @@ ground_everywhere lists = record {
 }
 
 abbrev pub StillSo : List Disk → List Moment → WorldState → Type 0
-StillSo start past w = IsTame past → AreStill start past w
+StillSo start past w = IsTameOrFew past → AreStill start past w
 
 all_still : (units ready : ℕ) → 0 < units → (start : List Disk) → Keeps units ready start (Ground start) (StillSo start)
-all_still units ready has start past s later t lines more g h h_now q q_now still tame =
-    turn_still units ready has start past s later t g lines more h h_now q q_now tame (still (goes_tame past s later t g tame))
+all_still units ready has start past s later t lines more g h h_now q q_now still beside =
+    turn_still units ready has start past s later t g lines more h h_now q q_now beside (still (goes_tame_or_few past s later t g beside))
 
 -- in a new world no agent has a list
 desks_new : (n p : ℕ) → slice_index_or (replicate n new_desk) p new_desk ≡ new_desk
@@ -126,7 +127,7 @@ unfolding new_world
 first_closed run place = ap (λ (d : Desk). has_list d.agent.phase) (desks_new 8 place)
 
 first_still : (start : List Disk) (run : Run) (ms : List Moment) → StillSo start ms (beginning run).world
-first_still start run ms tame place small open_there = untrue (sym (first_closed run place) ∙ open_there)
+first_still start run ms beside place small open_there calm = untrue (sym (first_closed run place) ∙ open_there)
 
 pub still_everywhere : OpenListsLaw → EveryPlace StillSo
 still_everywhere lists = record {

@@ -1,5 +1,5 @@
--- A turn of a world in which no initiator injected packets leaves each agent with the ORBs that it has read, which are the ones prepared last in their slots still: an initiator
--- prepares ORBs in the line of its action alone, and this leaves the target as it is.
+-- A turn of a world in which no initiator injected packets, or few logins were given, leaves each agent with the ORBs that it has read of an initiator that injected none, which are the
+-- ones prepared last in their slots still: an initiator prepares ORBs in the line of its action alone, and this leaves the target as it is.
 use Rattle.std.proofs.Common.{arith, ◌≡◌, ◌∙◌, refl, sym, ap, subst, ◌<◌, ◌≤◌, ℕ, suc, nat_eq, nat_lt, Bool, true, false, cond, List, [], ◌∷◌, ◌++◌, map, length, Option, Some, None}
 use Rattle.std.proofs.lemmas.Bool.Decides.{nat_tests}
 use Rattle.agent_laws.specs.Along.Steps.{number_behind}
@@ -39,17 +39,18 @@ use Rattle.sbp_world.proofs.Agents.Management.Holding.{Holding}
 use Rattle.sbp_world.proofs.Agents.Management.Still.{hist}
 use Rattle.sbp_world.proofs.Hosts.StepLaws.{step_law}
 use Rattle.sbp_world.specs.Lists.Along.{AreAlong}
-use Rattle.sbp_world.specs.Lists.Needs.{OpenLists, initiator_in, is_open_at, machine_at}
+use Rattle.sbp_world.specs.Lists.Needs.{IsCalm, OpenLists, initiator_in, is_open_at, machine_at}
 use Rattle.sbp_world.specs.Lists.OrbNames.{AreLed, IsJustBrought, IsStillBrought, LedAsGot}
 use Rattle.sbp_world.specs.Lists.OrbReads.{AskedAsGot, IsBrought}
-use Rattle.sbp_world.specs.Lists.OwnLogins.{IsTame}
+use Rattle.sbp_world.specs.Lists.FewLogins.{IsTameOrFew}
 use Rattle.sbp_world.specs.Hosts.Runs.{more_deliveries}
 use Rattle.sbp_world.specs.Settling.{MayNext, delivered_next, settled_from}
 use Rattle.sbp_world.proofs.Hosts.Carries.{IsNoAct}
+use Rattle.sbp_world.proofs.Lists.Calm.{calm_before as calm_by}
 use Rattle.sbp_world.proofs.Lists.Adds.{Stays}
 use Rattle.sbp_world.proofs.Lists.Courses.{Goes, by_delivery, by_end, by_line, by_start}
 use Rattle.sbp_world.proofs.Lists.Judging.{goes_next, grown as grown_by}
-use Rattle.sbp_world.proofs.Lists.LiveRuns.{goes_size, goes_tame}
+use Rattle.sbp_world.proofs.Lists.LiveRuns.{goes_size, goes_tame_or_few}
 use Rattle.sbp_world.proofs.Lists.Turned.{IsOne}
 use Rattle.sbp_bus.specs.Packets.{end_note}
 use Rattle.sbp_world.proofs.Lists.LedRuns.{got_just}
@@ -79,8 +80,8 @@ pub record Ground (start : List Disk) (ms : List Moment) (w : WorldState) : Type
   pub number : (i : ℕ) → i < length w.initiators → (initiator_at w i).number ≡ i
   pub lined : (i : ℕ) → i < length w.initiators → AllLined ms i
   pub asked_so : EachMoment (AskedAsGot start) ms
-  pub led_so : IsTame ms → EachMoment (LedAsGot start) ms
-  pub lists : IsTame ms → OpenLists ms w
+  pub led_so : IsTameOrFew ms → EachMoment (LedAsGot start) ms
+  pub lists : IsTameOrFew ms → OpenLists ms w
   pub along : AreAlong ms w
   pub brought : AreReading (IsBrought start ms) (target_at start ms)
 
@@ -150,7 +151,7 @@ module _ (R S : ℕ → CommandOrb → Type 0) (u : Bool) (a m : Machine) (alike
       }
 
 -- ---- a turn
-module _ (units ready : ℕ) (has : 0 < units) (start : List Disk) (past : List Moment) (s : Scene) (later : List Moment) (t : Scene) {lines more : ℕ} (h : Holding units ready start past lines s.world) (h_now : Holding units ready start later more t.world) (q : Ground start (hist past s.world) s.world) (q_now : Ground start (hist later t.world) t.world) (tame : IsTame (hist past s.world)) (tame_now : IsTame (hist later t.world)) (owns : Owns s.world t.world) (count : length t.world.initiators ≡ length s.world.initiators) (still : AreStill start (hist past s.world) s.world) where
+module _ (units ready : ℕ) (has : 0 < units) (start : List Disk) (past : List Moment) (s : Scene) (later : List Moment) (t : Scene) {lines more : ℕ} (h : Holding units ready start past lines s.world) (h_now : Holding units ready start later more t.world) (q : Ground start (hist past s.world) s.world) (q_now : Ground start (hist later t.world) t.world) (beside : IsTameOrFew (hist past s.world)) (beside_now : IsTameOrFew (hist later t.world)) (owns : Owns s.world t.world) (count : length t.world.initiators ≡ length s.world.initiators) (still : AreStill start (hist past s.world) s.world) where
   abbrev w : WorldState
   w = s.world
 
@@ -173,16 +174,20 @@ module _ (units ready : ℕ) (has : 0 < units) (start : List Disk) (past : List 
   site_now = site_at start later v q_now
 
   abbrev pub lists : OpenLists before w
-  lists = q.lists tame
+  lists = q.lists beside
 
   abbrev pub lists_now : OpenLists now v
-  lists_now = q_now.lists tame_now
+  lists_now = q_now.lists beside_now
 
   pub owner : (p : ℕ) → p < 8 → is_open_at v p ≡ true → initiator_in v p ≡ initiator_in w p
   owner p b e = owns p b (listing_up (machine_at v p).phase e)
 
-  pub inside : (p : ℕ) → p < 8 → is_open_at v p ≡ true → initiator_in w p < length w.initiators
-  inside p b e = subst (λ n. initiator_in w p < n) count (subst (λ i. i < length v.initiators) (owner p b e) (lists_now.listed p b e (tame_now (initiator_in v p))).inside)
+  pub inside : (p : ℕ) → p < 8 → is_open_at v p ≡ true → IsCalm now (initiator_in v p) → initiator_in w p < length w.initiators
+  inside p b e calm = subst (λ n. initiator_in w p < n) count (subst (λ i. i < length v.initiators) (owner p b e) (lists_now.listed p b e calm).inside)
+
+  -- who injected no packets injected none before
+  pub calm_before : (back ms : List Moment) → back ++ ms ≡ now → (i : ℕ) → IsCalm now i → IsCalm ms i
+  calm_before back ms is i calm = calm_by back ms i (subst (λ xs. IsCalm xs i) (sym is) calm)
 
   abbrev Still : ℕ → ℕ → CommandOrb → Type 0
   Still p address orb = IsStillBrought start now v p address orb
@@ -190,13 +195,18 @@ module _ (units ready : ℕ) (has : 0 < units) (start : List Disk) (past : List 
   -- ---- where nothing is prepared
   module _ (back : List Moment) (behind : back ++ before ≡ now) (prepared : (i slot : ℕ) → i < length w.initiators → prepared_in now i slot ≡ prepared_in before i slot) where
     abbrev R : ℕ → ℕ → CommandOrb → Type 0
-    R p address orb = p < 8 → IsHad start now before w p address orb
+    R p address orb = p < 8 → IsCalm now (initiator_in w p) → IsHad start now before w p address orb
 
     -- before it
-    had_by : (p : ℕ) (b : p < 8) (x : Bool) → has_list (machine_at w p).phase ≡ x → Reads (R p) (agent_at T p).machine
-    had_by p b true e =
+    had_of : (p : ℕ) (b : p < 8) → is_open_at w p ≡ true → (x : Bool) → injectors now (initiator_in w p) ≡ x → Reads (R p) (agent_at T p).machine
+    had_of p b e true f = reads_more (IsBrought start before p) (R p) (λ address orb x small calm. untrue (sym calm ∙ f)) (agent_at T p).machine ((over_reads (IsBrought start before) (target_at start before) q.brought).reading.agents p)
+    had_of p b e false f =
         alike_back (R p) (R p) (agent_at T p).untold (agent_at T p).machine (machine_at w p) (site.agents.are.each p b).machine e
-        (reads_more (λ address orb. IsStillBrought start before w p address orb) (R p) (λ address orb x small. still_had start before now back behind w p address orb x) (machine_at w p) (still p b e))
+        (reads_more (λ address orb. IsStillBrought start before w p address orb) (R p) (λ address orb x small calm. still_had start before now back behind w p address orb x) (machine_at w p)
+        (still p b e (calm_before back before behind (initiator_in w p) f)))
+
+    had_by : (p : ℕ) (b : p < 8) (x : Bool) → has_list (machine_at w p).phase ≡ x → Reads (R p) (agent_at T p).machine
+    had_by p b true e = had_of p b e (injectors now (initiator_in w p)) refl
     had_by p b false e =
         closed_reads (R p) (IsBrought start before p) (agent_at T p).untold (agent_at T p).machine (machine_at w p) (site.agents.are.each p b).machine e
         ((over_reads (IsBrought start before) (target_at start before) q.brought).reading.agents p)
@@ -205,7 +215,7 @@ module _ (units ready : ℕ) (has : 0 < units) (start : List Disk) (past : List 
     had_at p true e = had_by p (grind (arith, nat_tests)) (has_list (machine_at w p).phase) refl
     had_at p false e =
         let far : 8 ≤ p = grind (arith, nat_tests) in
-        reads_more (IsBrought start before p) (R p) (λ address orb x small. absurd (omega (arith, far, small))) (agent_at T p).machine ((over_reads (IsBrought start before) (target_at start before) q.brought).reading.agents p)
+        reads_more (IsBrought start before p) (R p) (λ address orb x small calm. absurd (omega (arith, far, small))) (agent_at T p).machine ((over_reads (IsBrought start before) (target_at start before) q.brought).reading.agents p)
 
     over_before : AreReading R (over (target_at start before))
     over_before = record {
@@ -218,25 +228,27 @@ module _ (units ready : ℕ) (has : 0 < units) (start : List Disk) (past : List 
       same_node : (i j : ℕ) → Some (suc i) ≡ Some (suc j) → i ≡ j
       same_node i j e = cc
 
-      just_had : (p : ℕ) → p < 8 → (address : ℕ) (orb : CommandOrb) → IsJustBrought start ms serial p address orb → IsHad start now before w p address orb
-      just_had p b address orb x =
-          let y = x.named in
+      just_had : (p : ℕ) → p < 8 → IsCalm now (initiator_in w p) → (address : ℕ) (orb : CommandOrb) → IsJustBrought start ms serial p address orb → IsHad start now before w p address orb
+      just_had p b calm address orb x =
+          let y = x.from in
           let e = x.now in
           let waits : serial_of y.brought.which (agent_at T p) ≡ Some y.brought.request =
           subst (λ (z : Target). serial_of y.brought.which (agent_at z p) ≡ Some y.brought.request) same (subst (λ ps. serial_of y.brought.which (agent_at (over (target_at start ps)) p) ≡ Some y.brought.request) e y.brought.waited) in
           let asked = waiting units ready has start w h site p b y.brought.which y.brought.request waits in
           let to : receiver_in ((terms before).sent y.brought.request) ≡ Some (suc y.i) =
           subst (λ (f : ℕ → Option Sending). receiver_in (f y.brought.request) ≡ Some (suc y.i)) sent (subst (λ ps. receiver_in ((terms ps).sent y.brought.request) ≡ Some (suc y.i)) e y.to) in
+          let own : y.i ≡ initiator_in w p = same_node y.i (initiator_in w p) (sym to ∙ asked.to) in
+          let led = y.led (subst (λ ps. IsCalm ps y.i) (sym e) (calm_by (said (notes.Got serial) ∷ []) ms y.i (calm_before front (said (notes.Got serial) ∷ ms) is y.i (subst (IsCalm now) (sym own) calm)))) in
           record {
-            named = named_over start (said (notes.Got serial) ∷ ms) now front is p address orb y;
-            initiator = same_node y.i (initiator_in w p) (sym to ∙ asked.to);
-            there = sym (there y.i y.led.slot) ∙ subst (λ ps. prepared_in ps y.i y.led.slot ≡ Some (named_orb y.led.n y.led.k)) e y.led.there;
+            named = named_over start (said (notes.Got serial) ∷ ms) now front is p address orb (record { brought = y.brought; i = y.i; to = y.to; led = led });
+            initiator = own;
+            there = sym (there y.i led.slot) ∙ subst (λ ps. prepared_in ps y.i led.slot ≡ Some (named_orb led.n led.k)) e led.there;
           }
 
       got_had : AreAskedAt start ms → AreLed start ms → GotBrings (IsJustBrought start ms serial) (terms ms) serial (over (target_at start ms)) → GotBrings R (terms ms) serial (over (target_at start ms))
       got_had a l just own closed place which purpose =
           let b = just own closed place which purpose in
-          record { main = λ x p bytes e small. just_had place small _ _ (b.main x p bytes e); ahead = λ x a offset n bytes e small. just_had place small _ _ (b.ahead x a offset n bytes e) }
+          record { main = λ x p bytes e small calm. just_had place small calm _ _ (b.main x p bytes e); ahead = λ x a offset n bytes e small calm. just_had place small calm _ _ (b.ahead x a offset n bytes e) }
 
     gets : Gets start R now before
     gets serial front is a l e = got_had before refl refl (λ i slot. refl) serial front is a l (got_just start before serial a l e)
@@ -246,11 +258,12 @@ module _ (units ready : ℕ) (has : 0 < units) (start : List Disk) (past : List 
         got_had (asked line event ∷ before) (over_twice (target_at start before)) (opened_terms event (terms before)).sent (λ i slot. refl) serial front is a l (got_just start (asked line event ∷ before) serial a l e)
 
     still_then : Course before now → AreStill start now v
-    still_then course p b e =
-        let all = turn_over start R now before course q_now.asked_so (q_now.led_so tame_now) gets gets_line over_before in
+    still_then course p b e calm =
+        let quiet : IsCalm now (initiator_in w p) = subst (IsCalm now) (owner p b e) calm in
+        let all = turn_over start R now before course q_now.asked_so (q_now.led_so beside_now) gets gets_line over_before in
         let agent = agent_at (over (target_at start now)) p in
         reads_more (R p) (Still p)
-        (λ address orb r. let x = r b in had_still start before now w v p address orb (owner p b e) x (prepared x.named.i x.named.led.slot (subst (λ i. i < length w.initiators) (sym x.initiator) (inside p b e)))) (machine_at v p)
+        (λ address orb r. let x = r b quiet in had_still start before now w v p address orb (owner p b e) x (prepared x.named.i x.named.led.slot (subst (λ i. i < length w.initiators) (sym x.initiator) (inside p b e calm)))) (machine_at v p)
         (alike_reads (R p) agent.untold agent.machine (machine_at v p) (site_now.agents.are.each p b).machine e (all.agents p))
 
   -- ---- where the target stands
@@ -263,15 +276,15 @@ module _ (units ready : ℕ) (has : 0 < units) (start : List Disk) (past : List 
 
     -- and nothing is prepared
     still_rests : ((i slot : ℕ) → i < length w.initiators → prepared_in now i slot ≡ prepared_in before i slot) → AreStill start now v
-    still_rests prepared p b e =
+    still_rests prepared p b e calm =
         subst (Reads (Still p)) (sym (machine_same p))
         (reads_more (λ address orb. IsStillBrought start before w p address orb) (Still p)
         (λ address orb x.
-        had_still start before now w v p address orb (owner p b e) (still_had start before now back behind w p address orb x) (prepared x.named.i x.named.led.slot (subst (λ i. i < length w.initiators) (sym x.initiator) (inside p b e)))) (machine_at w p)
-        (still p b (open_before p e)))
+        had_still start before now w v p address orb (owner p b e) (still_had start before now back behind w p address orb x) (prepared x.named.i x.named.led.slot (subst (λ i. i < length w.initiators) (sym x.initiator) (inside p b e calm)))) (machine_at w p)
+        (still p b (open_before p e) (calm_before back before behind (initiator_in w p) (subst (IsCalm now) (owner p b e) calm))))
 
     -- or an initiator acts
-    module _ (places : v.places ≡ w.places) (ends_are : (i n : ℕ) → ends now i n ≡ ends before i n) (p : ℕ) (b : p < 8) (e : is_open_at v p ≡ true) where
+    module _ (places : v.places ≡ w.places) (ends_are : (i n : ℕ) → ends now i n ≡ ends before i n) (p : ℕ) (b : p < 8) (e : is_open_at v p ≡ true) (calm_now : IsCalm now (initiator_in v p)) where
       abbrev M : Machine
       M = machine_at w p
 
@@ -281,14 +294,17 @@ module _ (units ready : ℕ) (has : 0 < units) (start : List Disk) (past : List 
       abbrev i : ℕ
       i = initiator_in w p
 
+      pub calm : IsCalm before i
+      calm = calm_before back before behind i (subst (IsCalm now) (owner p b e) calm_now)
+
       holder_same : holder v p ≡ holder w p
       holder_same = ap (λ ps. holder_at ps p) places
 
       abbrev n : ℕ
-      n = (o units ready has start w h site lists q.along tame p b f).n
+      n = (o units ready has start w h site lists q.along p b f calm).n
 
       abbrev n_now : ℕ
-      n_now = (o units ready has start v h_now site_now lists_now q_now.along tame_now p b e).n
+      n_now = (o units ready has start v h_now site_now lists_now q_now.along p b e calm_now).n
 
       same_list : (a c : ℕ) → Some a ≡ Some c → a ≡ c
       same_list a c e = cc
@@ -296,8 +312,8 @@ module _ (units ready : ℕ) (has : 0 < units) (start : List Disk) (past : List 
       list_same : n_now ≡ n
       list_same =
           same_list n_now n
-          (sym (o units ready has start v h_now site_now lists_now q_now.along tame_now p b e).list
-          ∙ (ap (λ (k : Holder). k.list) holder_same ∙ (o units ready has start w h site lists q.along tame p b f).list))
+          (sym (o units ready has start v h_now site_now lists_now q_now.along p b e calm_now).list
+          ∙ (ap (λ (k : Holder). k.list) holder_same ∙ (o units ready has start w h site lists q.along p b f calm).list))
 
       pub number_same : ends now (initiator_in v p) n_now ≡ ends before i n
       number_same = ap (λ j. ends now j n_now) (owner p b e) ∙ (ap (ends now i) list_same ∙ ends_are i n)
@@ -314,13 +330,13 @@ module _ (units ready : ℕ) (has : 0 < units) (start : List Disk) (past : List 
 
       main_now : holds_read M.phase ≡ true → Still p M.present M.orb
       main_now r =
-          let x = (still p b f).main r in
+          let x = (still p b f calm).main r in
           let at = x.named.led.stands in
           let slot = x.named.led.slot in
           as_now M.present M.orb x
           (name_same (ends now (initiator_in v p) n_now) (ends before i n) slot number_same
-          (main_name units ready has start v h_now site_now lists_now q_now.along tame_now p b e (ap (λ (m : Machine). holds_read m.phase) (machine_same p) ∙ r) slot (ap (λ (m : Machine). m.present) (machine_same p) ∙ at))
-          (main_name units ready has start w h site lists q.along tame p b f r slot at))
+          (main_name units ready has start v h_now site_now lists_now q_now.along p b e calm_now (ap (λ (m : Machine). holds_read m.phase) (machine_same p) ∙ r) slot (ap (λ (m : Machine). m.present) (machine_same p) ∙ at))
+          (main_name units ready has start w h site lists q.along p b f calm r slot at))
 
       ahead_now : (ahead : ReadAhead) → M.ahead ≡ ahead → ReadAheadOf (λ address orb. IsStillBrought start before w p address orb) M.orb.next ahead → ReadAheadOf (Still p) M.orb.next ahead
       ahead_now aheads.Idle g r = tt
@@ -335,13 +351,13 @@ module _ (units ready : ℕ) (has : 0 < units) (start : List Disk) (past : List 
             read = as_now (aligned r.offset) orb x
                 (name_same (number_behind (machine_at v p).phase (ends now (initiator_in v p) n_now)) (number_behind M.phase (ends before i n)) slot
                 (ap (λ (m : Machine). number_behind m.phase (ends now (initiator_in v p) n_now)) (machine_same p) ∙ ap (number_behind M.phase) number_same)
-                (ahead_name units ready has start v h_now site_now lists_now q_now.along tame_now p b e orb (ap (λ (m : Machine). m.ahead) (machine_same p) ∙ g) r.offset (ap (λ (m : Machine). m.orb.next) (machine_same p) ∙ r.is) slot at)
-                (ahead_name units ready has start w h site lists q.along tame p b f orb g r.offset r.is slot at));
+                (ahead_name units ready has start v h_now site_now lists_now q_now.along p b e calm_now orb (ap (λ (m : Machine). m.ahead) (machine_same p) ∙ g) r.offset (ap (λ (m : Machine). m.orb.next) (machine_same p) ∙ r.is) slot at)
+                (ahead_name units ready has start w h site lists q.along p b f calm orb g r.offset r.is slot at));
           }
 
       still_acts : Reads (Still p) (machine_at v p)
       still_acts =
-          let r = still p b f in
+          let r = still p b f calm in
           subst (Reads (Still p)) (sym (machine_same p)) (record { main = main_now; ahead = ahead_now M.ahead refl r.ahead; idle = r.idle })
 
 -- ---- by what the turn is
@@ -368,26 +384,26 @@ end_prepared false i slot past = refl
 module _ (units ready : ℕ) (has : 0 < units) (start : List Disk) where
   Turns : (past : List Moment) (s : Scene) (later : List Moment) (t : Scene) → Type 0
   Turns past s later t =
-      (lines more : ℕ) → Holding units ready start past lines s.world → Holding units ready start later more t.world → Ground start (hist past s.world) s.world → Ground start (hist later t.world) t.world → IsTame (hist past s.world) → IsTame (hist later t.world) → Owns s.world t.world → length t.world.initiators ≡ length s.world.initiators → (back : List Moment) → back ++ hist past s.world ≡ hist later t.world → AreStill start (hist past s.world) s.world → AreStill start (hist later t.world) t.world
+      (lines more : ℕ) → Holding units ready start past lines s.world → Holding units ready start later more t.world → Ground start (hist past s.world) s.world → Ground start (hist later t.world) t.world → IsTameOrFew (hist past s.world) → IsTameOrFew (hist later t.world) → Owns s.world t.world → length t.world.initiators ≡ length s.world.initiators → (back : List Moment) → back ++ hist past s.world ≡ hist later t.world → AreStill start (hist past s.world) s.world → AreStill start (hist later t.world) t.world
 
   -- a line in which no initiator acts
   quiet_line : (past : List Moment) (s : Scene) (line : ℕ) (event : Event) (told : List (Option Told)) → IsOne event → MayHappen event told s → cmd_of (Some event) ≡ None → Turns past s (asked line event ∷ hist past s.world) (happens line event told s)
   unfolding Turns
-  quiet_line past s line event told one may none lines more h h_now q q_now tame tame_now owns count back behind still =
+  quiet_line past s line event told one may none lines more h h_now q q_now beside beside_now owns count back behind still =
       let t = happens line event told s in
-      still_then units ready has start past s (asked line event ∷ hist past s.world) t h h_now q q_now tame tame_now owns count still back behind
+      still_then units ready has start past s (asked line event ∷ hist past s.world) t h h_now q q_now beside beside_now owns count still back behind
       (λ i slot l. none_prepared i slot t.world.fresh (asked line event ∷ hist past s.world) none (q_now.lined i (subst (λ n. i < n) (sym count) l))) (line_course past s line event told one may)
 
   -- one in which an initiator acts
   acting_line : (past : List Moment) (s : Scene) (line i : ℕ) (action : Action) (told : List (Option Told)) → IsLine (events.Act i action) (length s.world.initiators) → Turns past s (asked line (events.Act i action) ∷ hist past s.world) (happens line (events.Act i action) told s)
   unfolding Turns happens
-  acting_line past s line i action told fit lines more h h_now q q_now tame tame_now owns count back behind still p b e =
+  acting_line past s line i action told fit lines more h h_now q q_now beside beside_now owns count back behind still p b e calm =
       let event = events.Act i action in
       let now = asked line event ∷ hist past s.world in
       let w = without_notes s.world in
       let site = site_at start past s.world q in
       let x : Stays (injectors (hist past s.world)) now w (acted line i action w) = acts (injectors (hist past s.world)) now line i action w (q.number i fit.0) (step_law.asked line event (hist past s.world) i (initiator_at s.world i).lists.slots (site.rows i fit.0)) (tt, q.law) in
-      still_acts units ready has start past s now (happens line event told s) h h_now q q_now tame tame_now owns count still back behind x.target x.places (λ j n. x.adds.ends_are j n) p b e
+      still_acts units ready has start past s now (happens line event told s) h h_now q q_now beside beside_now owns count still back behind x.target x.places (λ j n. x.adds.ends_are j n) p b e calm
 
   line_turn : (past : List Moment) (s : Scene) (line : ℕ) (event : Event) (told : List (Option Told)) → IsOne event → IsLine event (length s.world.initiators) → MayHappen event told s → Turns past s (asked line event ∷ hist past s.world) (happens line event told s)
   line_turn past s line (events.Act i action) told one fit may = acting_line past s line i action told fit
@@ -407,22 +423,22 @@ module _ (units ready : ℕ) (has : 0 < units) (start : List Disk) where
   -- a delivery
   delivery_turn : (past : List Moment) (s : Scene) (one : Option Told) → MayNext one s → ((i : ℕ) → IsNoAct i (event_of past)) → Turns past s past (delivered_next one s)
   unfolding Turns
-  delivery_turn past s one may no_act lines more h h_now q q_now tame tame_now owns count back behind still =
+  delivery_turn past s one may no_act lines more h h_now q q_now beside beside_now owns count back behind still =
       let t = delivered_next one s in
       let none = none_acts (event_of past) no_act in
-      still_then units ready has start past s past t h h_now q q_now tame tame_now owns count still back behind
+      still_then units ready has start past s past t h h_now q q_now beside beside_now owns count still back behind
       (λ i slot l. none_prepared i slot t.world.fresh past none (q_now.lined i (subst (λ n. i < n) (sym count) l)) ∙ sym (none_prepared i slot s.world.fresh past none (q.lined i l))) (delivery_course past s one may)
 
-  pub turn_still : (past : List Moment) (s : Scene) (later : List Moment) (t : Scene) → Goes past s later t → (lines more : ℕ) → Holding units ready start past lines s.world → Holding units ready start later more t.world → Ground start (hist past s.world) s.world → Ground start (hist later t.world) t.world → IsTame (hist later t.world) → AreStill start (hist past s.world) s.world → AreStill start (hist later t.world) t.world
+  pub turn_still : (past : List Moment) (s : Scene) (later : List Moment) (t : Scene) → Goes past s later t → (lines more : ℕ) → Holding units ready start past lines s.world → Holding units ready start later more t.world → Ground start (hist past s.world) s.world → Ground start (hist later t.world) t.world → IsTameOrFew (hist later t.world) → AreStill start (hist past s.world) s.world → AreStill start (hist later t.world) t.world
   unfolding Turns
-  turn_still past s later t g lines more h h_now q q_now tame_now still =
+  turn_still past s later t g lines more h h_now q q_now beside_now still =
       let grown = grown_by (hist past s.world) (hist later t.world) (goes_next past s later t g) in
-      by past s later t g lines more h h_now q q_now (goes_tame past s later t g tame_now) tame_now (turn_owns units ready has start s h (site_at start past s.world q).held later t g) (goes_size past s later t g) grown.new grown.is still
+      by past s later t g lines more h h_now q q_now (goes_tame_or_few past s later t g beside_now) beside_now (turn_owns units ready has start s h (site_at start past s.world q).held later t g) (goes_size past s later t g) grown.new grown.is still
     where
       by : (past : List Moment) (s : Scene) (later : List Moment) (t : Scene) → Goes past s later t → Turns past s later t
       by _ _ _ _ (by_line past s line event told one fit may) = line_turn past s line event told one fit may
-      by _ _ _ _ (by_start past s line most) = λ lines more h h_now q q_now tame tame_now owns count back behind still.
-          still_rests units ready has start past s (asked line (more_deliveries most) ∷ hist past s.world) (begun s) h h_now q q_now tame tame_now owns count still back behind refl (λ i slot l. refl)
+      by _ _ _ _ (by_start past s line most) = λ lines more h h_now q q_now beside beside_now owns count back behind still.
+          still_rests units ready has start past s (asked line (more_deliveries most) ∷ hist past s.world) (begun s) h h_now q q_now beside beside_now owns count still back behind refl (λ i slot l. refl)
       by _ _ _ _ (by_delivery past s one may no_act) = delivery_turn past s one may no_act
-      by _ _ _ _ (by_end past s done) = λ lines more h h_now q q_now tame tame_now owns count back behind still.
-          still_rests units ready has start past s past (settled_from done s) h h_now q q_now tame tame_now owns count still back behind refl (λ i slot l. end_prepared done i slot (hist past s.world))
+      by _ _ _ _ (by_end past s done) = λ lines more h h_now q q_now beside beside_now owns count back behind still.
+          still_rests units ready has start past s past (settled_from done s) h h_now q q_now beside beside_now owns count still back behind refl (λ i slot l. end_prepared done i slot (hist past s.world))

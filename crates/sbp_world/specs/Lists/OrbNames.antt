@@ -19,7 +19,7 @@ use Rattle.sbp_laws.specs.Packets.{receiver_in}
 use Rattle.sbp_laws.specs.Targets.{agent_at, over, target_at}
 use Rattle.sbp_laws.specs.Terms.{ends, lists, request_at}
 use Rattle.sbp_world.specs.Worlds.{WorldState}
-use Rattle.sbp_world.specs.Lists.Needs.{initiator_in}
+use Rattle.sbp_world.specs.Lists.Needs.{IsCalm, initiator_in}
 use Rattle.sbp_world.specs.Lists.OrbReads.{IsBrought}
 
 -- an address is that of the slot in which an ORB of the latest list stands, which is linked and has not ended
@@ -35,27 +35,34 @@ pub record IsLedTo (past : List Moment) (i address : ℕ) : Type 0 where
   pub after : ends past i n ≤ k
   pub before : k < linked past i n
 
--- each agent that reads its present ORB, and each that reads one ahead, of the initiator to which the read was sent
+-- each agent that reads its present ORB, and each that reads one ahead, of the initiator to which the read was sent, where this injected no packets
 pub record AreLed (start : List Disk) (past : List Moment) : Type 0 where
-  pub main : (place : ℕ) → place < 8 → (serial i : ℕ) → receiver_in ((terms past).sent serial) ≡ Some (suc i) → (let a = agent_at (over (target_at start past)) place in a.main ≡ Some serial → a.machine.phase ≡ phases.Fetching → IsLedTo past i a.machine.present)
-  pub ahead : (place : ℕ) → place < 8 → (serial i offset : ℕ) → receiver_in ((terms past).sent serial) ≡ Some (suc i) → (let a = agent_at (over (target_at start past)) place in a.ahead ≡ Some serial → is_ahead a.machine.ahead ≡ true → a.machine.orb.next ≡ At offset → IsLedTo past i (aligned offset))
+  pub main : (place : ℕ) → place < 8 → (serial i : ℕ) → receiver_in ((terms past).sent serial) ≡ Some (suc i) → IsCalm past i → (let a = agent_at (over (target_at start past)) place in a.main ≡ Some serial → a.machine.phase ≡ phases.Fetching → IsLedTo past i a.machine.present)
+  pub ahead : (place : ℕ) → place < 8 → (serial i offset : ℕ) → receiver_in ((terms past).sent serial) ≡ Some (suc i) → IsCalm past i → (let a = agent_at (over (target_at start past)) place in a.ahead ≡ Some serial → is_ahead a.machine.ahead ≡ true → a.machine.orb.next ≡ At offset → IsLedTo past i (aligned offset))
 
 -- as a packet is got
 abbrev pub LedAsGot : List Disk → Moment → List Moment → Type 0
 LedAsGot start (said (notes.Got serial)) past = AreLed start past
 LedAsGot start moment past = Unit {0}
 
--- a response brought an ORB, to the read that was sent to an initiator, of the ORB that this had in the slot then
+-- a response brought an ORB, to the read that was sent to an initiator; where this had injected no packets, of the ORB that it had in the slot then
+pub record IsBroughtFrom (start : List Disk) (past : List Moment) (place address : ℕ) (orb : CommandOrb) : Type 0 where
+  pub brought : IsBrought start past place address orb
+  pub i : ℕ
+  pub to : receiver_in ((terms brought.earlier).sent brought.request) ≡ Some (suc i)
+  pub led : IsCalm brought.earlier i → IsLedTo brought.earlier i address
+
+-- and it is of that ORB
 pub record IsNamedBrought (start : List Disk) (past : List Moment) (place address : ℕ) (orb : CommandOrb) : Type 0 where
   pub brought : IsBrought start past place address orb
   pub i : ℕ
   pub to : receiver_in ((terms brought.earlier).sent brought.request) ≡ Some (suc i)
   pub led : IsLedTo brought.earlier i address
 
--- a response brought it so as the last of these packets
+-- a response brought it from its initiator as the last of these packets
 pub record IsJustBrought (start : List Disk) (past : List Moment) (serial place address : ℕ) (orb : CommandOrb) : Type 0 where
-  pub named : IsNamedBrought start (said (notes.Got serial) ∷ past) place address orb
-  pub now : named.brought.earlier ≡ past
+  pub from : IsBroughtFrom start (said (notes.Got serial) ∷ past) place address orb
+  pub now : from.brought.earlier ≡ past
 
 -- ---- while an agent has an ORB that has not ended
 -- it was brought of the initiator that has the place, and is the one that was prepared last in its slot still
