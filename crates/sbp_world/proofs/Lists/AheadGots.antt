@@ -194,7 +194,7 @@ module _ (units ready : ℕ) (has : 0 < units) (start : List Disk) {past : List 
     m = machine_at w place
 
     abbrev o : IsOpenAt ms w place
-    o = (q.lists tame).listed place b wait.is_open (tame j)
+    o = (q.lists (inl tame)).listed place b wait.is_open (tame j)
 
     abbrev goes : GoesAlong ms j o.n m
     goes = q.along.all place b wait.is_open (tame j) o.n o.list
@@ -212,7 +212,7 @@ module _ (units ready : ℕ) (has : 0 < units) (start : List Disk) {past : List 
     next_is = ap (λ (y : CommandOrb). y.next) (sym (alike.orb wait.is_open)) ∙ x.next
 
     ahead_there : prepared_in ms j slot ≡ Some (named_orb o.n (number_behind m.phase ended))
-    ahead_there = ahead_name units ready has start w h site (q.lists tame) q.along tame place b wait.is_open x.orb kept x.offset next_is slot x.stands
+    ahead_there = ahead_name units ready has start w h site (q.lists (inl tame)) q.along tame place b wait.is_open x.orb kept x.offset next_is slot x.stands
 
     stored : (k : ℕ) → ended ≤ k → k < (list ms j o.n).linked → IsPrepared ms j (slot_at ms j o.n k) o.n k
     stored k from linked = named_prepared units ready has start w h site place o.n k o.inside (o.named k from linked)
@@ -276,7 +276,7 @@ module _ (units ready : ℕ) (has : 0 < units) (start : List Disk) {past : List 
           (subst (λ (p : Purpose). AllElsewhere slot (cond (is_main_of p place) (moved_by (access_at t own) (payload_at t serial)) [])) (sym f) (of_main which f)))
 
       agent_elsewhere : (which : Which) → purpose_of T own ≡ for_agent other which → AllElsewhere slot (read_by t j serial (Some own))
-      agent_elsewhere which f = subst (λ so. AllElsewhere slot (read_by t j serial so)) closed (by (are_own_gots units ready has start w h site (q.lists tame) q.along tame place b wait.is_open serial own other slot which closed f))
+      agent_elsewhere which f = subst (λ so. AllElsewhere slot (read_by t j serial so)) closed (by (are_own_gots units ready has start w h site (q.lists (inl tame)) q.along tame place b wait.is_open serial own other slot which closed f))
         where
           by : IsOwnOrOther start ms j place slot serial → AllElsewhere slot (read_by t j serial (answered_at t serial))
           by (inl e) = subst (AllElsewhere slot) (sym e) (of_agent which f)

@@ -116,7 +116,7 @@ module _ (units ready : ℕ) (has : 0 < units) (start : List Disk) {past : List 
     j = initiator_in w place
 
     abbrev o : IsOpenAt ms w place
-    o = (q.lists tame).listed place b open_there (tame j)
+    o = (q.lists (inl tame)).listed place b open_there (tame j)
 
     goes : GoesAlong ms j o.n m
     goes = q.along.all place b open_there (tame j) o.n o.list
