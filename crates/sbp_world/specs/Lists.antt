@@ -32,6 +32,7 @@ pub mod CarriedEnds
 pub mod OneUp
 pub mod SendsLast
 pub mod EndReads
+pub mod EndsWell
 pub mod OrbNames
 pub mod ManagedFor
 pub mod Managing
