@@ -462,6 +462,7 @@ pub mod AnswersCarriedTaken
 pub mod AnswersCarriedRuns
 pub mod AnswerWays
 pub mod AnswerWayRuns
+pub mod GoodEnds
 pub mod AnswerRuns
 pub mod AnswerComes
 pub mod AnswerDisks
