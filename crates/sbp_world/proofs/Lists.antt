@@ -468,6 +468,9 @@ pub mod AnswersCarriedTracks
 pub mod AnswersCarriedLines
 pub mod AnswersCarriedTaken
 pub mod AnswersCarriedRuns
+pub mod AnswerWays
+pub mod AnswerWayRuns
+pub mod GoodEnds
 pub mod AnswerRuns
 pub mod AnswerComes
 pub mod AnswerDisks

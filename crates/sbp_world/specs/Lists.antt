@@ -34,6 +34,7 @@ pub mod CarriedEnds
 pub mod OneUp
 pub mod SendsLast
 pub mod EndReads
+pub mod EndsWell
 pub mod OrbNames
 pub mod ManagedFor
 pub mod ManagedGots

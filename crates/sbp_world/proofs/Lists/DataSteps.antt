@@ -28,7 +28,7 @@ use Rattle.sbp_world.specs.Telling.{holder, ticket_at}
 use Rattle.sbp_world.specs.Worlds.{WorldState}
 use Rattle.sbp_world.proofs.Agents.Management.Still.{hist}
 use Rattle.sbp_world.specs.Lists.DataWrites.{IsPieceOf, IsAnswered}
-use Rattle.sbp_world.specs.Lists.Lists.{orbs, IsBufferOf}
+use Rattle.sbp_world.specs.Lists.Lists.{orbs, IsBufferOf, IsOrbOf}
 use Rattle.sbp_world.specs.Lists.Needs.{IsFor, machine_at, IsNamed, IsOpenAt, initiator_in}
 use Rattle.sbp_world.proofs.Lists.DataPieces.{chunk_is, same_piece}
 use Rattle.sbp_world.proofs.Lists.Deliveries.{waits_has}
@@ -41,7 +41,7 @@ use Rattle.orb_layout.specs.declared.ask.FailCause.{FailCause}
 use Rattle.orb_layout.specs.declared.ask.FailCause.TheVariants as causes
 use Rattle.orb_layout.specs.declared.status.StatusKind.TheVariants as kinds
 use Rattle.orb_layout.specs.Replies.{Answer, Done, Expired, NoLabel, Payload, Refused, payload_of, write_failure}
-use Rattle.agent_laws.specs.Answers.{is_good}
+use Rattle.agent_laws.specs.Answers.{is_good, to_write}
 use Rattle.agent_laws.specs.Along.Lists.{OrbList}
 use Rattle.command_agent.specs.Steps.{advanced, ahead_read, ahead_step, answer_chunk, chunk_written, quiet, reply_step, served, src_of, told_or, answer_step, end_step}
 use Rattle.command_agent.specs.declared.step.Which.TheVariants.{Ahead, Main}
@@ -79,6 +79,7 @@ use Rattle.orb_layout.specs.declared.command.CommandOrb.{CommandOrb}
 use Rattle.sbp_world.specs.Wire.Lines.{FillsBuffer}
 use Rattle.sbp_world.proofs.Hosts.OrbTables.{whole_bytes}
 use Rattle.sbp_world.proofs.Lists.AnswerChecks.{check_length, ended_none}
+use Rattle.sbp_world.proofs.Lists.AnswerWays.{IsWay}
 use Rattle.sbp_world.proofs.Lists.Full.{IsFull, IsPart}
 use Rattle.sbp_world.proofs.Lists.DataRan.{goes_on as more_goes, reply_begins}
 
@@ -346,6 +347,11 @@ module _ (past : List Moment) (i n : ℕ) (small_slots : (k : ℕ) → slot_at p
   piece_by p phases.Suspended m k l there offset size e some = absurd (none_write offset size e)
   piece_by p phases.Reset m k l there offset size e some = absurd (none_write offset size e)
   piece_by p phases.Dead m k l there offset size e some = absurd (none_write offset size e)
+
+-- a good end
+pub data IsGoodNow (ms : List Moment) (i n k got : ℕ) : Type 0 where
+  good_fresh : runs ms i n k ≡ 0 → ((cmd : Cmd) → command_at ms i n k ≡ Some cmd → cmd.to_initiator ≡ true → cmd.length ≡ 0) → IsGoodNow ms i n k got
+  good_behind : (m : Machine) → m.written ≡ length m.answer → (a : IsAnswered ms i n k m got) → a.cmd.to_initiator ≡ true → IsGoodNow ms i n k got
 
 -- ---- a reply to an agent
 module _ (wild : ℕ → Bool) (past : List Moment) (w : WorldState) (r : Ready wild past w) (asked : AreAsked wild (hist past w) w) (sent : Sent) (is_for : IsFor w sent) (run : Option Told) (disks : List Disk) (p : Packet) (label : LabelParts) (place : ℕ) (f : (judging_step w.target.layer sent.generation sent.bytes).0 ≡ of_response p label (Some (purposes.Agent place))) (b : place < 8) (login : Login) (which : Which) (e : which_in (desk_at w.target place) (header_in p).source label ≡ Some which) (own : Ours wild past w r place) where
@@ -753,3 +759,105 @@ module _ (wild : ℕ → Bool) (past : List Moment) (w : WorldState) (r : Ready 
     ran_well outcome ran =
         let is : now_then ≡ run_by (Some outcome) step.1.answer before_now = none_then still ∙ ap (λ o. run_by o step.1.answer before_now) ran in
         good_check outcome (ap is_good (sym (ap (λ (y : Progress). y.outcome) is)) ∙ told_then.ran)
+
+    -- its data go to the initiator
+    same_own : (now : Progress) → now.ended ≡ ends ms i O.n → (orb : CommandOrb) (o : IsOrbOf (command_at ms i O.n now.ended) (slot_at ms i O.n now.ended) orb) → orb.to_initiator ≡ (its.cmd.to_initiator && nat_lt 0 its.cmd.length)
+    same_own now number orb o =
+        let c : command_at ms i O.n (ends ms i O.n) ≡ Some o.cmd = ap (λ j. command_at ms i O.n j) (sym number) ∙ o.command in
+        let same : o.cmd ≡ its.cmd = (let both : Some o.cmd ≡ Some its.cmd = sym c ∙ its.command_is in cc) in
+        ap (λ (x : CommandOrb). x.to_initiator) o.orb ∙ ap (λ (c : Cmd). c.to_initiator && nat_lt 0 c.length) same
+
+    way_ran : (outcome : Outcome) → step.0.ran ≡ Some outcome → (t : Bool) → step.1.orb.to_initiator ≡ t → step.1.orb.to_initiator ≡ true
+    way_ran outcome ran true to = to
+    way_ran outcome ran false to =
+        let run_may : MayRun step.1 place outcome (plain_in w.target.units disks login.unit) = subst (λ x. MayTell x step.1 place (plain_in w.target.units disks login.unit)) ran may in
+        let is : now_then ≡ run_by (Some outcome) step.1.answer before_now = none_then still ∙ ap (λ o. run_by o step.1.answer before_now) ran in
+        let good : is_good (Some outcome) ≡ true = ap is_good (sym (ap (λ (y : Progress). y.outcome) is)) ∙ told_then.ran in
+        let len : length step.1.answer ≡ answer_length_of (plain_in w.target.units disks login.unit).medium.is_bay step.1.orb.cdb = run_may.size ∙ run_may.len (good_check outcome good) in
+        let begins : 0 < answered_length outcome = subst (λ x. IfSome x (λ o. 0 < answered_length o)) ran (reply_begins M place (plain_in w.target.units disks login.unit) run (answer_in p) which e_then) in
+        let some : 0 < length step.1.answer = subst (λ n. 0 < n) (sym run_may.size) begins in
+        let none = ended_none _ _ (subst (λ y. MayEnd (check_of step.1.orb.cdb (plan_of step.1) (plain_in w.target.units disks login.unit) place) (failure_of (plain_in w.target.units disks login.unit).medium.is_bay step.1.orb.cdb) y) (good_check outcome good) run_may.ended) in
+        let zero_there = check_length step.1.orb.cdb (plan_of step.1) (plain_in w.target.units disks login.unit) place to none in
+        absurd (let z = len ∙ zero_there in omega (arith, z, some))
+
+    way_on : step.0.ran ≡ None → (answers M.phase ≡ true → M.orb.to_initiator ≡ true) → step.1.orb.to_initiator ≡ true
+    way_on ran way =
+        let same : now_then ≡ before_now = none_then still ∙ ap (λ o. run_by o step.1.answer before_now) ran in
+        let good : is_good G.progress.outcome ≡ true = ap is_good (sym (ap (λ (y : Progress). y.outcome) same ∙ heard_outcome which M (answer_in p) G.progress)) ∙ told_then.ran in
+        let answering = good_answers (orbs ms i O.n) G.progress M.phase M G.along.main is_open good in
+        let had = (subst (λ ph. Knows (orbs ms i O.n) G.progress ph M) answering G.along.main).told in
+        same_own now_then number_now step.1.orb told_then.good.own ∙ (sym (same_own G.progress G.is M.orb had.good.own) ∙ way (ap answers answering))
+
+    way_by : (x : Option Outcome) → step.0.ran ≡ x → (answers M.phase ≡ true → M.orb.to_initiator ≡ true) → step.1.orb.to_initiator ≡ true
+    way_by None ran way = way_on ran way
+    way_by (Some outcome) ran way = way_ran outcome ran step.1.orb.to_initiator refl
+
+    pub reply_way : (answers M.phase ≡ true → M.orb.to_initiator ≡ true) → step.1.orb.to_initiator ≡ true
+    reply_way way = way_by step.0.ran refl way
+
+  -- ---- a good end in the turn in which the command runs: the answer is empty, and so is the buffer, where its data go to the initiator
+  module _ (ended : step.0.ended ≡ Some kinds.Good) (may : MayTell step.0.ran step.1 place (plain_in w.target.units disks login.unit)) (fills : (cmd : Cmd) → command_at ms i O.n (ends ms i O.n) ≡ Some cmd → FillsBuffer cmd) where
+    module _ (outcome : Outcome) (ran : step.0.ran ≡ Some outcome) (cmd : Cmd) (command : command_at ms i O.n (ends ms i O.n) ≡ Some cmd) (filled : FillsBuffer cmd) where
+      good_end : IsEnd (orbs ms i O.n) (run_by (Some outcome) step.1.answer before_now) kinds.Good step.1.present step.1.orb step.1.outgoing step.0.ask
+      good_end = subst (λ o. IsEnd (orbs ms i O.n) (run_by o step.1.answer before_now) kinds.Good step.1.present step.1.orb step.1.outgoing step.0.ask) ran (end_so kinds.Good ended)
+
+      may_run : MayRun step.1 place outcome (plain_in w.target.units disks login.unit)
+      may_run = subst (λ x. MayTell x step.1 place (plain_in w.target.units disks login.unit)) ran may
+
+      empty_by : (o : Outcome) → is_good (Some o) ≡ true → length step.1.answer ≡ answered_length o → 0 ≡ length (to_write (Some o) step.1.answer) → length step.1.answer ≡ 0
+      empty_by (outcomes.Check sense) g size whole = absurd (let z : false ≡ true = g in cc)
+      empty_by (outcomes.Good len) g size whole = by (len == 0) refl whole
+        where
+          by : (t : Bool) → (len == 0) ≡ t → 0 ≡ length (cond t [] step.1.answer) → length step.1.answer ≡ 0
+          by true z none = size ∙ (let none_there : len ≡ 0 = grind (arith, nat_tests) in none_there)
+          by false z none = sym none
+
+      number_is : before_now.ended ≡ ends ms i O.n
+      number_is = heard_ended which M (answer_in p) G.progress ∙ G.is
+
+      cdb_there : step.1.orb.cdb ≡ cmd.cdb
+      cdb_there =
+          let own_orb = good_end.read.0 in
+          let c : command_at ms i O.n (ends ms i O.n) ≡ Some own_orb.cmd = ap (λ j. command_at ms i O.n j) (sym number_is) ∙ own_orb.command in
+          let same : own_orb.cmd ≡ cmd = (let both : Some own_orb.cmd ≡ Some cmd = sym c ∙ command in cc) in
+          ap (λ (x : CommandOrb). x.cdb) own_orb.orb ∙ ap (λ (c : Cmd). c.cdb) same
+
+      pub good_empty : cmd.to_initiator ≡ true → cmd.length ≡ 0
+      good_empty to =
+          let bay = (plain_in w.target.units disks login.unit).medium.is_bay in
+          let len : length step.1.answer ≡ answer_length_of bay step.1.orb.cdb = may_run.size ∙ may_run.len (good_check outcome good_end.by) in
+          sym (filled.answered bay to) ∙ (ap (λ xs. answer_length_of bay xs) (sym cdb_there) ∙ (sym len ∙ empty_by outcome good_end.by may_run.size good_end.whole))
+
+    -- it had run before, or runs now
+    good_before : step.0.ran ≡ None → is_good G.progress.outcome ≡ true
+    good_before none =
+        let x = subst (λ o. IsEnd (orbs ms i O.n) (run_by o step.1.answer before_now) kinds.Good step.1.present step.1.orb step.1.outgoing step.0.ask) none (end_so kinds.Good ended) in
+        ap is_good (sym (heard_outcome which M (answer_in p) G.progress)) ∙ x.by
+
+    -- where an agent writes an answer, its command is of data that go to the initiator
+    inward_of : M.phase ≡ phases.Answering → M.orb.to_initiator ≡ true → (cmd : Cmd) → command_at ms i O.n (ends ms i O.n) ≡ Some cmd → cmd.to_initiator ≡ true
+    inward_of answering way cmd command =
+        let own_orb = (subst (λ ph. Knows (orbs ms i O.n) G.progress ph M) answering G.along.main).told.good.own in
+        let c : command_at ms i O.n (ends ms i O.n) ≡ Some own_orb.cmd = ap (λ j. command_at ms i O.n j) (sym G.is) ∙ own_orb.command in
+        let same : own_orb.cmd ≡ cmd = (let both : Some own_orb.cmd ≡ Some cmd = sym c ∙ command in cc) in
+        both_first cmd.to_initiator (nat_lt 0 cmd.length)
+        (sym (ap (λ (x : CommandOrb). x.to_initiator) own_orb.orb ∙ ap (λ (c : Cmd). c.to_initiator && nat_lt 0 c.length) same) ∙ way)
+      where
+        both_first : (a b : Bool) → (a && b) ≡ true → a ≡ true
+        both_first true b z = refl
+        both_first false b z = z
+
+    good_on : step.0.ran ≡ None → IsWay M → IsEndNow ms i O.n (ends ms i O.n) is_for.serial → IsGoodNow ms i O.n (ends ms i O.n) is_for.serial
+    good_on none way (ends_fresh never) =
+        let ran_before : 0 < runs ms i O.n (ends ms i O.n) = subst (λ j. 0 < runs ms i O.n j) G.is (has_run ms i O.n G.progress.ended G.progress.outcome (good_before none) (G.ran unrun_law)) in
+        absurd (omega (arith, never, ran_before))
+    good_on none way (ends_behind m whole a) =
+        let answering = good_answers (orbs ms i O.n) G.progress M.phase M G.along.main is_open (good_before none) in
+        good_behind m whole a (inward_of answering (way (ap answers answering)) a.cmd a.command)
+
+    good_by : (x : Option Outcome) → step.0.ran ≡ x → IsWay M → IsEndNow ms i O.n (ends ms i O.n) is_for.serial → IsGoodNow ms i O.n (ends ms i O.n) is_for.serial
+    good_by None ran way now = good_on ran way now
+    good_by (Some outcome) ran way now = good_fresh (ran_now outcome ran) (λ cmd command to. good_empty outcome ran cmd command (fills cmd command) to)
+
+    pub reply_good : IsFull M → IsWay M → AreHeard wild ms w → IsGoodNow ms i O.n (ends ms i O.n) is_for.serial
+    reply_good full way heard_so = good_by step.0.ran refl way (reply_ends kinds.Good ended full heard_so (λ z. let differ : kinds.Good ≡ kinds.Failed = z in cc))

@@ -241,6 +241,7 @@ pub record IsEndBy (s : Scene) (run : Option Told) (serial : ℕ) (early : List 
   pub orb : ℕ
   pub status : StatusKind
   pub by : EndedBy s.world.target sent run s.media place orb status
+  pub may : MayTell run sent s.world.target s.media
   pub light : AllLight early
   pub is : ended ≡ ended_note (holder s.world place) (ticket_at s.world place orb) status
 
@@ -313,7 +314,7 @@ module _ (s : Scene) (good : Good s.world.target) (serial : ℕ) (again : Bool) 
     End place orb status = EndedBy w.target one run s.media place orb status
 
     -- what is told behind the note of the packet
-    module _ (zero_to : one.to ≡ 0) (outbox : OutboxState) (node : NodeState) (theirs : AreTheirs outbox.sides) where
+    module _ (zero_to : one.to ≡ 0) (may : MayTell run one w.target s.media) (outbox : OutboxState) (node : NodeState) (theirs : AreTheirs outbox.sides) where
       abbrev noted : Judged → WorldState
       noted judged = with_note (judged_note serial judged) (marked serial again (with_target node w))
 
@@ -370,6 +371,7 @@ module _ (s : Scene) (good : Good s.world.target) (serial : ℕ) (again : Bool) 
               orb = orb;
               status = status;
               by = ended;
+              may = may;
               light = first.light;
               is = note_is;
             })
@@ -389,7 +391,7 @@ module _ (s : Scene) (good : Good s.world.target) (serial : ℕ) (again : Bool) 
         (received_is run serial s one found ∙ ap (λ b. cond b (at_target one.to (target_received run one w.target s.media) s) (initiator_received one s)) (to_zero one.to zero_to))
         ∙ ap (λ n. handed_out n 0 x.1.outbox (with_note (judged_note serial x.0) (marked serial again (with_target x.1.node w)))) zero_to in
         subst (λ (v : WorldState). Delivers (IsEndBy s run) w.fresh v.fresh) (sym last_is)
-        (handed_delivers zero_to x.1.outbox x.1.node (run_theirs _ _ x.1.outbox.sides (delivery_tells w.target good.mid.size good.table.sound one run s.media may)) x.0
+        (handed_delivers zero_to may x.1.outbox x.1.node (run_theirs _ _ x.1.outbox.sides (delivery_tells w.target good.mid.size good.table.sound one run s.media may)) x.0
         (λ place orb status r. ended_got w.target one run s.media place orb status r) (delivery_ends w.target good.mid.size good.table.sound one run s.media))
 
     own_comes : (i : ℕ) → one.to ≡ suc i → i < length w.initiators → C
