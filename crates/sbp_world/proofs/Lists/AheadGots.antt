@@ -212,7 +212,7 @@ module _ (units ready : ℕ) (has : 0 < units) (start : List Disk) {past : List 
     next_is = ap (λ (y : CommandOrb). y.next) (sym (alike.orb wait.is_open)) ∙ x.next
 
     ahead_there : prepared_in ms j slot ≡ Some (named_orb o.n (number_behind m.phase ended))
-    ahead_there = ahead_name units ready has start w h site (q.lists (inl tame)) q.along tame place b wait.is_open x.orb kept x.offset next_is slot x.stands
+    ahead_there = ahead_name units ready has start w h site (q.lists (inl tame)) q.along place b wait.is_open (tame j) x.orb kept x.offset next_is slot x.stands
 
     stored : (k : ℕ) → ended ≤ k → k < (list ms j o.n).linked → IsPrepared ms j (slot_at ms j o.n k) o.n k
     stored k from linked = named_prepared units ready has start w h site place o.n k o.inside (o.named k from linked)

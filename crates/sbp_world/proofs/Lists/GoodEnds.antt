@@ -29,7 +29,7 @@ use Rattle.sbp_world.specs.Hosts.Runs.{more_deliveries}
 use Rattle.sbp_world.specs.Lists.Closes.{Always, Under, WhereTame}
 use Rattle.sbp_world.specs.Lists.EndsWell.{AreInward, EndedWell, GoodEnds, GoodEndsLaw, IsWrittenWell, well_behind, well_fresh}
 use Rattle.sbp_world.specs.Lists.DataWrites.{AreDry, IsAnswered, IsDry}
-use Rattle.sbp_world.specs.Lists.Needs.{IsFor, machine_at}
+use Rattle.sbp_world.specs.Lists.Needs.{IsFor, initiator_in, machine_at}
 use Rattle.sbp_world.proofs.Lists.DataHears.{AreHeard, heard_asked, heard_there}
 use Rattle.sbp_world.proofs.Lists.DataSteps.{IsGoodNow, answers_is, end_named, good_behind, good_fresh, reply_good}
 use Rattle.sbp_world.proofs.Lists.Endless.{AllLight, AllPlain, Delivers, IsEndBy, IsLightNote, IsPlain, OneEnd, Plainly, delivery_comes, light_death, light_plain, light_run, no_end, one_comes, one_end}
@@ -108,7 +108,7 @@ pub record Known (wild : ℕ → Bool) (past : List Moment) (w : WorldState) : T
   pub ready : Ready wild past w
   pub asked_orbs : AreAsked wild (hist past w) w
   pub heard : AreHeard wild (hist past w) w
-  pub full : (q : ℕ) → q < 8 → IsFull (machine_at w q)
+  pub full : (q : ℕ) → q < 8 → wild (initiator_in w q) ≡ false → IsFull (machine_at w q)
   pub ways : (q : ℕ) → q < 8 → IsWay (machine_at w q)
   pub fills : (j n k : ℕ) (cmd : Cmd) → command_at (hist past w) j n k ≡ Some cmd → FillsBuffer cmd
 
@@ -145,7 +145,7 @@ module _ (wild : ℕ → Bool) (i : ℕ) (own : wild i ≡ false) (past : List M
     it =
         reply_good wild past w known.ready known.asked_orbs r.sent is_for run s.media.disks r.by.packet r.by.label r.place r.by.found small r.by.login r.by.which r.by.is_which ours ended_good
         (delivery_may w.target known.ready.good.mid.size known.ready.good.table.sound r.sent run s.media r.may r.by.packet r.by.label r.place r.by.found r.by.login r.by.served r.by.which r.by.is_which)
-        (λ cmd e. known.fills (holder w r.place).initiator n (ends ms (holder w r.place).initiator n) cmd e) (known.full r.place small) (known.ways r.place small) known.heard
+        (λ cmd e. known.fills (holder w r.place).initiator n (ends ms (holder w r.place).initiator n) cmd e) (known.full r.place small ours) (known.ways r.place small) known.heard
 
     names : (list_in (ticket_at w r.place r.orb) ≡ Some n) × (orb_in (ticket_at w r.place r.orb) ≡ Some (ends ms (holder w r.place).initiator n))
     names =
@@ -207,7 +207,7 @@ module _ (wild : ℕ → Bool) (i : ℕ) (own : wild i ≡ false) where
     ready = ready_now wild line event past w k.ready;
     asked_orbs = λ place c is_open mine n list number from below. k.asked_orbs place c is_open mine n list number from below;
     heard = heard;
-    full = λ q b. k.full q b;
+    full = λ q b own. k.full q b own;
     ways = λ q b. k.ways q b;
     fills = λ j n m cmd e. k.fills j n m cmd e;
   }
@@ -279,8 +279,8 @@ Over ms w = AreWhole ms w × AreInward ms w
 
 over_law : Under (WhereTame Over)
 over_law = record {
-  after_lines = λ line run r has small size so_far tame. (whole_law.after_lines line run r has small size so_far tame, ways_law.after_lines line run r has small size so_far tame);
-  between = λ line run r has small size next most told m so_far tame. (whole_law.between line run r has small size next most told m so_far tame, ways_law.between line run r has small size next most told m so_far tame);
+  after_lines = λ line run r has small size so_far tame. (whole_law.after_lines line run r has small size so_far, ways_law.after_lines line run r has small size so_far tame);
+  between = λ line run r has small size next most told m so_far tame. (whole_law.between line run r has small size next most told m so_far, ways_law.between line run r has small size next most told m so_far tame);
 }
 
 ways_of : (ms : List Moment) (w : WorldState) → AreInward ms w → (q : ℕ) → q < 8 → IsWay (machine_at w q)
@@ -295,7 +295,7 @@ ends_walk wild units ready has start past s later t step p i b own =
       asked_orbs = asked_of wild start units ready has w at.holds at.site step.stands.lists at.calm step.known.ground.orbs;
       heard = λ serial sent found zero_to packet label place e is_which c mild answering.
           heard_there wild units ready has start w at.holds at.site step.stands.lists at.calm step.known.ground.orbs (λ p d. at.kept.on p d) serial sent found zero_to packet label place e is_which c mild answering;
-      full = full_of (hist past w) w (step.so_far i own).0;
+      full = full_of wild (hist past w) w at.calm (step.so_far i own).0;
       ways = ways_of (hist past w) w (step.so_far i own).1;
       fills = λ j n k cmd e. commands_fill (hist past w) step.known.filled.fills j n k cmd e;
     } in
