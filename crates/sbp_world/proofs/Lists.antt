@@ -470,6 +470,7 @@ pub mod AnswersCarriedRuns
 pub mod AnswerRuns
 pub mod AnswerComes
 pub mod AnswerDisks
+pub mod AnswersRight
 pub mod AnswersTold
 pub mod DataWhole
 pub mod DataOffice

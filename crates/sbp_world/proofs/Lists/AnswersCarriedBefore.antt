@@ -204,11 +204,11 @@ cut (m ∷ later) B [] serial generation from to bytes before e c low =
 cut (m ∷ later) B (x ∷ front) serial generation from to bytes before e c low =
     cut later B front serial generation from to bytes before (tail_is x m (front ++ said (notes.Sent serial generation from to bytes) ∷ before) (later ++ B) e) (serials_from (m ∷ []) (later ++ B) c) low
 
-module _ {start : List Disk} (i : ℕ) (all later B : List Moment) (at : later ++ B ≡ all) (c : SerialsCount all) (n k serial slot : ℕ) (packet : Sending) where
+module _ (i : ℕ) (all later B : List Moment) (at : later ++ B ≡ all) (c : SerialsCount all) (n k serial slot : ℕ) (packet : Sending) where
   pub counted : SerialsCount (later ++ B)
   counted = subst SerialsCount (sym at) c
 
-  module _ (d : IsDataOf start all i n k serial packet slot) (low : serial ≤ (terms B).count) where
+  module _ {start : List Disk} (d : IsDataOf start all i n k serial packet slot) (low : serial ≤ (terms B).count) where
     pub found : (mid : List Moment) × (mid ++ said (notes.Sent serial packet.generation packet.from packet.to packet.bytes) ∷ d.before ≡ B)
     found = cut later B d.later serial packet.generation packet.from packet.to packet.bytes d.before (d.is ∙ sym at) counted low
 
@@ -224,7 +224,7 @@ module _ {start : List Disk} (i : ℕ) (all later B : List Moment) (at : later +
       number_is = d.number_is;
     }
 
-  module _ (d : IsDataOf start B i n k serial packet slot) where
+  module _ {start : List Disk} (d : IsDataOf start B i n k serial packet slot) where
     abbrev pub out : IsDataOf start all i n k serial packet slot
     out = record {
       sent = record { is = ap (λ ms. (terms ms).sent serial) (sym at) ∙ ((remains later B counted).sent serial (sent_below B serial packet (serials_from later B counted) d.sent.is) ∙ d.sent.is); from_target = d.sent.from_target; to_host = d.sent.to_host };
