@@ -474,6 +474,7 @@ pub mod GoodEnds
 pub mod AnswerRuns
 pub mod AnswerComes
 pub mod AnswerDisks
+pub mod AnswersRight
 pub mod AnswersTold
 pub mod DataWhole
 pub mod DataOffice

@@ -159,4 +159,5 @@ answer_on start more ms now is i n k answer x = record {
   check = x.check;
   is = joined more x.later _ ∙ (ap (λ h. more ++ h) x.is ∙ is);
   told = x.told;
+  size = x.size;
 }

@@ -1,4 +1,7 @@
 -- As a good status is taken, the writes of the data of its ORB have brought the chunks of its buffer, each once and in order; so the answer is their bytes.
+use Rattle.sbp_world.specs.Lists.AnswersCarried.{AreAnswersOf}
+use Rattle.sbp_world.proofs.Lists.FedPieces.{all_bytes}
+use Rattle.std.specs.Prelude.{take}
 use Rattle.rbc_disk.specs.Disk.{Disk}
 use Rattle.std.proofs.Common.{arith, ◌≡◌, ◌∙◌, refl, sym, ap, subst, ◌+◌, ◌^◌, ◌==◌, ℕ, Bool, true, false, cond, List, [], ◌∷◌, ◌++◌, map, Some}
 use Rattle.std.proofs.lemmas.Bool.Decides.{nat_tests}
@@ -80,8 +83,11 @@ module _ (start : List Disk) (wild : ℕ → Bool) (i : ℕ) (own : wild i ≡ f
     of_target : AreOfTarget past i n k cmd
     of_target = ready.of_target ∙ (sym ready.of_buffer ∙ ap (λ b. cond b (written_of past i slot cmd) []) (sym inward))
 
-    pub brought_answer : IsBroughtAnswer past i n k cmd answer
-    brought_answer = record { in_turn = in_turn; of_target = of_target; carried = gathered.carried cmd command (λ e. in_turn) of_target }
+    told : (xs : List ℕ) → AreAnswersOf start past i n k xs → answer ≡ take (bytes_of (laid_out slot cmd cmd.segments)) xs
+    told xs e = gathered.joins cmd command inward in_turn ∙ (ap all_bytes ready.of_buffer ∙ ready.told xs (λ serial place one d. e serial place one d))
+
+    pub brought_answer : IsBroughtAnswer start past i n k cmd answer
+    brought_answer = record { in_turn = in_turn; of_target = of_target; carried = gathered.carried cmd command (λ e. in_turn) of_target; told = told }
 
   -- ---- at each moment of a history
   itself : (a : ℕ) → (a == a) ≡ true

@@ -1,6 +1,8 @@
 -- What brought bytes of the buffer of an ORB whose data go to its initiator, by the moments of a history: the writes of its data, each behind the bytes of the one before it. So these are the target's writes to its pieces since it ran.
+use Rattle.sbp_world.proofs.Lists.FedPieces.{all_bytes, all_more}
+use Rattle.std.specs.Prelude.{drop, take}
 use Rattle.rbc_disk.specs.Disk.{Disk}
-use Rattle.std.proofs.Common.{arith, ◌≡◌, ◌∙◌, refl, sym, ap, subst, ◌<◌, ◌≤◌, ◌+◌, ◌^◌, ◌==◌, ◌&&◌, ℕ, suc, nat_eq, nat_lt, Bool, true, false, cond, List, [], ◌∷◌, ◌++◌, length, map, Option, Some, None}
+use Rattle.std.proofs.Common.{arith, ◌≡◌, ◌∙◌, refl, sym, ap, subst, ◌<◌, ◌≤◌, ◌+◌, ◌^◌, ◌==◌, ◌&&◌, ℕ, zero, suc, nat_eq, nat_lt, Bool, true, false, cond, List, [], ◌∷◌, ◌++◌, length, map, Option, Some, None}
 use Rattle.std.specs.List.{filter}
 use Rattle.std.proofs.lemmas.Bool.Decides.{nat_tests}
 use Rattle.std.proofs.lemmas.List.{append-nil, map-append}
@@ -62,6 +64,19 @@ same_packet a b e = cc
 abbrev pub moved_of : Access → Moved
 moved_of access = record { offset = access.offset; bytes = access.payload }
 
+-- as many bytes of a front as there are
+take_its : (xs : List ℕ) (n : ℕ) → take n xs ≡ take (length (take n xs)) xs
+take_its [] zero = refl
+take_its [] (suc n) = refl
+take_its (x ∷ xs) zero = refl
+take_its (x ∷ xs) (suc n) = ap (λ ys. x ∷ ys) (take_its xs n)
+
+take_both : (n m : ℕ) (xs : List ℕ) → take n xs ++ take m (drop n xs) ≡ take (n + m) xs
+take_both zero m xs = ap (λ k. take k xs) (let z : m ≡ 0 + m = omega arith in z)
+take_both (suc n) zero [] = ap (λ k. take k []) (let z : suc n ≡ suc n + 0 = omega arith in z)
+take_both (suc n) (suc m) [] = ap (λ k. take k []) (let z : suc (n + suc m) ≡ suc n + suc m = omega arith in z)
+take_both (suc n) m (x ∷ xs) = ap (λ ys. x ∷ ys) (take_both n m xs) ∙ ap (λ k. take k (x ∷ xs)) (let z : suc (n + m) ≡ suc n + m = omega arith in z)
+
 module _ (start : List Disk) (wild : ℕ → Bool) (i : ℕ) (own : wild i ≡ false) (all : List Moment) (sound : IsSound start wild i own all) (known : IsKnown wild all i) (apart : AllApart all i) (gots : GotsIn WasSentThen all) (n k slot : ℕ) (small : slot < 32) (cmd : Cmd) (filled : IsFilled slot cmd) (inward : cmd.to_initiator ≡ true) (command : command_at all i n k ≡ Some cmd) where
   abbrev pub segments : List Segment
   segments = laid_out slot cmd cmd.segments
@@ -82,10 +97,19 @@ module _ (start : List Disk) (wild : ℕ → Bool) (i : ℕ) (own : wild i ≡ f
   abbrev pub brought : List Moment → List Moved
   brought past = written_at past i slot own_places
 
+  -- each machine that wrote data of the ORB had this answer
+  abbrev pub AreAnswers : List ℕ → Type 0
+  AreAnswers xs = (serial at : ℕ) (one : Sending) (d : IsDataOf start all i n k serial one at) → d.was.machine.answer ≡ xs
+
+  -- writes brought so many bytes of it
+  abbrev pub AreTold : List Moved → ℕ → Type 0
+  AreTold moved done = (xs : List ℕ) → AreAnswers xs → all_bytes moved ≡ take done xs
+
   -- both end with this write, and what stands before it is of the first chunks, up to so many bytes
   pub record IsBehind (targets buffers : List Moved) (done : ℕ) (access : Access) : Type 0 where
     pub front : List Moved
     pub ready : IsFront segments bound done (map piece_of front)
+    pub told : AreTold front done
     pub of_target : targets ≡ front ++ moved_of access ∷ []
     pub of_buffer : buffers ≡ front ++ moved_of access ∷ []
 
@@ -110,8 +134,18 @@ module _ (start : List Disk) (wild : ℕ → Bool) (i : ℕ) (own : wild i ≡ f
   pub record IsReady (past : List Moment) (done : ℕ) : Type 0 where
     pub front : List Moved
     pub ready : IsFront segments bound done (map piece_of front)
+    pub told : AreTold front done
     pub of_target : to_pieces past ≡ front
     pub of_buffer : brought past ≡ front
+
+  -- a further write brings the bytes behind
+  told_more : (front : List Moved) (serial at : ℕ) (one : Sending) (d : IsDataOf start all i n k serial one at) (xs : List ℕ) → d.was.machine.answer ≡ xs → all_bytes front ≡ take d.was.machine.written xs → all_bytes (front ++ moved_of d.writes.access ∷ []) ≡ take (d.was.machine.written + length d.writes.access.payload) xs
+  told_more front serial at one d xs same had =
+      let access = d.writes.access in
+      let done = d.was.machine.written in
+      let brings : access.payload ≡ take d.was.size (drop done xs) = d.was.bytes ∙ (d.was.piece.bytes ∙ ap (λ ys. take d.was.size (drop done ys)) same) in
+      let cut : access.payload ≡ take (length access.payload) (drop done xs) = brings ∙ (take_its (drop done xs) d.was.size ∙ ap (λ ys. take (length ys) (drop done xs)) (sym brings)) in
+      all_more front (moved_of access) ∙ (ap (λ ys. ys ++ access.payload) had ∙ (ap (λ ys. take done xs ++ ys) cut ∙ take_both done (length access.payload) xs))
 
   -- ---- a history before, in which the slot has the ORB
   module _ (front past : List Moment) (at : front ++ past ≡ all) where
@@ -154,7 +188,7 @@ module _ (start : List Disk) (wild : ℕ → Bool) (i : ℕ) (own : wild i ≡ f
 
     -- behind the latest write of data, which was served
     module _ (prep : prepared_in past i slot ≡ Some (orb n k)) (next done : ℕ) (w : IsWrittenTo start past i n k next done) where
-      whole_then : IsDataOf start all i n k w.serial w.packet w.slot
+      abbrev whole_then : IsDataOf start all i n k w.serial w.packet w.slot
       whole_then = out i all front past at sound.serials n k w.serial w.slot w.packet w.of
 
       piece_len : ℕ
@@ -170,6 +204,8 @@ module _ (start : List Disk) (wild : ℕ → Bool) (i : ℕ) (own : wild i ≡ f
             front = b.front ++ moved_of access ∷ [];
             ready = subst (λ x. IsFront segments bound x (map piece_of (b.front ++ moved_of access ∷ []))) (sym w.done_is)
                 (subst (λ xs. IsFront segments bound (w.of.was.machine.written + length access.payload) xs) (sym (map-append piece_of b.front (moved_of access ∷ []))) more);
+            told = subst (AreTold (b.front ++ moved_of access ∷ [])) (sym w.done_is)
+                (λ xs e. told_more b.front w.serial w.slot w.packet whole_then xs (e w.serial w.slot w.packet whole_then) (b.told xs e));
             of_target = b.of_target;
             of_buffer = b.of_buffer;
           }
@@ -288,7 +324,7 @@ module _ (start : List Disk) (wild : ℕ → Bool) (i : ℕ) (own : wild i ≡ f
         latest = λ other at one d e. l.latest other at one d (old other at one d e);
         so = λ at one d some.
             let b = l.so at one d some in
-            record { front = b.front; ready = b.ready; of_target = targets_same ∙ b.of_target; of_buffer = buffers_same ∙ b.of_buffer };
+            record { front = b.front; ready = b.ready; told = b.told; of_target = targets_same ∙ b.of_target; of_buffer = buffers_same ∙ b.of_buffer };
       })
 
     -- ---- one that writes into the buffer
@@ -366,6 +402,7 @@ module _ (start : List Disk) (wild : ℕ → Bool) (i : ℕ) (own : wild i ≡ f
         begun first zero_there (not_yet f h none) = record {
           front = [];
           ready = subst (λ x. IsFront segments bound x []) (sym zero_there) (front_none segments bound);
+          told = subst (AreTold []) (sym zero_there) (λ xs e. refl);
           of_target = f ran;
           of_buffer = h;
         }
@@ -387,6 +424,7 @@ module _ (start : List Disk) (wild : ℕ → Bool) (i : ℕ) (own : wild i ≡ f
             record {
               front = r.front;
               ready = r.ready;
+              told = r.told;
               of_target = targets_now ∙ (ap (λ xs. xs ++ filter (begins_one own_pieces) (written_by (terms past) i serial)) r.of_target ∙ ap (λ xs. r.front ++ xs) target);
               of_buffer =
                   ap (λ xs. xs ++ touching own_places (cond (is_got_by past i serial) (write_in (packet_at (terms past) serial)) None)) r.of_buffer ∙ ap (λ xs. r.front ++ xs) buffer;

@@ -7,10 +7,10 @@ use Rattle.sbp_target.specs.declared.purpose.Purpose.TheVariants as purposes
 use Rattle.sbp_world.specs.Delivering.{MayTell}
 use Rattle.sbp_target.specs.Nodes.{desk_at}
 use Rattle.label_table.specs.Layer.{judging_step, of_response}
-use Rattle.rbc_disk.specs.Runs.{Told, answer_of, check_in}
+use Rattle.rbc_disk.specs.Runs.{Told, answer_length_of, answer_of, check_in}
 use Rattle.sbp_world.proofs.Lists.Turns.{Ready}
 use Rattle.packet_store.specs.declared.sent.Sent.{Sent}
-use Rattle.std.proofs.Common.{arith, ◌≡◌, refl, sym, ap, subst, ◌<◌, ℕ, zero, suc, Bool, true, false, List, [], Option, Some, None, ◌++◌, IfSome, ◌⊎◌, inl, inr, ◌∙◌, ◌∷◌, map}
+use Rattle.std.proofs.Common.{arith, ◌≡◌, refl, sym, ap, subst, ◌<◌, ℕ, zero, suc, Bool, true, false, List, [], Option, Some, None, ◌++◌, IfSome, ◌⊎◌, inl, inr, ◌∙◌, ◌∷◌, map, length}
 use Rattle.std.specs.Prelude.{slice_index_or, replicate}
 use Rattle.rbc_disk.specs.Disk.{Disk}
 use Rattle.sbp_journal.specs.Run.{Moment, said, asked}
@@ -355,6 +355,13 @@ module _ (wild : ℕ → Bool) (units ready : ℕ) (has : 0 < units) (start : Li
             (subst (λ cdb. IfSome (answer_of cdb (plain_in w.target.units s.media.disks by.login.unit).medium) (λ told. (machine_at v q).answer ≡ told)) (sym by.cdb_is)
             (subst (λ xs. IfSome (answer_of (stepped x.run r.place by.packet by.login by.which).1.orb.cdb (plain_in w.target.units s.media.disks by.login.unit).medium) (λ told. xs ≡ told)) answer_same (by.may.answered good)))
 
+        size_so : length (machine_at v q).answer ≡ answer_length_of (disk_of start base (holder w r.place).unit).is_bay r.cdb
+        size_so =
+            ap length (sym answer_same)
+            ∙ (by.may.size
+            ∙ (by.may.len good
+            ∙ (ap (λ cdb. answer_length_of (plain_in w.target.units s.media.disks by.login.unit).medium.is_bay cdb) (sym by.cdb_is) ∙ ap (λ (d : Disk). answer_length_of d.is_bay r.cdb) (sym disk_is))))
+
         owner_is : (holder w r.place).initiator ≡ i
         owner_is = ap (λ j. initiator_in w j) place_same ∙ sym owner
 
@@ -397,6 +404,7 @@ module _ (wild : ℕ → Bool) (units ready : ℕ) (has : 0 < units) (start : Li
                 subst (λ j. c.more ++ said (notes.Ran j (Some n) (Some k) (holder w r.place).unit r.cdb r.payload (check_of r.outcome)) ∷ base ≡ now) owner_is
                 (subst (λ y. c.more ++ note (Some y) (Some k) ∷ base ≡ now) (sym names.0) (subst (λ y. c.more ++ note (Some m) (Some y) ∷ base ≡ now) (sym names.1) at));
             told = told_so;
+            size = size_so;
           }
 
         by_names : (list number : Option ℕ) → c.more ++ note list number ∷ base ≡ now → PassAt wild (note list number) base → 0 < runs (note list number ∷ base) i n k → Goal

@@ -28,7 +28,7 @@ use Rattle.orb_layout.specs.declared.ask.Ask.TheVariants as asks
 use Rattle.orb_layout.specs.Replies.{Answer, Expired}
 use Rattle.packet_store.specs.declared.sent.Sent.{Sent}
 use Rattle.rbc_disk.specs.Held.{Held}
-use Rattle.rbc_disk.specs.Runs.{Told, answer_of}
+use Rattle.rbc_disk.specs.Runs.{Told, answer_length_of, answer_of}
 use Rattle.rbc_disk.specs.Units.{PlainDisk}
 use Rattle.sbp_bus.specs.Generations.{node_of, topology_at}
 use Rattle.sbp_bus.specs.Packets.{judged_note}
@@ -143,9 +143,13 @@ module _ (disks : List Disk) (wild : ℕ → Bool) (i : ℕ) (own : wild i ≡ f
   abbrev ms : List Moment
   ms = hist past w
 
-  -- the answer that it writes
+  -- the answer that it writes: to its command by what this medium holds
+  record IsAnswerNow (m : Machine) (medium : Disk) : Type 0 where
+    answered : IfSome (answer_of m.orb.cdb medium) (λ told. m.answer ≡ told)
+    size : length m.answer ≡ answer_length_of medium.is_bay m.orb.cdb
+
   data IsToldNow (note : Note) (q n k : ℕ) (one : AgentStep × Machine) : Type 0 where
-    told_first : IsFirstNow ms w q n k one → IfSome (answer_of one.1.orb.cdb (disk_of disks (said note ∷ ms) (holder w q).unit)) (λ told. one.1.answer ≡ told) → IsToldNow note q n k one
+    told_first : IsFirstNow ms w q n k one → IsAnswerNow one.1 (disk_of disks (said note ∷ ms) (holder w q).unit) → IsToldNow note q n k one
     told_before : IsAnswerOf disks ms (initiator_in w q) n k one.1.answer → IsToldNow note q n k one
 
   record IsStepPiece (note : Note) (q : ℕ) (one : AgentStep × Machine) (offset size slot : ℕ) : Type 0 where
@@ -213,7 +217,7 @@ module _ (disks : List Disk) (wild : ℕ → Bool) (i : ℕ) (own : wild i ≡ f
         subst (λ now. 0 < runs now (initiator_in w q) list k) on.is
         (ran_on on.more (hist past u) (initiator_in w q) list k (subst (λ now. 0 < runs now (initiator_in w q) list k) (sym start) (ran_on (said note ∷ []) ms (initiator_in w q) list k ran)))
 
-    answer_told : (q n k : ℕ) (m : Machine) (outcome : Outcome) (told_sides : List Side) → IsFirstRun q m outcome told_sides → list_in (ticket_at w q (orb_of m)) ≡ Some n → orb_in (ticket_at w q (orb_of m)) ≡ Some k → IfSome (answer_of m.orb.cdb (disk_of disks (said note ∷ ms) (holder w q).unit)) (λ told. m.answer ≡ told) → IsAnswerOf disks (hist past (told_all 0 told_sides u)) (initiator_in w q) n k m.answer
+    answer_told : (q n k : ℕ) (m : Machine) (outcome : Outcome) (told_sides : List Side) → IsFirstRun q m outcome told_sides → list_in (ticket_at w q (orb_of m)) ≡ Some n → orb_in (ticket_at w q (orb_of m)) ≡ Some k → IsAnswerNow m (disk_of disks (said note ∷ ms) (holder w q).unit) → IsAnswerOf disks (hist past (told_all 0 told_sides u)) (initiator_in w q) n k m.answer
     unfolding told_all told
     answer_told q n k m outcome told_sides f e g is =
         subst (λ xs. IsAnswerOf disks (hist past (told_all 0 xs u)) (initiator_in w q) n k m.answer) (sym f.is)
@@ -223,6 +227,8 @@ module _ (disks : List Disk) (wild : ℕ → Bool) (i : ℕ) (own : wild i ≡ f
         let same : holder u q ≡ holder w q = ap (λ ps. holder_at ps q) b.places in
         let list_there : list_in (ticket_at u q (orb_of m)) ≡ Some n = ap list_in (ticket_same q (orb_of m)) ∙ e in
         let number_there : orb_in (ticket_at u q (orb_of m)) ≡ Some k = ap orb_in (ticket_same q (orb_of m)) ∙ g in
+        let here : IsAnswerNow m (disk_of disks (hist past u) (holder u q).unit) =
+        subst (λ h. IsAnswerNow m (disk_of disks h (holder u q).unit)) (sym begins) (subst (λ (h : Holder). IsAnswerNow m (disk_of disks (said note ∷ ms) h.unit)) (sym same) is) in
         record {
           later = on.more;
           before = hist past u;
@@ -234,9 +240,8 @@ module _ (disks : List Disk) (wild : ℕ → Bool) (i : ℕ) (own : wild i ≡ f
               subst (λ j. on.more ++ said (notes.Ran j (Some n) (Some k) (holder u q).unit m.orb.cdb m.payload (check_of outcome)) ∷ hist past u ≡ hist past (told_all 0 f.more v)) (ap (λ (h : Holder). h.initiator) same)
               (subst (λ x. on.more ++ said (notes.Ran (holder u q).initiator x (Some k) (holder u q).unit m.orb.cdb m.payload (check_of outcome)) ∷ hist past u ≡ hist past (told_all 0 f.more v)) list_there
               (subst (λ x. on.more ++ said (notes.Ran (holder u q).initiator (list_in (ticket_at u q (orb_of m))) x (holder u q).unit m.orb.cdb m.payload (check_of outcome)) ∷ hist past u ≡ hist past (told_all 0 f.more v)) number_there on.is));
-          told =
-              subst (λ h. IfSome (answer_of m.orb.cdb (disk_of disks h (holder u q).unit)) (λ told. m.answer ≡ told)) (sym begins)
-              (subst (λ (h : Holder). IfSome (answer_of m.orb.cdb (disk_of disks (said note ∷ ms) h.unit)) (λ told. m.answer ≡ told)) (sym same) is);
+          told = here.answered;
+          size = here.size;
         })
 
     answer_by : (q n k : ℕ) (one : AgentStep × Machine) (told_sides : List Side) → IsToldNow note q n k one → RunsFirst q one told_sides → IsAnswerOf disks (hist past (told_all 0 told_sides u)) (initiator_in w q) n k one.1.answer
@@ -411,9 +416,8 @@ module _ (disks : List Disk) (wild : ℕ → Bool) (i : ℕ) (own : wild i ≡ f
           by : IsTurnNow ms w place O.n (ends ms (initiator_in w place) O.n) step is_for.serial → IsToldNow first_note place O.n (ends ms (initiator_in w place) O.n) step
           by (now_first y) =
               let it = subst (λ x. agent_runs.MayTell x step.1 place (plain_in w.target.units media.disks login.unit)) y.ran may_tell in
-              told_first y
-              (subst (λ d. IfSome (answer_of step.1.orb.cdb d) (λ told. step.1.answer ≡ told)) (sym medium_is)
-              (it.answered (ran_well wild past w r asked sent is_for run media.disks p label place f b login which e ours may_tell prepared answered.fills (full place b ours) then y.outcome y.ran)))
+              let good = ran_well wild past w r asked sent is_for run media.disks p label place f b login which e ours may_tell prepared answered.fills (full place b ours) then y.outcome y.ran in
+              told_first y (subst (λ d. IsAnswerNow step.1 d) (sym medium_is) (record { answered = it.answered good; size = it.size ∙ it.len good }))
           by (now_follows ran x) = behind ran step.0.ran refl
 
     reply_so : (p : Packet) (label : LabelParts) (place : ℕ) → (judging_step w.target.layer sent.generation sent.bytes).0 ≡ of_response p label (Some (purposes.Agent place)) → (b : place < 8) (login : Login) → served_login w.target place ≡ Some login → (which : Which) → which_in (desk_at w.target place) (header_in p).source label ≡ Some which → StepSo first_note (EndedBy w.target sent run media) place (reply_step (machine_at w place) place (plain_in w.target.units media.disks login.unit) run which (answer_in p))

@@ -5,7 +5,7 @@ use Rattle.sbp_journal.specs.Run.{Moment, said}
 use Rattle.sbp_journal.specs.declared.note.Note.TheVariants as notes
 use Rattle.sbp_journal.specs.declared.note.NoteBuffer.{NoteBuffer}
 use Rattle.sbp_laws.specs.Lists.{Orb, cmd_of, command_at, lowest_vacant, orb, prepared_in, slot_at, slots}
-use Rattle.sbp_laws.specs.Terms.{appends}
+use Rattle.sbp_laws.specs.Terms.{appends, request_at}
 use Rattle.sbp_laws.specs.Turns.{event_of}
 use Rattle.sbp_world.proofs.Lists.Passing.{PassLaw}
 
@@ -60,6 +60,14 @@ module _ (i n k : ℕ) where
         let more = appends_grow later before in
         other_append (command_at (later ++ before) i n k) (cmd_of (event_of (later ++ before))) (later ++ before) j m l law.0.next.number (omega (arith, b, more)) ∙ command_lasts later before law.1 b
     command_lasts (_ ∷ later) before law b = command_lasts later before law.1 b
+
+    -- and what its append asked for
+    pub request_lasts : (later before : List Moment) → PassLaw wild (later ++ before) → k < appends before i n → request_at (later ++ before) i n k ≡ request_at before i n k
+    request_lasts [] before law b = refl
+    request_lasts (said (notes.Append j m l cdb buffer) ∷ later) before law b =
+        let more = appends_grow later before in
+        other_append (request_at (later ++ before) i n k) (Some (record { cdb = cdb; buffer = buffer })) (later ++ before) j m l law.0.next.number (omega (arith, b, more)) ∙ request_lasts later before law.1 b
+    request_lasts (_ ∷ later) before law b = request_lasts later before law.1 b
 
     pub prepared_below : (past : List Moment) → PassLaw wild past → (slot : ℕ) → prepared_in past i slot ≡ Some (orb n k) → k < appends past i n
     prepared_below [] law slot e = absurd (let z : None ≡ Some (orb n k) = e in cc)

@@ -2,7 +2,9 @@
 -- in. Then the writes to the chunks of the ORB's buffer that the initiator got since the run are the writes that brought bytes of this buffer since the append; they are its chunks, each once and in order; and the answer is their
 -- payloads, joined. So it is at each place of a run in which no initiator injected packets, before which lists were open as they should be.
 use Rattle.rbc_disk.specs.Disk.{Disk}
-use Rattle.std.specs.Prelude.{◌≡◌, ◌<◌, ℕ, suc, true, List, length, Some}
+use Rattle.std.specs.Prelude.{◌≡◌, ◌<◌, ℕ, suc, take, true, List, length, Some}
+use Rattle.page_table.specs.Buffer.{bytes_of}
+use Rattle.sbp_laws.specs.CarriedBytes.{laid_out}
 use Rattle.orb_layout.specs.declared.status.StatusKind.TheVariants as kinds
 use Rattle.sbp_journal.specs.declared.event.Cmd.{Cmd}
 use Rattle.sbp_journal.specs.declared.note.Note.TheVariants as notes
@@ -26,14 +28,20 @@ pub record WereDataWritten (start : List Disk) (past : List Moment) (i n k : ℕ
   pub of : IsDataOf start past i n k serial packet slot
   pub current : packet.generation ≡ (terms past).generation (suc i)
 
+-- each machine that wrote data of an ORB had this answer
+abbrev pub AreAnswersOf : List Disk → List Moment → (i n k : ℕ) → List ℕ → Type 0
+AreAnswersOf start past i n k xs = (serial slot : ℕ) (packet : Sending) (d : IsDataOf start past i n k serial packet slot) → d.was.machine.answer ≡ xs
+
 -- The answer is what these writes brought: they are the chunks of the buffer in turn, and those that the initiator got since the run.
-pub record IsBroughtAnswer (past : List Moment) (i n k : ℕ) (cmd : Cmd) (answer : List ℕ) : Type 0 where
+pub record IsBroughtAnswer (start : List Disk) (past : List Moment) (i n k : ℕ) (cmd : Cmd) (answer : List ℕ) : Type 0 where
   pub in_turn : AreInTurn past i (slot_at past i n k) cmd
   pub of_target : AreOfTarget past i n k cmd
   pub carried : AnswerIsCarried past i n k answer
+  -- and it is of the answer that every machine had which wrote data of the ORB
+  pub told : (xs : List ℕ) → AreAnswersOf start past i n k xs → answer ≡ take (bytes_of (laid_out (slot_at past i n k) cmd cmd.segments)) xs
 
 abbrev pub BroughtOf : List Disk → ℕ → Moment → List Moment → Type 0
-BroughtOf start i (said (notes.Taken j n k kinds.Good answer)) past = j ≡ i → (cmd : Cmd) → command_at past i n k ≡ Some cmd → cmd.to_initiator ≡ true → WereDataWritten start past i n k → IsBroughtAnswer past i n k cmd answer
+BroughtOf start i (said (notes.Taken j n k kinds.Good answer)) past = j ≡ i → (cmd : Cmd) → command_at past i n k ≡ Some cmd → cmd.to_initiator ≡ true → WereDataWritten start past i n k → IsBroughtAnswer start past i n k cmd answer
 BroughtOf start i moment past = Unit {0}
 
 -- each one that an initiator takes which injected no packets

@@ -1,9 +1,9 @@
 -- The bytes of the answers that the target writes (RBC; NCITS 325-1998, command block ORB): while an agent writes the answer of its present ORB, the command of this ORB ran, and the answer is the one
 -- that the plain disk had for that command as it ran, where the medium tells its bytes. At each place of a run before which lists were open as they should be, of the initiators that injected no packets.
-use Rattle.std.specs.Prelude.{◌≡◌, ◌<◌, ℕ, List, ◌∷◌, ◌++◌, Option, Some, IfSome, IsSomeAnd}
+use Rattle.std.specs.Prelude.{◌≡◌, ◌<◌, ℕ, List, ◌∷◌, ◌++◌, Option, Some, IfSome, IsSomeAnd, length}
 use Rattle.command_agent.specs.declared.phase.Phase.TheVariants as phases
 use Rattle.rbc_disk.specs.Disk.{Disk}
-use Rattle.rbc_disk.specs.Runs.{answer_of}
+use Rattle.rbc_disk.specs.Runs.{answer_length_of, answer_of}
 use Rattle.rbc_command.specs.declared.sense.Sense.{Sense}
 use Rattle.sbp_journal.specs.Run.{Moment, said}
 use Rattle.sbp_journal.specs.declared.note.Note.TheVariants as notes
@@ -26,6 +26,7 @@ pub record IsAnswerOf (start : List Disk) (past : List Moment) (i n k : ℕ) (an
   pub check : Option Sense
   pub is : later ++ said (notes.Ran i (Some n) (Some k) unit cdb bytes check) ∷ before ≡ past
   pub told : IfSome (answer_of cdb (disk_of start before unit)) (λ told. answer ≡ told)
+  pub size : length answer ≡ answer_length_of (disk_of start before unit).is_bay cdb
 
 -- and this is the medium as it was before the ORB ran, and the command that was asked for
 pub record IsAnswerBefore (start : List Disk) (past : List Moment) (i n k : ℕ) (answer : List ℕ) : Type 0 where
