@@ -1,38 +1,32 @@
 -- In every run in which no initiator injected packets, where lists were open as they should be before, the answers of good statuses are what the data writes of their ORBs brought.
-use Rattle.std.proofs.Common.{◌∙◌, subst, ◌<◌, List, [], ◌∷◌, ◌++◌, map}
-use Rattle.sbp_journal.specs.declared.note.Note.TheVariants as notes
-use Rattle.sbp_journal.specs.Run.{Moment, asked, said}
+use Rattle.std.proofs.Common.{inl, ◌∙◌, subst, ◌<◌, ◌∷◌, ◌++◌, map}
+use Rattle.sbp_journal.specs.Run.{asked, said}
 use Rattle.sbp_laws.specs.Lawful.{injectors}
 use Rattle.sbp_world.specs.Histories.{history_of}
 use Rattle.sbp_world.specs.Runs.{after, beginning}
 use Rattle.sbp_world.specs.Settling.{after_all}
 use Rattle.sbp_world.specs.Worlds.{begun}
 use Rattle.sbp_world.specs.Hosts.Runs.{more_deliveries}
-use Rattle.sbp_world.proofs.Hosts.Deliveries.{GotsIn}
+use Rattle.sbp_world.proofs.Hosts.AnswerRuns.{taken_law}
 use Rattle.sbp_world.proofs.Hosts.Gathered.{gathered_law}
+use Rattle.sbp_world.specs.Lists.EndsWell.{GoodEndsLaw}
+use Rattle.sbp_world.proofs.Lists.Sights.{sights_after, sights_between}
+use Rattle.sbp_world.proofs.Lists.StatusLaws.{status_of_run_law}
 use Rattle.sbp_world.proofs.Hosts.Runs.{count_after, count_between}
 use Rattle.sbp_world.specs.Lists.AnswersCarried.{AnswersBroughtLaw}
 use Rattle.sbp_world.specs.Lists.Closes.{Under, WhereTame, WhereTameOrFew}
 use Rattle.sbp_world.specs.Lists.DataEnds.{AllEndSo}
 use Rattle.sbp_world.specs.Lists.DataWrites.{AllDataSo}
 use Rattle.sbp_world.specs.Lists.Statuses.{AllStatuses}
-use Rattle.sbp_world.proofs.Lists.AnswersCarriedBefore.{WasSentThen}
 use Rattle.sbp_world.proofs.Lists.AnswersCarriedLines.{fit_after, fit_said, more_fit}
 use Rattle.sbp_world.proofs.Lists.AnswersCarriedTaken.{each_brought}
 use Rattle.sbp_world.proofs.Lists.DataServing.{delivers, known_after, known_between, sound_after, sound_between}
 use Rattle.sbp_world.proofs.Lists.ManageLaws as manage
-use Rattle.sbp_world.proofs.Lists.ManageWire.{WireMoments}
 use Rattle.sbp_world.proofs.Lists.SlotShut.{apart_between, apart_of}
 use Rattle.sbp_world.proofs.Lists.StatusRuns.{delivering}
 
-gots_of : (past : List Moment) → WireMoments past → GotsIn WasSentThen past
-gots_of [] w = tt
-gots_of (said (notes.Got serial) ∷ past) w = ((w.0.packet, w.0.sent), gots_of past w.1)
-gots_of (asked line event ∷ past) w = gots_of past w.1
-gots_of (said note ∷ past) w = gots_of past w.1
-
-pub answers_brought_law : Under (WhereTame AllDataSo) → Under (WhereTame AllEndSo) → Under (WhereTameOrFew AllStatuses) → AnswersBroughtLaw
-answers_brought_law data_so ends_so statuses = record {
+pub answers_brought_law : Under (WhereTame AllDataSo) → Under (WhereTame AllEndSo) → Under (WhereTameOrFew AllStatuses) → GoodEndsLaw → AnswersBroughtLaw
+answers_brought_law data_so ends_so statuses good_ends = record {
   after_lines = λ line run r has small size so_far tame i b calm.
       let H = history_of line run in
       let inside = subst (λ n. i < n) (count_after run run.entries) b in
@@ -41,10 +35,13 @@ answers_brought_law data_so ends_so statuses = record {
         sound = sound_after data_so ends_so statuses line run r has small size so_far tame i b calm;
         known = known_after data_so ends_so statuses line run r has small size so_far i b;
         apart = apart_of line run r i inside;
-        gots = gots_of H (manage.known_after line run r).wire.moments;
+        wires = (manage.known_after line run r).wire.moments;
+        sights = sights_after line run r;
+        good = good_ends.after_lines line run r has small size so_far tame i b calm;
+        of_one = (status_of_run_law statuses).places.after_lines line run r has small size so_far (inl tame) i b calm;
         fit = fit_after line run r.lines;
       })
-      (λ later before n k answer e. gathered_law.answers line run r i inside later before n k answer e);
+      (λ later before n k answer e. record { held = taken_law.answers line run r i inside later before n k answer e; gathered = gathered_law.answers line run r i inside later before n k answer e });
   between = λ line run r has small size next most told m so_far tame i b calm.
       let last = after (beginning run) run.entries in
       let w = (after_all told (begun last)).world in
@@ -55,8 +52,11 @@ answers_brought_law data_so ends_so statuses = record {
         sound = sound_between data_so ends_so statuses line run r has small size next most told m so_far tame i b calm;
         known = known_between data_so ends_so statuses line run r has small size next most told m so_far i b;
         apart = apart_between line run r next (more_deliveries most) told (delivering (more_deliveries most) told (delivers most)) m i inside;
-        gots = gots_of H (manage.known_between line run r next most told m).wire.moments;
+        wires = (manage.known_between line run r next most told m).wire.moments;
+        sights = sights_between line run r next most told m;
+        good = good_ends.between line run r has small size next most told m so_far tame i b calm;
+        of_one = (status_of_run_law statuses).places.between line run r has small size next most told m so_far (inl tame) i b calm;
         fit = fit_said w.fresh _ (more_fit most, fit_after line run r.lines);
       })
-      (λ later before n k answer e. gathered_law.between line run r next most told m i inside later before n k answer e);
+      (λ later before n k answer e. record { held = taken_law.between line run r next most told m i inside later before n k answer e; gathered = gathered_law.between line run r next most told m i inside later before n k answer e });
 }
