@@ -471,6 +471,8 @@ pub mod AnswersCarriedRuns
 pub mod AnswerWays
 pub mod AnswerWayRuns
 pub mod GoodEnds
+pub mod Sights
+pub mod AnswersCarriedEnds
 pub mod AnswerRuns
 pub mod AnswerComes
 pub mod AnswerDisks

@@ -120,6 +120,7 @@ pub use of_lists::data_are_written_in_sequence;
 pub use of_lists::data_that_were_served_were_got;
 pub use of_lists::ended_lists_were_open;
 pub use of_lists::few_logins_are_given;
+pub use of_lists::good_ends_come_behind_the_last_chunk;
 pub use of_lists::initiators_find_the_management_agent;
 pub use of_lists::initiators_get_data_in_sequence;
 pub use of_lists::initiators_have_one_agent_up;

@@ -37,6 +37,7 @@ ghost use Rattle.sbp_world.specs.Lists.ReadOrbs.{ReadOrbsLaw};
 ghost use Rattle.sbp_world.specs.Lists.AnswerLengths.{AnswerLengthsLaw};
 ghost use Rattle.sbp_world.specs.Lists.AnswersTold.{AnswersToldLaw};
 ghost use Rattle.sbp_world.specs.Lists.EndReads.{EndsReadLaw};
+ghost use Rattle.sbp_world.specs.Lists.EndsWell.{GoodEndsLaw};
 ghost use Rattle.sbp_world.specs.Lists.DataEnds.{AnswersEndLaw};
 ghost use Rattle.sbp_world.specs.Lists.AnswersCarried.{AnswersBroughtLaw};
 ghost use Rattle.sbp_world.specs.Lists.DataGots.{DataGotsLaw, ServedGotLaw};
@@ -589,13 +590,21 @@ pub fn data_that_were_served_were_got()
     ensures { ServedGotLaw }
 {}
 
-/// In every run in which no initiator injected packets, where lists were open as they should be before, a good status is taken of an ORB
-/// whose data go to its initiator, and of which the target wrote data in the generation that the initiator is in. Then what brought
-/// bytes of its buffer since the append are the writes to its chunks that the initiator got since the run; they are these chunks, each
-/// once and in order; and the answer is their payloads, joined, as the carried law says.
+/// In every run in which no initiator injected packets, where lists were open as they should be before, the answer of each good status
+/// that is taken is, as the carried law says, the payloads, joined, of the writes to the chunks of its ORB's buffer that the initiator
+/// got since the run. Where the data of the ORB go to it, these are what brought bytes of the buffer since the append, and are its
+/// chunks, each once and in order; where they do not, it got none.
 #[tactic(auto, using(crate::proofs::Lists::Clauses::answers_brought))]
 pub fn answers_are_what_data_writes_brought()
     ensures { AnswersBroughtLaw }
+{}
+
+/// In every run in which no initiator injected packets, where lists were open as they should be before, an ORB whose data go to its
+/// initiator, in a buffer with bytes, ends good in the turn in which the target gets the answer, with rcode 0, to the write of the last
+/// chunk of its answer; one whose data do not, in the turn in which it runs.
+#[tactic(auto, using(crate::proofs::Lists::DataLaws::good_law))]
+pub fn good_ends_come_behind_the_last_chunk()
+    ensures { GoodEndsLaw }
 {}
 
 /// In every run in which no initiator injected packets, where lists were open as they should be before, the answer that an agent writes

@@ -10,7 +10,8 @@ use Rattle.sbp_journal.specs.declared.note.Note.TheVariants as notes
 use Rattle.sbp_laws.specs.CarriedBytes.{is_run_of, was_got}
 use Rattle.sbp_laws.specs.Lists.{lowest_vacant, orb, prepared_in, slot_at, slots}
 use Rattle.sbp_laws.specs.Targets.{is_serial}
-use Rattle.sbp_laws.specs.Terms.{appends, runs}
+use Rattle.orb_layout.specs.declared.status.StatusKind.{StatusKind}
+use Rattle.sbp_laws.specs.Terms.{appends, ran_status, runs, status_of}
 use Rattle.rbc_command.specs.declared.sense.Sense.{Sense}
 use Rattle.sbp_world.proofs.Hosts.Deliveries.{GotsIn, find_got}
 use Rattle.sbp_world.proofs.Hosts.Remaining.{remains}
@@ -91,6 +92,15 @@ got_low past serial c gots e =
     let same : (terms (front ++ w.before)).count ≡ (terms past).count = ap (λ ms. (terms ms).count) whole in
     omega (arith, low, more, same)
 
+-- ---- an ORB whose data were written
+-- the target wrote data of it in the generation that its initiator is in
+pub record WereDataWritten (start : List Disk) (past : List Moment) (i n k : ℕ) : Type 0 where
+  pub serial : ℕ
+  pub slot : ℕ
+  pub packet : Sending
+  pub of : IsDataOf start past i n k serial packet slot
+  pub current : packet.generation ≡ (terms past).generation (suc i)
+
 -- ---- an ORB that ran
 -- its run was told
 abbrev pub has_run : List Moment → (i n k : ℕ) → Bool
@@ -121,6 +131,43 @@ run_told (said (notes.Ran j list number unit cdb bytes check) ∷ past) i n k so
     by true e = refl
     by false e = e
 run_told (m ∷ past) i n k some = run_told past i n k some
+
+-- and so it did where it ran with a status
+pub ran_told : (past : List Moment) (i n k : ℕ) (status : StatusKind) → ran_status past i n k ≡ Some status → has_run past i n k ≡ true
+ran_told [] i n k status e = absurd (let z : None ≡ Some status = e in cc)
+ran_told (said (notes.Ran j (Some m) (Some l) unit cdb bytes check) ∷ past) i n k status e = by (nat_eq i j) (nat_eq n m) (nat_eq k l) refl refl refl (λ f. ran_told past i n k status f) e
+  where
+    kept : (b : Bool) → has_run past i n k ≡ true → cond b true (has_run past i n k) ≡ true
+    kept true e = refl
+    kept false e = e
+
+    by : (x y z : Bool) → nat_eq i j ≡ x → nat_eq n m ≡ y → nat_eq k l ≡ z → (ran_status past i n k ≡ Some status → has_run past i n k ≡ true) → cond x (cond y (cond z (Some (status_of check)) (ran_status past i n k)) (ran_status past i n k)) (ran_status past i n k) ≡ Some status → cond ((i == j) && (m == n) && (l == k)) true (has_run past i n k) ≡ true
+    by true true true e f g again more =
+        let a : (i == j) ≡ true = grind (arith, nat_tests, e) in
+        let b : (m == n) ≡ true = grind (arith, nat_tests, f) in
+        let c : (l == k) ≡ true = grind (arith, nat_tests, g) in
+        ap (λ x. cond (x && (m == n) && (l == k)) true (has_run past i n k)) a ∙ (ap (λ x. cond (x && (l == k)) true (has_run past i n k)) b ∙ ap (λ x. cond x true (has_run past i n k)) c)
+    by true true false e f g again more = kept ((i == j) && (m == n) && (l == k)) (again more)
+    by true false z e f g again more = kept ((i == j) && (m == n) && (l == k)) (again more)
+    by false y z e f g again more = kept ((i == j) && (m == n) && (l == k)) (again more)
+ran_told (said (notes.Ran j list number unit cdb bytes check) ∷ past) i n k status e = by (is_run_of i n k j list number) (ran_told past i n k status e)
+  where
+    by : (b : Bool) → has_run past i n k ≡ true → cond b true (has_run past i n k) ≡ true
+    by true e = refl
+    by false e = e
+ran_told (m ∷ past) i n k status e = ran_told past i n k status e
+
+run_still : (m : Moment) (past : List Moment) (i n k : ℕ) → has_run past i n k ≡ true → has_run (m ∷ past) i n k ≡ true
+run_still (said (notes.Ran j list number unit cdb bytes check)) past i n k e = by (is_run_of i n k j list number)
+  where
+    by : (b : Bool) → cond b true (has_run past i n k) ≡ true
+    by true = refl
+    by false = e
+run_still m past i n k e = e
+
+pub run_on : (later past : List Moment) (i n k : ℕ) → has_run past i n k ≡ true → has_run (later ++ past) i n k ≡ true
+run_on [] past i n k e = e
+run_on (m ∷ later) past i n k e = run_still m (later ++ past) i n k (run_on later past i n k e)
 
 -- the note of its run
 pub record IsItsRun (i n k j : ℕ) (list number : Option ℕ) : Type 0 where

@@ -1,8 +1,8 @@
--- What brought bytes of the buffer of an ORB whose data go to its initiator, by the moments of a history: the writes of its data, each behind the bytes of the one before it. So these are the target's writes to its pieces since it ran.
+-- What brought bytes of the buffer of an ORB whose data go to its initiator, or of which the target wrote none, by the moments of a history: the writes of its data, each behind the bytes of the one before it. So these are the target's writes to its pieces since it ran.
 use Rattle.sbp_world.proofs.Lists.FedPieces.{all_bytes, all_more}
 use Rattle.std.specs.Prelude.{drop, take}
 use Rattle.rbc_disk.specs.Disk.{Disk}
-use Rattle.std.proofs.Common.{arith, ◌≡◌, ◌∙◌, refl, sym, ap, subst, ◌<◌, ◌≤◌, ◌+◌, ◌^◌, ◌==◌, ◌&&◌, ℕ, zero, suc, nat_eq, nat_lt, Bool, true, false, cond, List, [], ◌∷◌, ◌++◌, length, map, Option, Some, None}
+use Rattle.std.proofs.Common.{inl, inr, ◌⊎◌, arith, ◌≡◌, ◌∙◌, refl, sym, ap, subst, ◌<◌, ◌≤◌, ◌+◌, ◌^◌, ◌==◌, ◌&&◌, ℕ, zero, suc, nat_eq, nat_lt, Bool, true, false, cond, List, [], ◌∷◌, ◌++◌, length, map, Option, Some, None}
 use Rattle.std.specs.List.{filter}
 use Rattle.std.proofs.lemmas.Bool.Decides.{nat_tests}
 use Rattle.std.proofs.lemmas.List.{append-nil, map-append}
@@ -77,7 +77,7 @@ take_both (suc n) zero [] = ap (λ k. take k []) (let z : suc n ≡ suc n + 0 = 
 take_both (suc n) (suc m) [] = ap (λ k. take k []) (let z : suc (n + suc m) ≡ suc n + suc m = omega arith in z)
 take_both (suc n) m (x ∷ xs) = ap (λ ys. x ∷ ys) (take_both n m xs) ∙ ap (λ k. take k (x ∷ xs)) (let z : suc (n + m) ≡ suc n + m = omega arith in z)
 
-module _ (start : List Disk) (wild : ℕ → Bool) (i : ℕ) (own : wild i ≡ false) (all : List Moment) (sound : IsSound start wild i own all) (known : IsKnown wild all i) (apart : AllApart all i) (gots : GotsIn WasSentThen all) (n k slot : ℕ) (small : slot < 32) (cmd : Cmd) (filled : IsFilled slot cmd) (inward : cmd.to_initiator ≡ true) (command : command_at all i n k ≡ Some cmd) where
+module _ (start : List Disk) (wild : ℕ → Bool) (i : ℕ) (own : wild i ≡ false) (all : List Moment) (sound : IsSound start wild i own all) (known : IsKnown wild all i) (apart : AllApart all i) (gots : GotsIn WasSentThen all) (n k slot : ℕ) (small : slot < 32) (cmd : Cmd) (filled : IsFilled slot cmd) (way : (cmd.to_initiator ≡ true) ⊎ ((serial place : ℕ) (packet : Sending) → IsDataOf start all i n k serial packet place → ⊥)) (command : command_at all i n k ≡ Some cmd) where
   abbrev pub segments : List Segment
   segments = laid_out slot cmd cmd.segments
 
@@ -416,19 +416,23 @@ module _ (start : List Disk) (wild : ℕ → Bool) (i : ℕ) (own : wild i ≡ f
         ready_now = by_reached ((in_sequence start wild i own past sound_past).each n k serial slot packet it (got.now_current start wild i own past serial known_now sound_now n k slot packet it))
 
         behind_slot : 0 < length d.writes.access.payload → IsBehind (to_pieces now) (brought now) d.was.machine.written d.writes.access
-        behind_slot long =
-            let r = ready_now in
-            let there = command_there behind_it past whole prep in
-            let target = got.of_target start wild i own past serial known_now sound_now n k slot packet it small cmd filled there inward long (map piece_of r.front) r.ready in
-            let buffer = got.of_buffer start wild i own past serial known_now sound_now n k slot packet it small cmd filled there inward long in
-            record {
-              front = r.front;
-              ready = r.ready;
-              told = r.told;
-              of_target = targets_now ∙ (ap (λ xs. xs ++ filter (begins_one own_pieces) (written_by (terms past) i serial)) r.of_target ∙ ap (λ xs. r.front ++ xs) target);
-              of_buffer =
-                  ap (λ xs. xs ++ touching own_places (cond (is_got_by past i serial) (write_in (packet_at (terms past) serial)) None)) r.of_buffer ∙ ap (λ xs. r.front ++ xs) buffer;
-            }
+        behind_slot long = by_way way
+          where
+            by_way : (cmd.to_initiator ≡ true) ⊎ ((serial place : ℕ) (packet : Sending) → IsDataOf start all i n k serial packet place → ⊥) → IsBehind (to_pieces now) (brought now) d.was.machine.written d.writes.access
+            by_way (inr none) = absurd (none serial slot packet d)
+            by_way (inl inward) =
+                let r = ready_now in
+                let there = command_there behind_it past whole prep in
+                let target = got.of_target start wild i own past serial known_now sound_now n k slot packet it small cmd filled there inward long (map piece_of r.front) r.ready in
+                let buffer = got.of_buffer start wild i own past serial known_now sound_now n k slot packet it small cmd filled there inward long in
+                record {
+                  front = r.front;
+                  ready = r.ready;
+                  told = r.told;
+                  of_target = targets_now ∙ (ap (λ xs. xs ++ filter (begins_one own_pieces) (written_by (terms past) i serial)) r.of_target ∙ ap (λ xs. r.front ++ xs) target);
+                  of_buffer =
+                      ap (λ xs. xs ++ touching own_places (cond (is_got_by past i serial) (write_in (packet_at (terms past) serial)) None)) r.of_buffer ∙ ap (λ xs. r.front ++ xs) buffer;
+                }
 
       behind_now : (place : ℕ) (packet : Sending) (d : IsDataOf start all i n k serial packet place) → 0 < length d.writes.access.payload → IsBehind (to_pieces now) (brought now) d.was.machine.written d.writes.access
       behind_now place packet d =
@@ -570,7 +574,7 @@ module _ (start : List Disk) (wild : ℕ → Bool) (i : ℕ) (own : wild i ≡ f
 
   -- ---- where the slot has the ORB now
   module _ (there : prepared_in all i slot ≡ Some (orb n k)) where
-    tracked_now : Tracked all
+    pub tracked_now : Tracked all
     tracked_now = tracks all [] refl there
 
     -- behind the write that ended with the buffer

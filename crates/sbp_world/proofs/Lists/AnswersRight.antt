@@ -18,7 +18,8 @@ use Rattle.sbp_laws.specs.Targets.{disk_of}
 use Rattle.sbp_laws.specs.Terms.{Request, appends, request_at}
 use Rattle.sbp_world.specs.Hosts.Orbs.{request_of}
 use Rattle.sbp_world.specs.Lists.AnswerLengths.{HasLength}
-use Rattle.sbp_world.specs.Lists.AnswersCarried.{AreAnswersOf, IsBroughtAnswer, WereDataWritten}
+use Rattle.sbp_world.proofs.Lists.AnswersCarriedBefore.{WereDataWritten}
+use Rattle.sbp_world.proofs.Lists.AnswersCarriedTaken.{AreAnswersOf}
 use Rattle.sbp_world.specs.Lists.AnswersTold.{IsAnswerBefore, IsAnswerOf}
 use Rattle.sbp_world.specs.Lists.DataServes.{IsDataOf}
 use Rattle.sbp_world.proofs.Lists.AnswerChecks.{told_none}
@@ -100,15 +101,15 @@ module _ (start : List Disk) (wild : ℕ → Bool) (i : ℕ) (own : wild i ≡ f
     IsTold = IfSome (answer_of h.cmd.cdb h.disk) (λ told. answer ≡ told)
 
     -- where data were written
-    module _ (w : WereDataWritten start past i n k) (b : IsBroughtAnswer start past i n k h.cmd answer) where
+    module _ (w : WereDataWritten start past i n k) (count : ℕ) (brings : (xs : List ℕ) → AreAnswersOf start wild i own past n k xs → answer ≡ take count xs) where
       by_told : (xs : List ℕ) → answer_of h.cmd.cdb h.disk ≡ Some xs → answer ≡ xs
       by_told xs e =
-          let each : AreAnswersOf start past i n k xs =
+          let each : AreAnswersOf start wild i own past n k xs =
           λ serial slot packet d. subst (λ (o : Option (List ℕ)). IfSome o (λ told. d.was.machine.answer ≡ told)) e (told_here serial slot packet d h.cmd h.request h.disk h.ran) in
-          let cut = b.told xs each in
+          let cut = brings xs each in
           let size : length xs ≡ length answer =
           ap length (sym (each w.serial w.slot w.packet w.of)) ∙ (size_here w.serial w.slot w.packet w.of h.cmd h.request h.disk h.ran ∙ sym h.len) in
-          cut ∙ take_whole (bytes_of (laid_out (slot_at past i n k) h.cmd h.cmd.segments)) xs (ap length (sym cut) ∙ sym size)
+          cut ∙ take_whole count xs (ap length (sym cut) ∙ sym size)
 
       pub told_written : IsTold
       told_written = by (answer_of h.cmd.cdb h.disk) refl

@@ -4,6 +4,8 @@ use Rattle.std.proofs.Common.{ℕ, ◌<◌, List, length}
 use Rattle.sbp_journal.specs.Run.{Moment}
 use Rattle.sbp_laws.specs.Turns.{EachMoment}
 use Rattle.sbp_world.specs.Worlds.{WorldState}
+use Rattle.sbp_world.specs.Lists.EndsWell.{GoodEndsLaw}
+use Rattle.sbp_world.proofs.Lists.GoodEnds.{good_ends_law}
 use Rattle.sbp_world.specs.Lists.AnswersCarried.{AnswersBroughtLaw}
 use Rattle.sbp_world.proofs.Lists.AnswersCarriedRuns.{answers_brought_law}
 use Rattle.sbp_world.specs.Lists.Closes.{AreUntaken, Under, WhereTame, WhereTameOrFew}
@@ -63,6 +65,9 @@ module _ (short : ShortLaw) where
 pub answers_end_law : Under AllEndSo
 answers_end_law = ends_law (ground_law opened_known.laws.pointers opened_known.laws.begun)
 
+pub good_law : GoodEndsLaw
+good_law = good_ends_law (ground_law opened_known.laws.pointers opened_known.laws.begun)
+
 -- what each history of such a run is
 module _ (short : ShortLaw) where
   pub served_law : DataServedLaw
@@ -78,4 +83,4 @@ module _ (short : ShortLaw) where
   got_law = served_got_law (data_sent_law short) answers_end_law (statuses_by short)
 
   pub brought_law : AnswersBroughtLaw
-  brought_law = answers_brought_law (data_sent_law short) answers_end_law (statuses_by short)
+  brought_law = answers_brought_law (data_sent_law short) answers_end_law (statuses_by short) good_law

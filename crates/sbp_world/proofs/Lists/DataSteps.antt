@@ -350,7 +350,7 @@ module _ (past : List Moment) (i n : ℕ) (small_slots : (k : ℕ) → slot_at p
 
 -- a good end
 pub data IsGoodNow (ms : List Moment) (i n k got : ℕ) : Type 0 where
-  good_fresh : runs ms i n k ≡ 0 → ((cmd : Cmd) → command_at ms i n k ≡ Some cmd → cmd.to_initiator ≡ true → cmd.length ≡ 0) → IsGoodNow ms i n k got
+  good_fresh : runs ms i n k ≡ 0 → (cmd : Cmd) → command_at ms i n k ≡ Some cmd → (cmd.to_initiator ≡ true → cmd.length ≡ 0) → IsGoodNow ms i n k got
   good_behind : (m : Machine) → m.written ≡ length m.answer → (a : IsAnswered ms i n k m got) → a.cmd.to_initiator ≡ true → IsGoodNow ms i n k got
 
 -- ---- a reply to an agent
@@ -857,7 +857,12 @@ module _ (wild : ℕ → Bool) (past : List Moment) (w : WorldState) (r : Ready 
 
     good_by : (x : Option Outcome) → step.0.ran ≡ x → IsWay M → IsEndNow ms i O.n (ends ms i O.n) is_for.serial → IsGoodNow ms i O.n (ends ms i O.n) is_for.serial
     good_by None ran way now = good_on ran way now
-    good_by (Some outcome) ran way now = good_fresh (ran_now outcome ran) (λ cmd command to. good_empty outcome ran cmd command (fills cmd command) to)
+    good_by (Some outcome) ran way now =
+        let x = subst (λ o. IsEnd (orbs ms i O.n) (run_by o step.1.answer before_now) kinds.Good step.1.present step.1.orb step.1.outgoing step.0.ask) ran (end_so kinds.Good ended) in
+        let one = x.read.0 in
+        let number : before_now.ended ≡ ends ms i O.n = heard_ended which M (answer_in p) G.progress ∙ G.is in
+        let command : command_at ms i O.n (ends ms i O.n) ≡ Some one.cmd = ap (λ j. command_at ms i O.n j) (sym number) ∙ one.command in
+        good_fresh (ran_now outcome ran) one.cmd command (λ to. good_empty outcome ran one.cmd command (fills one.cmd command) to)
 
     pub reply_good : IsFull M → IsWay M → AreHeard wild ms w → IsGoodNow ms i O.n (ends ms i O.n) is_for.serial
     reply_good full way heard_so = good_by step.0.ran refl way (reply_ends kinds.Good ended full heard_so (λ z. let differ : kinds.Good ≡ kinds.Failed = z in cc))

@@ -160,8 +160,8 @@ module _ (wild : ℕ → Bool) (i : ℕ) (own : wild i ≡ false) (past : List M
     with_way j k number m a to = subst (λ y. (b : IsAnswered ms j n y m serial) × (b.cmd.to_initiator ≡ true)) (sym number) (a, to)
 
     as_written : (j k : ℕ) → k ≡ ends ms j n → IsGoodNow ms j n (ends ms j n) serial → IsWrittenWell now ms j n k
-    as_written j k number (good_fresh none empty) =
-        well_fresh (subst (λ y. runs ms j n y ≡ 0) (sym number) none) (subst (λ y. (cmd : Cmd) → command_at ms j n y ≡ Some cmd → cmd.to_initiator ≡ true → cmd.length ≡ 0) (sym number) empty)
+    as_written j k number (good_fresh none cmd command empty) =
+        well_fresh (subst (λ y. runs ms j n y ≡ 0) (sym number) none) cmd (subst (λ y. command_at ms j n y ≡ Some cmd) (sym number) command) empty
     as_written j k number (good_behind m whole a to) = let x = with_way j k number m a to in well_behind serial (map said early) refl m whole x.0 x.1
 
     -- no generation is seen

@@ -114,14 +114,14 @@ module _ (i n k : ℕ) where
         (none_at m past law.1 rest, null_none past law.1 rest)
 
   -- ---- the moment in which its status was sent
-  record WasDue (past : List Moment) (serial : ℕ) : Type 0 where
-    later : List Moment
-    before : List Moment
-    generation : ℕ
-    to : ℕ
-    bytes : List ℕ
-    is : later ++ said (notes.Sent serial generation 0 to bytes) ∷ before ≡ past
-    due : is_due (status_due before) i n k to ≡ true
+  pub record WasDue (past : List Moment) (serial : ℕ) : Type 0 where
+    pub later : List Moment
+    pub before : List Moment
+    pub generation : ℕ
+    pub to : ℕ
+    pub bytes : List ℕ
+    pub is : later ++ said (notes.Sent serial generation 0 to bytes) ∷ before ≡ past
+    pub due : is_due (status_due before) i n k to ≡ true
 
   further : (m : Moment) (past : List Moment) (serial : ℕ) → WasDue past serial → WasDue (m ∷ past) serial
   further m past serial r = record { later = m ∷ r.later; before = r.before; generation = r.generation; to = r.to; bytes = r.bytes; is = ap (λ ms. m ∷ ms) r.is; due = r.due }
@@ -136,7 +136,7 @@ module _ (i n k : ℕ) where
   sent_due past other generation to bytes serial ih true false d e = further (said (notes.Sent other generation 0 to bytes)) past serial (ih e)
   sent_due past other generation to bytes serial ih false y d e = further (said (notes.Sent other generation 0 to bytes)) past serial (ih e)
 
-  was_due : (past : List Moment) (serial : ℕ) → status_packet past i n k ≡ Some serial → WasDue past serial
+  pub was_due : (past : List Moment) (serial : ℕ) → status_packet past i n k ≡ Some serial → WasDue past serial
   was_due [] serial e = absurd (none_number serial e)
   was_due (said (notes.Sent other generation zero to bytes) ∷ past) serial e =
       sent_due past other generation to bytes serial (was_due past serial) (is_due (status_due past) i n k to) (is_write_in (access_in_bytes bytes)) refl e

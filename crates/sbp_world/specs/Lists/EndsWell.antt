@@ -23,7 +23,7 @@ AreInward past w = (place : ℕ) → place < 8 → (machine_at w place).phase �
 
 -- the turn began behind `before`
 pub data IsWrittenWell (past before : List Moment) (i n k : ℕ) : Type 0 where
-  well_fresh : runs before i n k ≡ 0 → ((cmd : Cmd) → command_at before i n k ≡ Some cmd → cmd.to_initiator ≡ true → cmd.length ≡ 0) → IsWrittenWell past before i n k
+  well_fresh : runs before i n k ≡ 0 → (cmd : Cmd) → command_at before i n k ≡ Some cmd → (cmd.to_initiator ≡ true → cmd.length ≡ 0) → IsWrittenWell past before i n k
   well_behind : (got : ℕ) (later : List Moment) → later ++ said (notes.Got got) ∷ before ≡ past → (m : Machine) → m.written ≡ length m.answer → (a : IsAnswered before i n k m got) → a.cmd.to_initiator ≡ true → IsWrittenWell past before i n k
 
 pub record EndedWell (past : List Moment) (i n k : ℕ) : Type 0 where
