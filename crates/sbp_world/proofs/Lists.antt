@@ -476,6 +476,7 @@ pub mod AnswersCarriedEnds
 pub mod AnswerRuns
 pub mod AnswerComes
 pub mod AnswerDisks
+pub mod AnswersHold
 pub mod AnswersRight
 pub mod AnswersTold
 pub mod DataWhole

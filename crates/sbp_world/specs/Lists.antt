@@ -2,6 +2,7 @@ pub mod AheadGots
 pub mod Along
 pub mod AtGots
 pub mod AnswersCarried
+pub mod AnswersHold
 pub mod Bases
 pub mod Begun
 pub mod Brings

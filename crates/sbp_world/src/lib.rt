@@ -102,6 +102,7 @@ pub use of_lists::agents_write_the_next_chunk;
 pub use of_lists::answers_are_as_the_disk_told;
 pub use of_lists::answers_are_sent_in_chunks;
 pub use of_lists::answers_are_their_own_as_they_are_got;
+pub use of_lists::answers_are_those_of_the_plain_disk;
 pub use of_lists::answers_are_what_data_writes_brought;
 pub use of_lists::answers_are_written_before_the_end;
 pub use of_lists::answers_fill_their_buffers;

@@ -40,6 +40,7 @@ ghost use Rattle.sbp_world.specs.Lists.EndReads.{EndsReadLaw};
 ghost use Rattle.sbp_world.specs.Lists.EndsWell.{GoodEndsLaw};
 ghost use Rattle.sbp_world.specs.Lists.DataEnds.{AnswersEndLaw};
 ghost use Rattle.sbp_world.specs.Lists.AnswersCarried.{AnswersBroughtLaw};
+ghost use Rattle.sbp_world.specs.Lists.AnswersHold.{AnswersHoldLaw};
 ghost use Rattle.sbp_world.specs.Lists.DataGots.{DataGotsLaw, ServedGotLaw};
 ghost use Rattle.sbp_world.specs.Lists.DataHolds.{DataHeldLaw};
 ghost use Rattle.sbp_world.specs.Lists.DataSequences.{DataSequenceLaw};
@@ -597,6 +598,14 @@ pub fn data_that_were_served_were_got()
 #[tactic(auto, using(crate::proofs::Lists::Clauses::answers_brought))]
 pub fn answers_are_what_data_writes_brought()
     ensures { AnswersBroughtLaw }
+{}
+
+/// In every run in which no initiator injected packets, each answer of a good status that is taken is what the target's writes brought to
+/// the chunks of its ORB's buffer since the run, and it is the answer of the plain disk as that was before the ORB ran: its length
+/// always, and its bytes where the medium tells them.
+#[tactic(auto, using(crate::proofs::Lists::Clauses::answers_hold))]
+pub fn answers_are_those_of_the_plain_disk()
+    ensures { AnswersHoldLaw }
 {}
 
 /// In every run in which no initiator injected packets, where lists were open as they should be before, an ORB whose data go to its

@@ -32,11 +32,11 @@ use Rattle.sbp_world.proofs.Lists.ManageLaws as manage
 use Rattle.sbp_world.proofs.Lists.SlotShut.{apart_between, apart_of}
 use Rattle.sbp_world.proofs.Lists.StatusRuns.{delivering}
 
-module _ (data_so : UnderFrom (λ start. WhereTame (AllDataSo start))) (ends_so : Under AllEndSo) (statuses : Under (WhereTameOrFew AllStatuses)) (good_ends : GoodEndsLaw) where
-  -- each answer of a good status that an initiator takes which injected no packets
-  abbrev pub AllWhole : List Disk → List Moment → WorldState → Type 0
-  AllWhole start past w = (i : ℕ) → i < length w.initiators → (calm : IsCalm past i) → EachMoment (WholeAt start (injectors past) i calm) past
+-- each answer of a good status that an initiator takes which injected no packets
+abbrev pub AllWhole : List Disk → List Moment → WorldState → Type 0
+AllWhole start past w = (i : ℕ) → i < length w.initiators → (calm : IsCalm past i) → EachMoment (WholeAt start (injectors past) i calm) past
 
+module _ (data_so : UnderFrom (λ start. WhereTame (AllDataSo start))) (ends_so : Under AllEndSo) (statuses : Under (WhereTameOrFew AllStatuses)) (good_ends : GoodEndsLaw) where
   pub whole_law : UnderFrom (λ start. WhereTame (AllWhole start))
   whole_law = record {
     after_lines = λ line run r has small size so_far tame i b calm.

@@ -85,7 +85,9 @@ module _ (start : List Disk) (wild : ℕ → Bool) (i : ℕ) (own : wild i ≡ f
 
   pub record IsWhole (past : List Moment) (n k : ℕ) (answer : List ℕ) : Type 0 where
     pub brought : IsBroughtAnswer past i n k answer
-    pub whose : IsWhose past n k answer brought.cmd
+    pub cmd : Cmd
+    pub command : command_at past i n k ≡ Some cmd
+    pub whose : IsWhose past n k answer cmd
 
   module _ (past : List Moment) (h : IsHad past) (n k : ℕ) (answer : List ℕ) (so : IsTakenSo past i n k kinds.Good) (by : IsTakenBy past i n k kinds.Good) (of_one : IsTakenOf past i n k kinds.Good) (gathered : IsGathered past i n k answer) (cmd : Cmd) (command : command_at past i n k ≡ Some cmd) where
     abbrev pub slot : ℕ
@@ -164,9 +166,9 @@ module _ (start : List Disk) (wild : ℕ → Bool) (i : ℕ) (own : wild i ≡ f
       bare_answer = record { cmd = cmd; command = command; in_turn = bare_turn; of_target = bare_target; carried = gathered.carried cmd command bare_turn bare_target }
 
     by_wrote : Wrote start wild i own past h.sound h.known h.wires h.sights h.good n k so of_one by stood.last → IsWhole past n k answer
-    by_wrote (has_written to x) = record { brought = written_answer (to cmd command) x; whose = of_data x (bytes_of segments) (told_by (to cmd command) x) }
+    by_wrote (has_written to x) = record { brought = written_answer (to cmd command) x; cmd = cmd; command = command; whose = of_data x (bytes_of segments) (told_by (to cmd command) x) }
     by_wrote (has_none empty none) =
-        record { brought = bare_answer (λ to. empty cmd command to) none (ran start wild i own past h.sound h.known h.wires h.sights h.good n k so of_one by stood.last); whose = of_none (λ to. empty cmd command to) }
+        record { brought = bare_answer (λ to. empty cmd command to) none (ran start wild i own past h.sound h.known h.wires h.sights h.good n k so of_one by stood.last); cmd = cmd; command = command; whose = of_none (λ to. empty cmd command to) }
 
     pub brought_answer : IsWhole past n k answer
     brought_answer = by_wrote (wrote start wild i own past h.sound h.known h.wires h.sights h.good n k so of_one by stood.last)

@@ -38,6 +38,7 @@ use Rattle.sbp_world.specs.Lists.AheadGots.{AheadAsGotLaw, WaitsAsGotLaw}
 use Rattle.sbp_world.specs.Lists.DataHolds.{DataHeldLaw}
 use Rattle.sbp_world.specs.Lists.ManagedGots.{ManagedAsGotLaw}
 use Rattle.sbp_world.specs.Lists.AnswersCarried.{AnswersBroughtLaw}
+use Rattle.sbp_world.specs.Lists.AnswersHold.{AnswersHoldLaw}
 use Rattle.sbp_world.specs.Lists.DataGots.{DataGotsLaw, ServedGotLaw}
 use Rattle.sbp_world.specs.Lists.DataSequences.{DataSequenceLaw}
 use Rattle.sbp_world.specs.Lists.DataServes.{DataServedLaw}
@@ -83,6 +84,9 @@ data_gots = data_laws.gots_law short_law
 
 pub answers_brought : AnswersBroughtLaw
 answers_brought = data_laws.brought_law short_law
+
+pub answers_hold : AnswersHoldLaw
+answers_hold = data_laws.hold_law short_law open_lists_law lengths_law
 
 pub served_got : ServedGotLaw
 served_got = data_laws.got_law short_law

@@ -7,7 +7,11 @@ use Rattle.sbp_world.specs.Worlds.{WorldState}
 use Rattle.sbp_world.specs.Lists.EndsWell.{GoodEndsLaw}
 use Rattle.sbp_world.proofs.Lists.GoodEnds.{good_ends_law}
 use Rattle.sbp_world.specs.Lists.AnswersCarried.{AnswersBroughtLaw}
-use Rattle.sbp_world.proofs.Lists.AnswersCarriedRuns.{answers_brought_law}
+use Rattle.sbp_world.proofs.Lists.AnswersCarriedRuns.{answers_brought_law, whole_law}
+use Rattle.sbp_world.proofs.Lists.AnswersHold.{answers_hold_law}
+use Rattle.sbp_world.specs.Lists.AnswersHold.{AnswersHoldLaw}
+use Rattle.sbp_world.specs.Lists.AnswerLengths.{AnswerLengthsLaw}
+use Rattle.sbp_world.specs.Lists.Closes.{OpenListsLaw}
 use Rattle.sbp_world.specs.Lists.Closes.{AreUntaken, Under, WhereTame, WhereTameOrFew}
 use Rattle.sbp_world.specs.Lists.DataGots.{DataGotsLaw, ServedGotLaw}
 use Rattle.sbp_world.specs.Lists.DataSequences.{DataSequenceLaw}
@@ -84,3 +88,6 @@ module _ (short : ShortLaw) where
 
   pub brought_law : AnswersBroughtLaw
   brought_law = answers_brought_law (data_sent_law short) answers_end_law (statuses_by short) good_law
+
+  pub hold_law : OpenListsLaw → AnswerLengthsLaw → AnswersHoldLaw
+  hold_law lists lengths = answers_hold_law lists (whole_law (data_sent_law short) answers_end_law (statuses_by short) good_law) lengths
