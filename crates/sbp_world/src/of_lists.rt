@@ -225,7 +225,7 @@ pub fn orbs_that_run_were_read_and_fed()
 {}
 
 /// In every run, where lists were open as they should be before: a response that closed the transaction of a request that was sent,
-/// between nodes that injected no packets, is not got again.
+/// where neither of its nodes is an initiator that injected packets, is not got again.
 #[tactic(auto, using(crate::proofs::Lists::FedOnce::got_once_law))]
 pub fn responses_are_got_once()
     ensures { GotOnceLaw }

@@ -1,6 +1,6 @@
 -- The buffer and the data of each command that runs, of an initiator that injected no packets, are those by all that the target got of the initiator since the response that brought its ORB, where the
 -- others begin elsewhere than in the page table and the buffer of its slot.
-use Rattle.std.proofs.Common.{◌≡◌, ◌∙◌, refl, sym, ap, subst, ℕ, suc, Bool, false, append_assoc, List, [], ◌∷◌, ◌++◌, map, Option, Some, None, cond}
+use Rattle.std.proofs.Common.{arith, ◌≡◌, ◌∙◌, refl, sym, ap, subst, ℕ, suc, Bool, false, append_assoc, List, [], ◌∷◌, ◌++◌, map, Option, Some, None, cond}
 use Rattle.std.specs.Prelude.{IsSomeAnd}
 use Rattle.bus_transactions.specs.Judging.{AreJudged}
 use Rattle.command_agent.specs.Machine.{limit_of}
@@ -101,7 +101,7 @@ module _ (start : List Disk) (past : List Moment) (f : Told past) (j : AreJudged
   once =
       let own = asking_by ((terms fed.brought.earlier).sent fed.brought.request) i fed.brought.asked.from asked_it in
       got_once past f j (fed.later ++ fed.between) fed.brought.earlier r fed.brought.request own.asking (append_assoc fed.later fed.between behind ∙ fed.is) fed.brought.closed own.is
-      (ap (λ node. (terms past).injects node) own.from ∙ f.fair) (ap (λ node. (terms past).injects node) own.to ∙ calm)
+      (λ a e. absurd (let x = own.from in omega (arith, x, e))) (λ a e. subst (IsCalm past) (let x = own.to in omega (arith, x, e)) calm)
 
   beside : AreOthers i slot fed.between behind → AreOwnOrOthers start i fed.place slot fed.later (fed.between ++ behind) → AreBeside slot (reads_since past i r) fed.reads
   beside o p =

@@ -1,6 +1,6 @@
 -- A response that closed the transaction of a request is not got again, where its nodes injected no packets: each response of such nodes that is got answers the request that its label waits for, and
 -- a label that is free waits later for requests alone that are sent later.
-use Rattle.std.proofs.Common.{arith, ◌≡◌, ◌∙◌, refl, sym, ap, subst, inl, inr, ◌⊎◌, ◌≤◌, ◌==◌, ℕ, Bool, true, false, cond, List, [], ◌∷◌, ◌++◌, Option, Some, None}
+use Rattle.std.proofs.Common.{arith, ◌≡◌, ◌∙◌, refl, sym, ap, subst, inl, inr, ◌⊎◌, ◌≤◌, ◌==◌, ℕ, zero, suc, Bool, true, false, cond, List, [], ◌∷◌, ◌++◌, Option, Some, None}
 use Rattle.std.proofs.lemmas.Bool.Decides.{nat_tests}
 use Rattle.bus_transactions.specs.Judging.{AreJudged, JudgementLaw, facts_of, is_awaited, is_response, may_get, waits_for}
 use Rattle.bus_transactions.specs.Packets.{SerialsCount}
@@ -20,7 +20,7 @@ use Rattle.sbp_world.specs.Wire.Wires.{Stands}
 use Rattle.sbp_world.proofs.Agents.Management.Still.{hist}
 use Rattle.sbp_world.proofs.Hosts.Remaining.{remains}
 use Rattle.sbp_world.proofs.Hosts.SentMoments.{sent_below, serials_from}
-use Rattle.sbp_world.specs.Lists.GotOnce.{AreGotOnce, GotOnceLaw, NoneAgain}
+use Rattle.sbp_world.specs.Lists.GotOnce.{AreGotOnce, GotOnceLaw, IsCalmNode, NoneAgain}
 use Rattle.sbp_world.proofs.Lists.Fair.{Told, told_before, told_everywhere}
 use Rattle.sbp_world.proofs.Lists.Courses.{EveryPlace, Keeps, at_between, at_lines}
 use Rattle.sbp_world.proofs.Lists.ManageTerms.{same_some}
@@ -221,12 +221,17 @@ module _ (earlier : List Moment) (r own : ℕ) (asking : Sending) (closed : answ
         responder = subst (λ node. (terms past).injects node ≡ false) (sym (nodes.responder ∙ ap (λ (p : Sending). p.to) same)) to;
       }
 
+fair_node : (past : List Moment) → Told past → (node : ℕ) → IsCalmNode past node → (terms past).injects node ≡ false
+fair_node past f zero calm = f.fair
+fair_node past f (suc i) calm = calm i refl
+
 pub got_once : (past : List Moment) → Told past → AreJudged past → AreGotOnce past
 got_once past f j later earlier r own asking is closed own_sent from to =
     let told = subst Told (sym is) f in
     let counts : SerialsCount earlier = (told_from (said (notes.Got r) ∷ []) earlier (told_from later (said (notes.Got r) ∷ earlier) told)).counts in
     none_again earlier r own asking closed own_sent later told (subst AreJudged (sym is) j)
-    (of_asking earlier r own asking closed own_sent counts (later ++ said (notes.Got r) ∷ earlier) (subst (λ ms. (terms ms).injects asking.from ≡ false) (sym is) from) (subst (λ ms. (terms ms).injects asking.to ≡ false) (sym is) to))
+    (of_asking earlier r own asking closed own_sent counts (later ++ said (notes.Got r) ∷ earlier) (fair_node (later ++ said (notes.Got r) ∷ earlier) told asking.from (subst (λ ms. IsCalmNode ms asking.from) (sym is) from))
+    (fair_node (later ++ said (notes.Got r) ∷ earlier) told asking.to (subst (λ ms. IsCalmNode ms asking.to) (sym is) to)))
 
 -- ---- at each place of a run
 abbrev Nothing : List Disk → List Moment → WorldState → Type 0

@@ -1,5 +1,6 @@
 -- How the ORB of each run was read and what it runs with (NCITS 325-1998, command block agents, command block ORB and page tables), of each initiator that injected no packets, in runs in which none did, or few
--- logins were given: the response that brought the ORB, as the carried law has it, is the one behind which its agent turned to it and read its buffer and its data; and as each packet was got since, the agent waited for an answer of the initiator.
+-- logins were given: the response that brought the ORB, as the carried law has it, is the one behind which its agent turned to it and read its buffer and its data; and as each packet was got since, the agent
+-- waited for an answer of the initiator.
 use Rattle.std.specs.Prelude.{◌≡◌, ◌<◌, ◌≤◌, ℕ, Bool, false, List, ◌∷◌, ◌++◌, length, map, Option, Some}
 use Rattle.rbc_disk.specs.Disk.{Disk}
 use Rattle.rbc_disk.specs.Runs.{Told}
