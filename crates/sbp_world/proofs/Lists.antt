@@ -489,6 +489,7 @@ pub mod DataLaws
 pub mod LedReads
 pub mod LedRuns
 pub mod NamedReads
+pub mod BegunBy
 pub mod BegunLists
 pub mod TurnReads
 pub mod StillReads

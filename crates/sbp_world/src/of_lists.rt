@@ -171,49 +171,49 @@ pub fn orbs_that_run_were_fed()
     ensures { RunsFedLaw }
 {}
 
-/// In every run in which no initiator injected packets, where lists were open as they should be before: what an agent waits for, to
-/// read in a page table or a buffer of an initiator that has a list open, is the main transaction of the agent that has this list,
-/// in the slot of the first ORB of it that has not ended.
+/// In every run in which no initiator injected packets, or few logins were given (`IsTameOrFew`), where lists were open as they should
+/// be before: what an agent waits for, to read in a page table or a buffer of an initiator that injected none and has a list open, is
+/// the main transaction of the agent that has this list, in the slot of the first ORB of it that has not ended.
 #[tactic(auto, using(crate::proofs::Lists::Clauses::own_law))]
 pub fn agents_read_for_their_own_orbs()
     ensures { OwnReadsLaw }
 {}
 
-/// In every run in which no initiator injected packets, where lists were open as they should be before: a packet that the target gets,
-/// which answers what an agent waits for, brings of an initiator that has a list open what the main transaction of the agent of
-/// this list brought, or what begins elsewhere than in page tables and buffers.
+/// In every run in which no initiator injected packets, or few logins were given (`IsTameOrFew`), where lists were open as they should
+/// be before: a packet that the target gets, which answers what an agent waits for, brings of an initiator that injected none and has
+/// a list open what the main transaction of the agent of this list brought, or what begins elsewhere than in page tables and buffers.
 #[tactic(auto, using(crate::proofs::Lists::Clauses::gots_law))]
 pub fn answers_to_agents_are_their_own()
     ensures { OwnGotsLaw }
 {}
 
-/// In every run in which no initiator injected packets, where lists were open as they should be before: the buffer and the data of each
-/// command that runs are those by all that the target got of the initiator since the response that brought the ORB, as the carried
-/// law has them, where what its agent did not read begins elsewhere than in the page table and the buffer of the ORB's slot.
-#[tactic(auto, using(crate::proofs::Lists::FedJoins::runs_since_law))]
+/// In every run in which no initiator injected packets, or few logins were given (`IsTameOrFew`), where lists were open as they should
+/// be before: the buffer and the data of each command that runs, of an initiator that injected none, are those by all that the target
+/// got of the initiator since the response that brought the ORB, as the carried law has them, where what its agent did not read begins
+/// elsewhere than in the page table and the buffer of the ORB's slot.
+#[tactic(auto, using(crate::proofs::Lists::Clauses::since_law))]
 pub fn commands_have_what_was_read_since()
     ensures { RunsSinceLaw }
 {}
 
-/// By every history, where answers to agents are their own as they are got: while the agent of a place waited for an answer of an
-/// initiator as each packet was got, and what answers no agent begins elsewhere than in a slot, each packet brought of this initiator
-/// what the main transaction of that place asked for, or what begins elsewhere.
-#[tactic(auto, using(crate::proofs::Lists::OwnSince::own_since_law))]
+/// By every history, where answers to agents are their own as they are got, of the initiators that are not among these: while the agent
+/// of a place waited for an answer of such an initiator as each packet was got, and what answers no agent begins elsewhere than in a
+/// slot, each packet brought of this initiator what the main transaction of that place asked for, or what begins elsewhere.
 pub fn answers_since_are_own_or_elsewhere()
     ensures { OwnSinceLaw }
 {}
 
-/// In every run in which no initiator injected packets, as each packet is got: while the agent of a place waits for an answer of an
-/// initiator, what any agent waits for, to read in a page table or a buffer of this initiator, is the main transaction of that place,
-/// and stands in the slot of the first ORB of the latest list that has not ended.
+/// In every run in which no initiator injected packets, or few logins were given (`IsTameOrFew`), as each packet is got: while the agent
+/// of a place waits for an answer of an initiator that injected none, what any agent waits for, to read in a page table or a buffer of
+/// this initiator, is the main transaction of that place, and stands in the slot of the first ORB of the latest list that has not ended.
 #[tactic(auto, using(crate::proofs::Lists::Clauses::waits_law))]
 pub fn agents_read_their_own_as_packets_are_got()
     ensures { ReadsAsGotLaw }
 {}
 
-/// In every run in which no initiator injected packets, as each packet is got which answers a request of an agent: while the agent of a
-/// place waits for an answer of an initiator, it brings of this initiator what the main transaction of that place asked for, or what
-/// begins elsewhere than in a slot.
+/// In every run in which no initiator injected packets, or few logins were given (`IsTameOrFew`), as each packet is got which answers a
+/// request of an agent: while the agent of a place waits for an answer of an initiator that injected none, it brings of this initiator
+/// what the main transaction of that place asked for, or what begins elsewhere than in a slot.
 #[tactic(auto, using(crate::proofs::Lists::Clauses::got_law))]
 pub fn answers_are_their_own_as_they_are_got()
     ensures { OwnAsGotLaw }
@@ -249,17 +249,18 @@ pub fn what_is_got_since_spares_the_orb_read_ahead()
     ensures { AheadSinceLaw }
 {}
 
-/// In every run in which no initiator injected packets the response that brought the ORB of each run, as the carried law has
-/// it, is the one behind which its agent turned to it, and as each packet was got since then the agent waited for an answer of the
-/// initiator: the buffer and the data of the command are those by all that the target got of the initiator since the response,
-/// where what it got before the agent turned to the ORB, and what answers no agent, begins elsewhere than in the ORB's slot.
+/// In every run in which no initiator injected packets, or few logins were given (`IsTameOrFew`), the response that brought the ORB of
+/// each run of an initiator that injected none, as the carried law has it, is the one behind which its agent turned to it, and as each
+/// packet was got since then the agent waited for an answer of the initiator: the buffer and the data of the command are those by all
+/// that the target got of the initiator since the response, where what it got before the agent turned to the ORB, and what answers no
+/// agent, begins elsewhere than in the ORB's slot.
 #[tactic(auto, using(crate::proofs::Lists::Clauses::feeds_law))]
 pub fn orbs_that_run_were_read_and_fed()
     ensures { ReadAndFedLaw }
 {}
 
-/// In every run in which no initiator injected packets, where lists were open as they should be before: a response that closed the
-/// transaction of a request that was sent is not got again.
+/// In every run, where lists were open as they should be before: a response that closed the transaction of a request that was sent,
+/// where neither of its nodes is an initiator that injected packets, is not got again.
 #[tactic(auto, using(crate::proofs::Lists::FedOnce::got_once_law))]
 pub fn responses_are_got_once()
     ensures { GotOnceLaw }

@@ -12,6 +12,7 @@ use Rattle.sbp_world.specs.Lists.AnswerLengths.{AnswerLengthsLaw}
 use Rattle.sbp_world.specs.Lists.CarriedEnds.{WereReadLaw}
 use Rattle.sbp_world.specs.Lists.Closes.{OpenListsLaw}
 use Rattle.sbp_world.specs.Lists.DataWrites.{DataSentLaw}
+use Rattle.sbp_world.specs.Lists.FedRuns.{RunsSinceLaw}
 use Rattle.sbp_world.specs.Lists.Live.{LiveLaw}
 use Rattle.sbp_world.specs.Lists.OneUp.{OneUpLaw}
 use Rattle.sbp_world.specs.Lists.Opened.{LogoutsLaw}
@@ -26,6 +27,7 @@ use Rattle.sbp_world.proofs.Lists.AheadWaits.{waits_as_got_law}
 use Rattle.sbp_world.proofs.Lists.CarriedEnds.{were_read_law}
 use Rattle.sbp_world.proofs.Lists.DataLaws as data_laws
 use Rattle.sbp_world.proofs.Lists.DataLaws.{data_sent_law, data_held_law}
+use Rattle.sbp_world.proofs.Lists.FedJoins.{runs_since_law}
 use Rattle.sbp_world.proofs.Lists.FedOwnerRuns.{own_gots_law, own_reads_law}
 use Rattle.sbp_world.proofs.Lists.Lawful as proved
 use Rattle.sbp_world.proofs.Lists.ManagedGots.{managed_as_got_law}
@@ -108,6 +110,9 @@ got_law = own_as_got_law open_lists_law
 
 pub waits_law : ReadsAsGotLaw
 waits_law = reads_as_got_law open_lists_law
+
+pub since_law : RunsSinceLaw
+since_law = runs_since_law open_lists_law
 
 pub feeds_law : ReadAndFedLaw
 feeds_law = read_and_fed_law open_lists_law one_up

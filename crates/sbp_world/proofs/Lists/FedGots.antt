@@ -1,6 +1,6 @@
--- At a place of a run in which no initiator injected packets, a packet that answers what an agent waits for brings of an initiator that has a list open what the main transaction of the agent of this
--- list brought, or what begins elsewhere than in page tables and buffers.
-use Rattle.std.proofs.Common.{arith, ◌≡◌, ◌∙◌, refl, sym, ap, subst, inl, inr, ◌<◌, ◌==◌, ◌&&◌, ℕ, suc, Bool, true, false, cond, List, [], Option, Some, None}
+-- At a place of a run, where lists are open as they should be, a packet that answers what an agent waits for brings of an initiator that injected no packets and has a list open what the main transaction
+-- of the agent of this list brought, or what begins elsewhere than in page tables and buffers.
+use Rattle.std.proofs.Common.{arith, ◌≡◌, ◌∙◌, refl, sym, ap, subst, inl, inr, ◌<◌, ◌==◌, ◌&&◌, ℕ, suc, Bool, true, false, cond, List, [], Option, Some}
 use Rattle.std.proofs.lemmas.Bool.Decides.{nat_tests}
 use Rattle.bus_memory.specs.Windows.{window_at}
 use Rattle.bus_transactions.specs.Reached.{IsAwaited}
@@ -11,12 +11,12 @@ use Rattle.command_agent.specs.Machine.{Machine}
 use Rattle.rbc_disk.specs.Disk.{Disk}
 use Rattle.sbp_journal.specs.Addresses.{Access}
 use Rattle.sbp_journal.specs.Run.{Moment}
-use Rattle.sbp_journal.specs.Transactions.{Kind, Sending, Transaction, between}
-use Rattle.sbp_journal.specs.Wire.{Held, Terms, free, rests, terms, waits}
+use Rattle.sbp_journal.specs.Transactions.{Sending, Transaction, between}
+use Rattle.sbp_journal.specs.Wire.{Terms, terms}
 use Rattle.sbp_laws.specs.Agents.{fifo_in}
 use Rattle.sbp_laws.specs.CarriedBytes.{Moved, moved_by, payload_at, read_by}
 use Rattle.sbp_laws.specs.Lists.{slot_at}
-use Rattle.sbp_laws.specs.Packets.{access_at, answered_at, closed_by, receiver_in, sender_in}
+use Rattle.sbp_laws.specs.Packets.{access_at, answered_at, receiver_in, sender_in}
 use Rattle.sbp_laws.specs.Targets.{Purpose, Target, agent_at, for_agent, is_serial, login_at as term_login, over, purpose_of, target_at}
 use Rattle.sbp_world.specs.Worlds.{WorldState}
 use Rattle.sbp_world.specs.Agents.AskedRuns.{IsAccessFor, serial_of}
@@ -30,31 +30,17 @@ use Rattle.sbp_world.proofs.Agents.Management.Holding.{Holding, past_terms}
 use Rattle.sbp_world.proofs.Agents.Management.Still.{hist}
 use Rattle.sbp_world.specs.Lists.Along.{AreAlong, GoesAlong}
 use Rattle.sbp_world.specs.Lists.FedRuns.{AllElsewhere, IsOwnOrOther, is_main_of, main_moved, main_read}
-use Rattle.sbp_world.specs.Lists.Needs.{IsOpenAt, OpenLists, initiator_in, is_open_at, machine_at}
-use Rattle.sbp_world.specs.Lists.OwnLogins.{IsTame}
+use Rattle.sbp_world.specs.Lists.Needs.{IsCalm, IsOpenAt, OpenLists, initiator_in, is_open_at, machine_at}
 use Rattle.sbp_world.specs.Lists.OwnReads.{AreOwnGots, data_slot}
 use Rattle.sbp_world.proofs.Lists.Bringing.{read_prepared}
 use Rattle.sbp_world.proofs.Lists.Brought.{number_of}
+use Rattle.sbp_world.proofs.Lists.BegunBy.{held_by}
 use Rattle.sbp_world.proofs.Lists.FedOnce.{IsReply, reply_by}
 use Rattle.sbp_world.proofs.Lists.FedOwners.{ahead_none}
 use Rattle.sbp_world.proofs.Lists.Heard.{awaited_to}
 use Rattle.sbp_world.proofs.Lists.ManageTerms.{same_some}
 use Rattle.sbp_world.proofs.Lists.ReadSlots.{is_in}
 use Rattle.sbp_world.proofs.Lists.Sites.{IsPrepared, Site, Waiting, waiting as agent_waiting}
-
--- what a label waits for
-pub record IsHeld (held : Held) (own : ℕ) : Type 0 where
-  pub kind : Kind
-  pub is : held ≡ waits kind own
-
-held_if : (b : Bool) (kind : Kind) (s own : ℕ) → cond b (Some s) None ≡ Some own → IsHeld (waits kind s) own
-held_if true kind s own e = record { kind = kind; is = ap (waits kind) (same_some s own e) }
-held_if false kind s own e = absurd (let x : None ≡ Some own = e in cc)
-
-pub held_by : (held : Held) (kind : Kind) (own : ℕ) → closed_by held kind ≡ Some own → IsHeld held own
-held_by (waits k s) kind own e = held_if _ k s own e
-held_by free kind own e = absurd (let x : None ≡ Some own = e in cc)
-held_by rests kind own e = absurd (let x : None ≡ Some own = e in cc)
 
 -- a read ahead reads
 ahead_reads : (ahead : ReadAhead) (next : OrbPointer) (is_status : Bool) (fifo : ℕ) (access : Access) → IsAccessFor (ahead_ask ahead next) is_status fifo access → access.is_write ≡ false
@@ -66,7 +52,7 @@ ahead_reads (aheads.Kept orb) next is_status fifo access a = absurd a
 abbrev none_moved : List Moved
 none_moved = []
 
-module _ (units ready : ℕ) (has : 0 < units) (start : List Disk) {past : List Moment} {lines : ℕ} (w : WorldState) (h : Holding units ready start past lines w) (s : Site start past w) (open_lists : OpenLists (hist past w) w) (along : AreAlong (hist past w) w) (tame : IsTame (hist past w)) where
+module _ (units ready : ℕ) (has : 0 < units) (start : List Disk) {past : List Moment} {lines : ℕ} (w : WorldState) (h : Holding units ready start past lines w) (s : Site start past w) (open_lists : OpenLists (hist past w) w) (along : AreAlong (hist past w) w) where
   abbrev ms : List Moment
   ms = hist past w
 
@@ -79,7 +65,7 @@ module _ (units ready : ℕ) (has : 0 < units) (start : List Disk) {past : List 
   abbrev stands : Stands past w
   stands = h.sound.stands
 
-  module _ (place : ℕ) (b : place < 8) (is_open : is_open_at w place ≡ true) (serial own other slot : ℕ) (which : Which) (closed : answered_at t serial ≡ Some own) (purpose : purpose_of T own ≡ for_agent other which) where
+  module _ (place : ℕ) (b : place < 8) (is_open : is_open_at w place ≡ true) (calm : IsCalm ms (initiator_in w place)) (serial own other slot : ℕ) (which : Which) (closed : answered_at t serial ≡ Some own) (purpose : purpose_of T own ≡ for_agent other which) where
     abbrev i : ℕ
     i = initiator_in w place
 
@@ -142,7 +128,7 @@ module _ (units ready : ℕ) (has : 0 < units) (start : List Disk) {past : List 
             let same : q.from ≡ suc i = grind (arith, nat_tests, f) in
             let from = from_is in
             let one : initiator_in w other ≡ i = omega (arith, same, from) in
-            let at : other ≡ place = open_lists.one place other b handed.0 is_open asked.is_open (tame i) one in
+            let at : other ≡ place = open_lists.one place other b handed.0 is_open asked.is_open calm one in
             absurd (grind (arith, nat_tests, e, at))
 
     -- the place itself
@@ -159,41 +145,41 @@ module _ (units ready : ℕ) (has : 0 < units) (start : List Disk) {past : List 
   same_place : (a b : ℕ) → (a == b) ≡ true → a ≡ b
   same_place a b e = grind (arith, nat_tests, e)
 
-  module _ (place : ℕ) (b : place < 8) (is_open : is_open_at w place ≡ true) (serial own other slot : ℕ) where
+  module _ (place : ℕ) (b : place < 8) (is_open : is_open_at w place ≡ true) (calm : IsCalm ms (initiator_in w place)) (serial own other slot : ℕ) where
     main_case : Case place serial own other slot Main
     main_case closed purpose = by (other == place) refl
       where
         by : (x : Bool) → (other == place) ≡ x → IsOwnOrOther start ms (initiator_in w place) place slot serial
-        by false e = others place b is_open serial own other slot Main closed purpose e e
+        by false e = others place b is_open calm serial own other slot Main closed purpose e e
         by true e =
-            inl (reads_all place b is_open serial own other slot Main closed purpose (same_place other place e)
-            ∙ sym (main_is place b is_open serial own other slot Main closed purpose ∙ ap (λ x. cond (is_serial (receiver_in (t.sent serial)) 0) (cond x (moved_by (access_at t own) (payload_at t serial)) []) []) e))
+            inl (reads_all place b is_open calm serial own other slot Main closed purpose (same_place other place e)
+            ∙ sym (main_is place b is_open calm serial own other slot Main closed purpose ∙ ap (λ x. cond (is_serial (receiver_in (t.sent serial)) 0) (cond x (moved_by (access_at t own) (payload_at t serial)) []) []) e))
 
-    module _ (closed : answered_at t serial ≡ Some own) (purpose : purpose_of T own ≡ for_agent other Ahead) where
+    module _ (closed : answered_at t serial ≡ Some own) (purpose : purpose_of T own ≡ for_agent other Ahead) (quiet : IsCalm ms (initiator_in w other)) where
       abbrev m : Machine
       m = machine_at w other
 
       abbrev j : ℕ
       j = initiator_in w other
 
-      abbrev waits_for : Waiting units ready has start w h s other (handed place b is_open serial own other slot Ahead closed purpose).0 Ahead own
-      waits_for = asked place b is_open serial own other slot Ahead closed purpose
+      abbrev waits_for : Waiting units ready has start w h s other (handed place b is_open calm serial own other slot Ahead closed purpose).0 Ahead own
+      waits_for = asked place b is_open calm serial own other slot Ahead closed purpose
 
       abbrev small_place : other < 8
-      small_place = (handed place b is_open serial own other slot Ahead closed purpose).0
+      small_place = (handed place b is_open calm serial own other slot Ahead closed purpose).0
 
       abbrev o : IsOpenAt ms w other
-      o = open_lists.listed other small_place waits_for.is_open (tame j)
+      o = open_lists.listed other small_place waits_for.is_open quiet
 
       abbrev goes : GoesAlong ms j o.n m
-      goes = along.all other small_place waits_for.is_open (tame j) o.n o.list
+      goes = along.all other small_place waits_for.is_open quiet o.n o.list
 
       abbrev fifo : ℕ
       fifo = fifo_in (term_login T other)
 
       prepared : IsPrepared ms j (slot_at ms j o.n (number_of Ahead m.phase goes.progress.ended)) o.n (number_of Ahead m.phase goes.progress.ended)
       prepared =
-          read_prepared units ready has start w h s open_lists other small_place waits_for.is_open waits_for.inside (tame j) o.n o.list goes.progress.ended (number_of Ahead m.phase goes.progress.ended) goes.is
+          read_prepared units ready has start w h s open_lists other small_place waits_for.is_open waits_for.inside quiet o.n o.list goes.progress.ended (number_of Ahead m.phase goes.progress.ended) goes.is
           (is_in ms j o.n Ahead goes.progress m waits_for.status fifo waits_for.access goes.along waits_for.asks (ahead_reads m.ahead m.orb.next waits_for.status fifo waits_for.access waits_for.asks))
 
       no_data : (x : ℕ) → data_slot (window_at waits_for.access.offset) ≡ Some x → ⊥
@@ -209,12 +195,12 @@ module _ (units ready : ℕ) (has : 0 < units) (start : List Disk) {past : List 
     ahead_case closed purpose = by (other == place) refl
       where
         by : (x : Bool) → (other == place) ≡ x → IsOwnOrOther start ms (initiator_in w place) place slot serial
-        by false e = others place b is_open serial own other slot Ahead closed purpose e refl
+        by false e = others place b is_open calm serial own other slot Ahead closed purpose e refl
         by true e = inr (
-          main_is place b is_open serial own other slot Ahead closed purpose ∙ either_none place b is_open serial own other slot Ahead closed purpose (is_serial (receiver_in (t.sent serial)) 0),
-          subst (AllElsewhere slot) (sym (reads_all place b is_open serial own other slot Ahead closed purpose (same_place other place e))) (elsewhere closed purpose (is_serial (receiver_in (t.sent serial)) 0)),
+          main_is place b is_open calm serial own other slot Ahead closed purpose ∙ either_none place b is_open calm serial own other slot Ahead closed purpose (is_serial (receiver_in (t.sent serial)) 0),
+          subst (AllElsewhere slot) (sym (reads_all place b is_open calm serial own other slot Ahead closed purpose (same_place other place e))) (elsewhere closed purpose (subst (λ p. IsCalm ms (initiator_in w p)) (sym (same_place other place e)) calm) (is_serial (receiver_in (t.sent serial)) 0)),
         )
 
   pub are_own_gots : AreOwnGots start ms w
-  are_own_gots place b is_open serial own other slot Main closed purpose = main_case place b is_open serial own other slot closed purpose
-  are_own_gots place b is_open serial own other slot Ahead closed purpose = ahead_case place b is_open serial own other slot closed purpose
+  are_own_gots place b is_open calm serial own other slot Main closed purpose = main_case place b is_open calm serial own other slot closed purpose
+  are_own_gots place b is_open calm serial own other slot Ahead closed purpose = ahead_case place b is_open calm serial own other slot closed purpose

@@ -1,6 +1,6 @@
--- In a run in which no initiator injected packets the buffer and the data of each command that runs are those by all that the target got of the initiator since the response that brought its ORB, where the
+-- The buffer and the data of each command that runs, of an initiator that injected no packets, are those by all that the target got of the initiator since the response that brought its ORB, where the
 -- others begin elsewhere than in the page table and the buffer of its slot.
-use Rattle.std.proofs.Common.{◌≡◌, ◌∙◌, refl, sym, ap, subst, ℕ, Bool, false, append_assoc, List, [], ◌∷◌, ◌++◌, Option, Some, None, cond}
+use Rattle.std.proofs.Common.{arith, ◌≡◌, ◌∙◌, refl, sym, ap, subst, ℕ, suc, Bool, false, append_assoc, List, [], ◌∷◌, ◌++◌, map, Option, Some, None, cond}
 use Rattle.std.specs.Prelude.{IsSomeAnd}
 use Rattle.bus_transactions.specs.Judging.{AreJudged}
 use Rattle.command_agent.specs.Machine.{limit_of}
@@ -16,17 +16,27 @@ use Rattle.sbp_journal.specs.declared.note.Note.{Note}
 use Rattle.sbp_journal.specs.declared.note.Note.TheVariants as notes
 use Rattle.sbp_laws.specs.CarriedBytes.{Moved, address_of, buffer_in, joined, orb_read, read_at, reads_since}
 use Rattle.sbp_laws.specs.Lists.{slot_at}
-use Rattle.sbp_laws.specs.Packets.{sender_in}
+use Rattle.sbp_laws.specs.Packets.{answered_at, receiver_in, sender_in}
 use Rattle.sbp_laws.specs.Terms.{plan_of, request_at}
 use Rattle.sbp_laws.specs.Turns.{EachMoment}
+use Rattle.sbp_laws.specs.Lawful.{injectors}
+use Rattle.sbp_world.specs.Histories.{history_of}
+use Rattle.sbp_world.specs.Runs.{after, beginning}
+use Rattle.sbp_world.specs.Settling.{after_all}
+use Rattle.sbp_world.specs.Worlds.{begun}
 use Rattle.sbp_world.specs.Hosts.Runs.{more_deliveries}
-use Rattle.sbp_world.specs.Lists.FedRuns.{AreBeside, AreOthers, AreOwnOrOthers, FedAt, RunIsFed, RunIsSince, RunsSinceLaw, SinceAt, own_reads}
+use Rattle.sbp_world.specs.Lists.Closes.{OpenListsLaw}
+use Rattle.sbp_world.specs.Lists.FedNames.{RunIsNamedFed}
+use Rattle.sbp_world.specs.Lists.Needs.{IsCalm}
+use Rattle.sbp_world.specs.Lists.FedRuns.{AreBeside, AreOthers, AreOwnOrOthers, RunIsFed, RunIsSince, RunsSinceLaw, SinceAt, own_reads}
 use Rattle.sbp_world.specs.Lists.GotOnce.{NoneAgain}
-use Rattle.sbp_world.proofs.Lists.Fair.{IsFair, fair_before, fair_of, told_everywhere}
-use Rattle.sbp_world.proofs.Lists.Courses.{more_than_one}
-use Rattle.sbp_world.proofs.Lists.Executes.{runs_fed_law}
+use Rattle.sbp_world.proofs.Lists.Fair.{Told, told_before, told_everywhere}
+use Rattle.sbp_world.proofs.Lists.Calm.{calm_before}
+use Rattle.sbp_world.proofs.Lists.Executes.{NamedRun, OpensBeside, opens_before, runs_named}
 use Rattle.sbp_world.proofs.Lists.FedOnce.{got_once, judged_before, judged_everywhere}
 use Rattle.sbp_world.proofs.Lists.FedSince.{beside_law}
+use Rattle.sbp_world.proofs.Lists.ListsProved.{closing}
+use Rattle.sbp_world.proofs.Lists.ManageTerms.{same_some}
 use Rattle.sbp_world.proofs.Lists.WasReads.{orb_is}
 
 -- ---- moments in two parts
@@ -48,9 +58,15 @@ none_behind r (said note ∷ a) b n = by note n (λ m. none_behind r a b m)
     by (notes.Got serial) n again = again n.1
     by note n again = again n
 
-sent_by : (found : Option Sending) → sender_in found ≡ Some 0 → (asking : Sending) × (found ≡ Some asking)
-sent_by None e = absurd (let x : None ≡ Some 0 = e in cc)
-sent_by (Some asking) e = (asking, refl)
+record IsAsking (found : Option Sending) (i : ℕ) : Type 0 where
+  asking : Sending
+  is : found ≡ Some asking
+  from : asking.from ≡ 0
+  to : asking.to ≡ suc i
+
+asking_by : (found : Option Sending) (i : ℕ) → sender_in found ≡ Some 0 → receiver_in found ≡ Some (suc i) → IsAsking found i
+asking_by None i e f = absurd (let x : None ≡ Some 0 = e in cc)
+asking_by (Some asking) i e f = record { asking = asking; is = refl; from = same_some asking.from 0 e; to = same_some asking.to (suc i) f }
 
 -- of no pieces nothing is joined
 no_pieces : (all : List Moved) → joined [] all ≡ []
@@ -58,7 +74,20 @@ no_pieces [] = refl
 no_pieces (one ∷ all) = no_pieces all
 
 -- ---- at a run
-module _ (start : List Disk) (past : List Moment) (f : IsFair past) (j : AreJudged past) (i n k : ℕ) (bytes : List ℕ) (fed : RunIsFed start past i n k bytes) where
+-- the read that brought its ORB went to its initiator
+abbrev pub HasAskedIt : (start : List Disk) (past : List Moment) (i n k : ℕ) (bytes : List ℕ) → RunIsFed start past i n k bytes → Type 0
+HasAskedIt start past i n k bytes fed = receiver_in ((terms fed.brought.earlier).sent fed.brought.request) ≡ Some (suc i)
+
+pub fed_asked : (start : List Disk) (past : List Moment) (i n k : ℕ) (bytes : List ℕ) (e : RunIsNamedFed start past i n k bytes) → HasAskedIt start past i n k bytes e.fed
+fed_asked start past i n k bytes e =
+    let a = e.fed.brought in
+    let b = e.named.named.brought in
+    let same : a.request ≡ b.request =
+    same_some a.request b.request (sym a.closed ∙ (ap (λ ms. answered_at (terms ms) a.response) e.earlier ∙ (ap (λ serial. answered_at (terms b.earlier) serial) e.response ∙ b.closed))) in
+    ap (λ ms. receiver_in ((terms ms).sent a.request)) e.earlier
+    ∙ (ap (λ serial. receiver_in ((terms b.earlier).sent serial)) same ∙ (e.named.named.to ∙ ap (λ x. Some (suc x)) e.named.initiator))
+
+module _ (start : List Disk) (past : List Moment) (f : Told past) (j : AreJudged past) (i n k : ℕ) (bytes : List ℕ) (calm : IsCalm past i) (fed : RunIsFed start past i n k bytes) (asked_it : HasAskedIt start past i n k bytes fed) where
   abbrev r : ℕ
   r = fed.brought.response
 
@@ -70,8 +99,9 @@ module _ (start : List Disk) (past : List Moment) (f : IsFair past) (j : AreJudg
 
   once : NoneAgain r (fed.later ++ fed.between)
   once =
-      let own = sent_by ((terms fed.brought.earlier).sent fed.brought.request) fed.brought.asked.from in
-      got_once past f j (fed.later ++ fed.between) fed.brought.earlier r fed.brought.request own.0 (append_assoc fed.later fed.between behind ∙ fed.is) fed.brought.closed own.1
+      let own = asking_by ((terms fed.brought.earlier).sent fed.brought.request) i fed.brought.asked.from asked_it in
+      got_once past f j (fed.later ++ fed.between) fed.brought.earlier r fed.brought.request own.asking (append_assoc fed.later fed.between behind ∙ fed.is) fed.brought.closed own.is
+      (λ a e. absurd (let x = own.from in omega (arith, x, e))) (λ a e. subst (IsCalm past) (let x = own.to in omega (arith, x, e)) calm)
 
   beside : AreOthers i slot fed.between behind → AreOwnOrOthers start i fed.place slot fed.later (fed.between ++ behind) → AreBeside slot (reads_since past i r) fed.reads
   beside o p =
@@ -113,24 +143,30 @@ module _ (start : List Disk) (past : List Moment) (f : IsFair past) (j : AreJudg
   since_fed = refl
 
 -- ---- at each moment
-module _ (wild : ℕ → Bool) (calm : (i : ℕ) → wild i ≡ false) (start : List Disk) where
-  moment_since : (m : Moment) (past : List Moment) → IsFair past → AreJudged past → FedAt wild start m past → SinceAt start m past
-  moment_since (said (notes.Ran i (Some n) (Some k) unit cdb bytes check)) past f j h = run_since start past f j i n k bytes (h (calm i))
-  moment_since m past f j h = tt
+module _ (wild : ℕ → Bool) (start : List Disk) where
+  moment_since : (m : Moment) (past : List Moment) → OpensBeside past → ((i : ℕ) → wild i ≡ false → IsCalm past i) → Told past → AreJudged past → NamedRun wild start m past → SinceAt wild start m past
+  moment_since (said (notes.Ran i (Some n) (Some k) unit cdb bytes check)) past so calm f j e = λ own.
+      let x = e so own in
+      run_since start past f j i n k bytes (calm i own) x.fed (fed_asked start past i n k bytes x)
+  moment_since m past so calm f j e = tt
 
-  all_since : (past : List Moment) → IsFair past → AreJudged past → EachMoment (FedAt wild start) past → EachMoment (SinceAt start) past
-  all_since [] f j h = tt
-  all_since (m ∷ past) f j h =
-      let g = fair_before m past f in
+  all_since : (past : List Moment) → OpensBeside past → ((i : ℕ) → wild i ≡ false → IsCalm past i) → Told past → AreJudged past → EachMoment (NamedRun wild start) past → EachMoment (SinceAt wild start) past
+  all_since [] so calm f j e = tt
+  all_since (m ∷ past) so calm f j e =
+      let g = told_before m past f in
       let q = judged_before m past j in
-      (moment_since m past g q h.0, all_since past g q h.1)
+      let before = opens_before (m ∷ []) past so in
+      let quiet : (i : ℕ) → wild i ≡ false → IsCalm past i = λ i own. calm_before (m ∷ []) past i (calm i own) in
+      (moment_since m past before quiet g q e.0, all_since past before quiet g q e.1)
 
-pub runs_since_law : RunsSinceLaw
-runs_since_law = record {
-  after_lines = λ line run r has small size so_far tame.
-      all_since _ (λ i. tame i) run.start.disks _ (fair_of _ (told_everywhere.after_lines line run r has small size so_far) tame) (judged_everywhere.after_lines line run r has small size so_far)
-      (runs_fed_law.after_lines line run r has small size so_far);
-  between = λ line run r has small size next most told m so_far tame.
-      all_since _ (λ i. tame i) run.start.disks _ (fair_of _ (told_everywhere.between line run r has small size next most told m so_far) tame) (judged_everywhere.between line run r has small size next most told m so_far)
-      (runs_fed_law.between line run r has small size next (more_deliveries most) (more_than_one most) told m so_far);
+pub runs_since_law : OpenListsLaw → RunsSinceLaw
+runs_since_law lists = record {
+  after_lines = λ line run r has small size so_far beside.
+      let past = history_of line run in
+      all_since (injectors past) run.start.disks past (closing, lists, beside) (λ i own. own) (told_everywhere.after_lines line run r has small size so_far) (judged_everywhere.after_lines line run r has small size so_far)
+      (runs_named.after_lines line run r has small size so_far);
+  between = λ line run r has small size next most told m so_far beside.
+      let now = map said (after_all told (begun (after (beginning run) run.entries))).world.fresh ++ asked next (more_deliveries most) ∷ history_of line run in
+      all_since (injectors now) run.start.disks now (closing, lists, beside) (λ i own. own) (told_everywhere.between line run r has small size next most told m so_far)
+      (judged_everywhere.between line run r has small size next most told m so_far) (runs_named.between line run r has small size next most told m so_far);
 }

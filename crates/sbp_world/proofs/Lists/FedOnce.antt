@@ -1,6 +1,6 @@
--- A response that closed the transaction of a request is not got again: in runs in which no initiator injected packets each response that is got answers the request that its label waits for, and
+-- A response that closed the transaction of a request is not got again, where its nodes injected no packets: each response of such nodes that is got answers the request that its label waits for, and
 -- a label that is free waits later for requests alone that are sent later.
-use Rattle.std.proofs.Common.{arith, ◌≡◌, ◌∙◌, refl, sym, ap, subst, inl, inr, ◌⊎◌, ◌≤◌, ◌==◌, ℕ, Bool, true, false, cond, List, [], ◌∷◌, ◌++◌, Option, Some, None}
+use Rattle.std.proofs.Common.{arith, ◌≡◌, ◌∙◌, refl, sym, ap, subst, inl, inr, ◌⊎◌, ◌≤◌, ◌==◌, ℕ, zero, suc, Bool, true, false, cond, List, [], ◌∷◌, ◌++◌, Option, Some, None}
 use Rattle.std.proofs.lemmas.Bool.Decides.{nat_tests}
 use Rattle.bus_transactions.specs.Judging.{AreJudged, JudgementLaw, facts_of, is_awaited, is_response, may_get, waits_for}
 use Rattle.bus_transactions.specs.Packets.{SerialsCount}
@@ -20,10 +20,12 @@ use Rattle.sbp_world.specs.Wire.Wires.{Stands}
 use Rattle.sbp_world.proofs.Agents.Management.Still.{hist}
 use Rattle.sbp_world.proofs.Hosts.Remaining.{remains}
 use Rattle.sbp_world.proofs.Hosts.SentMoments.{sent_below, serials_from}
-use Rattle.sbp_world.specs.Lists.GotOnce.{AreGotOnce, GotOnceLaw, NoneAgain}
-use Rattle.sbp_world.proofs.Lists.Fair.{IsFair, fair_before, fair_of, told_everywhere}
+use Rattle.sbp_world.specs.Lists.GotOnce.{AreGotOnce, GotOnceLaw, IsCalmNode, NoneAgain}
+use Rattle.sbp_world.proofs.Lists.Fair.{Told, told_before, told_everywhere}
 use Rattle.sbp_world.proofs.Lists.Courses.{EveryPlace, Keeps, at_between, at_lines}
 use Rattle.sbp_world.proofs.Lists.ManageTerms.{same_some}
+use Rattle.sbp_world.proofs.Lists.BegunBy.{IsHeld, begun_of, held_by, transaction_of}
+use Rattle.sbp_world.proofs.Lists.Calm.{injects_before}
 use Rattle.sbp_world.proofs.Lists.FedHeld.{IsNewer, got_frees, waits_since}
 
 -- ---- a response that is got is awaited
@@ -72,9 +74,13 @@ judged_before (said note) past j = by note j
     by (notes.Ignored s cause) j = j.1
     by note j = j
 
-fair_from : (later earlier : List Moment) → IsFair (later ++ earlier) → IsFair earlier
-fair_from [] earlier f = f
-fair_from (m ∷ later) earlier f = fair_from later earlier (fair_before m (later ++ earlier) f)
+told_from : (later earlier : List Moment) → Told (later ++ earlier) → Told earlier
+told_from [] earlier f = f
+told_from (m ∷ later) earlier f = told_from later earlier (told_before m (later ++ earlier) f)
+
+injects_from : (later earlier : List Moment) (node : ℕ) → (terms (later ++ earlier)).injects node ≡ false → (terms earlier).injects node ≡ false
+injects_from [] earlier node e = e
+injects_from (m ∷ later) earlier node e = injects_from later earlier node (injects_before m (later ++ earlier) node e)
 
 module _ (earlier : List Moment) (r own : ℕ) (asking : Sending) (closed : answered_at (terms earlier) r ≡ Some own) (own_sent : (terms earlier).sent own ≡ Some asking) where
   abbrev E : List Moment
@@ -92,8 +98,26 @@ module _ (earlier : List Moment) (r own : ℕ) (asking : Sending) (closed : answ
   freed : (terms E).held u ≡ free
   freed = got_frees (terms earlier) r own q reply.label reply.kind reply.sent reply.part reply.closes
 
+  -- neither node of the transaction injected packets
+  record AreFair (past : List Moment) : Type 0 where
+    requester : (terms past).injects u.requester ≡ false
+    responder : (terms past).injects u.responder ≡ false
+
+  are_before : (m : Moment) (past : List Moment) → AreFair (m ∷ past) → AreFair past
+  are_before m past f = record { requester = injects_before m past u.requester f.requester; responder = injects_before m past u.responder f.responder }
+
+  are_from : (later past : List Moment) → AreFair (later ++ past) → AreFair past
+  are_from later past f = record { requester = injects_from later past u.requester f.requester; responder = injects_from later past u.responder f.responder }
+
+  -- a response that answers the request which its label waits for
+  answered_by : (past : List Moment) (serial : ℕ) → Told (said (notes.Got serial) ∷ past) → AreFair past → (kind : Kind) (asked_for : ℕ) → (terms past).held u ≡ waits kind asked_for → answered_at (terms past) serial ≡ Some asked_for → (terms past).answers serial ≡ Some asked_for
+  answered_by past serial f fair kind asked_for waits_so answered =
+      let x = begun_of past (told_before (said (notes.Got serial)) past f).counts u kind asked_for waits_so in
+      let nodes = transaction_of x.packet u x.begun in
+      f.answers.0 asked_for answered x.packet x.sent (subst (λ node. (terms past).injects node ≡ false) nodes.requester fair.requester) (subst (λ node. (terms past).injects node ≡ false) nodes.responder fair.responder)
+
   -- it is got again
-  module _ (later : List Moment) (f : IsFair (said (notes.Got r) ∷ (later ++ E))) (j : AreJudged (said (notes.Got r) ∷ (later ++ E))) where
+  module _ (later : List Moment) (f : Told (said (notes.Got r) ∷ (later ++ E))) (j : AreJudged (said (notes.Got r) ∷ (later ++ E))) (fair : AreFair (later ++ E)) where
     abbrev H : List Moment
     H = later ++ E
 
@@ -137,17 +161,12 @@ module _ (earlier : List Moment) (r own : ℕ) (asking : Sending) (closed : answ
     closes_now : answered_at t r ≡ Some now.serial
     closes_now = ap (λ (so : Option Sending). answered_in t so) sent_there ∙ ap (λ (p : Part). answered_as p t q) reply.part ∙ now.closes
 
-    fair_there : IsFair H
-    fair_there = fair_before (said (notes.Got r)) H f
-
-    fair_then : IsFair E
-    fair_then = fair_from later E fair_there
-
-    fair_earlier : IsFair earlier
-    fair_earlier = fair_before (said (notes.Got r)) earlier fair_then
+    held_then : IsHeld ((terms earlier).held u) own
+    held_then = held_by ((terms earlier).held u) reply.kind own reply.closes
 
     answered_then : (terms earlier).answers r ≡ Some own
-    answered_then = fair_then.answers.0 own closed asking own_sent (fair_earlier.fair asking.from) (fair_earlier.fair asking.to)
+    answered_then =
+        answered_by earlier r (told_from later E (told_before (said (notes.Got r)) H f)) (are_from (said (notes.Got r) ∷ []) earlier (are_from later E fair)) held_then.kind own held_then.is closed
 
     answers_same : t.answers r ≡ (terms earlier).answers r
     answers_same =
@@ -157,7 +176,7 @@ module _ (earlier : List Moment) (r own : ℕ) (asking : Sending) (closed : answ
 
     newer : IsNewer E H now.serial → ⊥
     newer n =
-        let answered : t.answers r ≡ Some now.serial = f.answers.0 now.serial closes_now n.packet n.sent (fair_there.fair n.packet.from) (fair_there.fair n.packet.to) in
+        let answered : t.answers r ≡ Some now.serial = answered_by H r f fair now.waited now.serial now.is closes_now in
         let same : now.serial ≡ own = same_some now.serial own (sym answered ∙ answers_same ∙ answered_then) in
         let a = (remains (said (notes.Got r) ∷ []) earlier counts_then).count in
         let above = n.above in
@@ -170,27 +189,49 @@ module _ (earlier : List Moment) (r own : ℕ) (asking : Sending) (closed : answ
         by (inl e) = let x : free ≡ waits now.waited now.serial = sym freed ∙ e in cc
         by (inr n) = newer n
 
-  not_again : (later : List Moment) (serial : ℕ) → IsFair (said (notes.Got serial) ∷ (later ++ E)) → AreJudged (said (notes.Got serial) ∷ (later ++ E)) → (serial == r) ≡ false
-  not_again later serial f j = by (serial == r) refl
+  not_again : (later : List Moment) (serial : ℕ) → Told (said (notes.Got serial) ∷ (later ++ E)) → AreJudged (said (notes.Got serial) ∷ (later ++ E)) → AreFair (later ++ E) → (serial == r) ≡ false
+  not_again later serial f j fair = by (serial == r) refl
     where
       by : (b : Bool) → (serial == r) ≡ b → b ≡ false
       by false e = refl
       by true e =
           let same : serial ≡ r = grind (arith, nat_tests, e) in
-          absurd (never later (subst (λ x. IsFair (said (notes.Got x) ∷ (later ++ E))) same f) (subst (λ x. AreJudged (said (notes.Got x) ∷ (later ++ E))) same j))
+          absurd (never later (subst (λ x. Told (said (notes.Got x) ∷ (later ++ E))) same f) (subst (λ x. AreJudged (said (notes.Got x) ∷ (later ++ E))) same j) fair)
 
-  none_again : (later : List Moment) → IsFair (later ++ E) → AreJudged (later ++ E) → NoneAgain r later
-  none_again [] f j = tt
-  none_again (asked line event ∷ later) f j = none_again later (fair_before (asked line event) (later ++ E) f) (judged_before (asked line event) (later ++ E) j)
-  none_again (said note ∷ later) f j = by note f j (none_again later (fair_before (said note) (later ++ E) f) (judged_before (said note) (later ++ E) j))
+  none_again : (later : List Moment) → Told (later ++ E) → AreJudged (later ++ E) → AreFair (later ++ E) → NoneAgain r later
+  none_again [] f j fair = tt
+  none_again (asked line event ∷ later) f j fair =
+      none_again later (told_before (asked line event) (later ++ E) f) (judged_before (asked line event) (later ++ E) j) (are_before (asked line event) (later ++ E) fair)
+  none_again (said note ∷ later) f j fair =
+      by note f j fair (none_again later (told_before (said note) (later ++ E) f) (judged_before (said note) (later ++ E) j) (are_before (said note) (later ++ E) fair))
     where
-      by : (note : Note) → IsFair (said note ∷ (later ++ E)) → AreJudged (said note ∷ (later ++ E)) → NoneAgain r later → NoneAgain r (said note ∷ later)
-      by (notes.Got serial) f j rest = (not_again later serial f j, rest)
-      by note f j rest = rest
+      by : (note : Note) → Told (said note ∷ (later ++ E)) → AreJudged (said note ∷ (later ++ E)) → AreFair (said note ∷ (later ++ E)) → NoneAgain r later → NoneAgain r (said note ∷ later)
+      by (notes.Got serial) f j fair rest = (not_again later serial f j (are_before (said (notes.Got serial)) (later ++ E) fair), rest)
+      by note f j fair rest = rest
 
-pub got_once : (past : List Moment) → IsFair past → AreJudged past → AreGotOnce past
-got_once past f j later earlier r own asking is closed own_sent =
-    none_again earlier r own asking closed own_sent later (subst IsFair (sym is) f) (subst AreJudged (sym is) j)
+  -- the nodes of its request
+  of_asking : SerialsCount earlier → (past : List Moment) → (terms past).injects asking.from ≡ false → (terms past).injects asking.to ≡ false → AreFair past
+  of_asking counts past from to =
+      let held = held_by ((terms earlier).held u) reply.kind own reply.closes in
+      let x = begun_of earlier counts u held.kind own held.is in
+      let nodes = transaction_of x.packet u x.begun in
+      let same : x.packet ≡ asking = same_some x.packet asking (sym x.sent ∙ own_sent) in
+      record {
+        requester = subst (λ node. (terms past).injects node ≡ false) (sym (nodes.requester ∙ ap (λ (p : Sending). p.from) same)) from;
+        responder = subst (λ node. (terms past).injects node ≡ false) (sym (nodes.responder ∙ ap (λ (p : Sending). p.to) same)) to;
+      }
+
+fair_node : (past : List Moment) → Told past → (node : ℕ) → IsCalmNode past node → (terms past).injects node ≡ false
+fair_node past f zero calm = f.fair
+fair_node past f (suc i) calm = calm i refl
+
+pub got_once : (past : List Moment) → Told past → AreJudged past → AreGotOnce past
+got_once past f j later earlier r own asking is closed own_sent from to =
+    let told = subst Told (sym is) f in
+    let counts : SerialsCount earlier = (told_from (said (notes.Got r) ∷ []) earlier (told_from later (said (notes.Got r) ∷ earlier) told)).counts in
+    none_again earlier r own asking closed own_sent later told (subst AreJudged (sym is) j)
+    (of_asking earlier r own asking closed own_sent counts (later ++ said (notes.Got r) ∷ earlier) (fair_node (later ++ said (notes.Got r) ∷ earlier) told asking.from (subst (λ ms. IsCalmNode ms asking.from) (sym is) from))
+    (fair_node (later ++ said (notes.Got r) ∷ earlier) told asking.to (subst (λ ms. IsCalmNode ms asking.to) (sym is) to)))
 
 -- ---- at each place of a run
 abbrev Nothing : List Disk → List Moment → WorldState → Type 0
@@ -215,8 +256,8 @@ judged_everywhere = record {
 
 pub got_once_law : GotOnceLaw
 got_once_law = record {
-  after_lines = λ line run r has small size so_far tame.
-      got_once _ (fair_of _ (told_everywhere.after_lines line run r has small size so_far) tame) (judged_everywhere.after_lines line run r has small size so_far);
-  between = λ line run r has small size next most told m so_far tame.
-      got_once _ (fair_of _ (told_everywhere.between line run r has small size next most told m so_far) tame) (judged_everywhere.between line run r has small size next most told m so_far);
+  after_lines = λ line run r has small size so_far.
+      got_once _ (told_everywhere.after_lines line run r has small size so_far) (judged_everywhere.after_lines line run r has small size so_far);
+  between = λ line run r has small size next most told m so_far.
+      got_once _ (told_everywhere.between line run r has small size next most told m so_far) (judged_everywhere.between line run r has small size next most told m so_far);
 }

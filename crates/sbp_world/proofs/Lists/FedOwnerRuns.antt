@@ -1,6 +1,6 @@
--- In every run in which no initiator injected packets, and in which lists were open as they should be before, the agents read the page tables and the data of the ORBs that are at the heads of
--- their own lists alone.
-use Rattle.std.proofs.Common.{inl, ◌≡◌, sym, ap, subst, ◌<◌, ◌≤◌, ◌+◌, ℕ, Bool, true, false, List, ◌∷◌, ◌++◌, map, length, Option}
+-- In every run in which no initiator injected packets, or few logins were given, and in which lists were open as they should be before, the agents read of an initiator that injected none the page tables and the
+-- data of the ORB at the head of its own list alone.
+use Rattle.std.proofs.Common.{◌≡◌, sym, ap, subst, ◌<◌, ◌≤◌, ◌+◌, ℕ, Bool, true, false, List, ◌∷◌, ◌++◌, map, length, Option}
 use Rattle.sbp_world.proofs.Agents.Management.Still.{hist}
 use Rattle.rbc_disk.specs.Runs.{Told}
 use Rattle.sbp_journal.specs.Run.{Moment, asked, said}
@@ -14,7 +14,6 @@ use Rattle.sbp_world.specs.Lists.Along.{AreAlong}
 use Rattle.sbp_world.specs.Lists.Closes.{OpenListsLaw}
 use Rattle.sbp_world.specs.Lists.Needs.{IsCalm, OpenBefore, OpenLists}
 use Rattle.sbp_world.specs.Lists.Opens.{OpensLaw}
-use Rattle.sbp_world.specs.Lists.OwnLogins.{IsTame}
 use Rattle.sbp_world.specs.Lists.OwnReads.{AreOwnGots, AreOwnReads, OwnGotsLaw, OwnReadsLaw}
 use Rattle.sbp_world.proofs.Lists.Courses.{more_than_one}
 use Rattle.sbp_world.proofs.Lists.FedGots.{are_own_gots}
@@ -43,21 +42,21 @@ module _ (line : ℕ) (run : Run) (r : IsRun run) (has : 0 < run.units) (small :
   abbrev logins : ℕ
   logins = ready_logins run.initiators run.ready
 
-  own_after : OpenLists (history_of line run) last.world → AreAlong (history_of line run) last.world → IsTame (history_of line run) → AreOwnReads run.start.disks (history_of line run) last.world
-  own_after open_lists along tame =
+  own_after : OpenLists (history_of line run) last.world → AreAlong (history_of line run) last.world → AreOwnReads run.start.disks (history_of line run) last.world
+  own_after open_lists along =
       let k = kept in
       let back = sym k.is in
       subst (λ ms. AreOwnReads run.start.disks ms last.world) k.is
       (are_own_reads run.units logins has run.start.disks last.world k.holds (site_after line run r has small size k.past (length run.entries) k.holds back)
-      (subst (λ ms. OpenLists ms last.world) back open_lists) (subst (λ ms. AreAlong ms last.world) back along) (subst IsTame back tame))
+      (subst (λ ms. OpenLists ms last.world) back open_lists) (subst (λ ms. AreAlong ms last.world) back along))
 
-  gots_after : OpenLists (history_of line run) last.world → AreAlong (history_of line run) last.world → IsTame (history_of line run) → AreOwnGots run.start.disks (history_of line run) last.world
-  gots_after open_lists along tame =
+  gots_after : OpenLists (history_of line run) last.world → AreAlong (history_of line run) last.world → AreOwnGots run.start.disks (history_of line run) last.world
+  gots_after open_lists along =
       let k = kept in
       let back = sym k.is in
       subst (λ ms. AreOwnGots run.start.disks ms last.world) k.is
       (are_own_gots run.units logins has run.start.disks last.world k.holds (site_after line run r has small size k.past (length run.entries) k.holds back)
-      (subst (λ ms. OpenLists ms last.world) back open_lists) (subst (λ ms. AreAlong ms last.world) back along) (subst IsTame back tame))
+      (subst (λ ms. OpenLists ms last.world) back open_lists) (subst (λ ms. AreAlong ms last.world) back along))
 
   module _ (next : ℕ) (most : Option ℕ) (told : List (Option Told)) (m : MayAll told (begun last)) where
     abbrev end : WorldState
@@ -66,8 +65,8 @@ module _ (line : ℕ) (run : Run) (r : IsRun run) (has : 0 < run.units) (small :
     abbrev ms : List Moment
     ms = map said end.fresh ++ asked next (more_deliveries most) ∷ history_of line run
 
-    own_between : OpenLists ms end → AreAlong ms end → IsTame ms → AreOwnReads run.start.disks ms end
-    own_between open_lists along tame =
+    own_between : OpenLists ms end → AreAlong ms end → AreOwnReads run.start.disks ms end
+    own_between open_lists along =
         let k = kept in
         let d = more_than_one most in
         let holds = holds_at wilds opened line run r.few has small size run.entries r.short r.entries r.lines k.past (length run.entries) k.holds k.is next (more_deliveries most) d told m in
@@ -75,10 +74,10 @@ module _ (line : ℕ) (run : Run) (r : IsRun run) (has : 0 < run.units) (small :
         let back = sym is in
         subst (λ x. AreOwnReads run.start.disks x end) is
         (are_own_reads run.units logins has run.start.disks end holds (site_between line run r has small size next (more_deliveries most) d told m (asked next (more_deliveries most) ∷ hist k.past last.world) (length run.entries + 1) holds back)
-        (subst (λ x. OpenLists x end) back open_lists) (subst (λ x. AreAlong x end) back along) (subst IsTame back tame))
+        (subst (λ x. OpenLists x end) back open_lists) (subst (λ x. AreAlong x end) back along))
 
-    gots_between : OpenLists ms end → AreAlong ms end → IsTame ms → AreOwnGots run.start.disks ms end
-    gots_between open_lists along tame =
+    gots_between : OpenLists ms end → AreAlong ms end → AreOwnGots run.start.disks ms end
+    gots_between open_lists along =
         let k = kept in
         let d = more_than_one most in
         let holds = holds_at wilds opened line run r.few has small size run.entries r.short r.entries r.lines k.past (length run.entries) k.holds k.is next (more_deliveries most) d told m in
@@ -86,22 +85,22 @@ module _ (line : ℕ) (run : Run) (r : IsRun run) (has : 0 < run.units) (small :
         let back = sym is in
         subst (λ x. AreOwnGots run.start.disks x end) is
         (are_own_gots run.units logins has run.start.disks end holds (site_between line run r has small size next (more_deliveries most) d told m (asked next (more_deliveries most) ∷ hist k.past last.world) (length run.entries + 1) holds back)
-        (subst (λ x. OpenLists x end) back open_lists) (subst (λ x. AreAlong x end) back along) (subst IsTame back tame))
+        (subst (λ x. OpenLists x end) back open_lists) (subst (λ x. AreAlong x end) back along))
 
 pub own_reads_law : OpenListsLaw → OwnReadsLaw
 own_reads_law lists = record {
-  after_lines = λ line run r has small size so_far tame.
-      own_after line run r has small size (lists.after_lines line run r has small size (inl tame)) (along_law.after_lines line run r has small size so_far) tame;
-  between = λ line run r has small size next most told m so_far tame.
-      own_between line run r has small size next most told m (lists.between line run r has small size next (more_deliveries most) (more_than_one most) told m (inl tame))
-      (along_law.between line run r has small size next (more_deliveries most) (more_than_one most) told m so_far) tame;
+  after_lines = λ line run r has small size so_far beside.
+      own_after line run r has small size (lists.after_lines line run r has small size beside) (along_law.after_lines line run r has small size so_far);
+  between = λ line run r has small size next most told m so_far beside.
+      own_between line run r has small size next most told m (lists.between line run r has small size next (more_deliveries most) (more_than_one most) told m beside)
+      (along_law.between line run r has small size next (more_deliveries most) (more_than_one most) told m so_far);
 }
 
 pub own_gots_law : OpenListsLaw → OwnGotsLaw
 own_gots_law lists = record {
-  after_lines = λ line run r has small size so_far tame.
-      gots_after line run r has small size (lists.after_lines line run r has small size (inl tame)) (along_law.after_lines line run r has small size so_far) tame;
-  between = λ line run r has small size next most told m so_far tame.
-      gots_between line run r has small size next most told m (lists.between line run r has small size next (more_deliveries most) (more_than_one most) told m (inl tame))
-      (along_law.between line run r has small size next (more_deliveries most) (more_than_one most) told m so_far) tame;
+  after_lines = λ line run r has small size so_far beside.
+      gots_after line run r has small size (lists.after_lines line run r has small size beside) (along_law.after_lines line run r has small size so_far);
+  between = λ line run r has small size next most told m so_far beside.
+      gots_between line run r has small size next most told m (lists.between line run r has small size next (more_deliveries most) (more_than_one most) told m beside)
+      (along_law.between line run r has small size next (more_deliveries most) (more_than_one most) told m so_far);
 }

@@ -1,4 +1,4 @@
--- At a place of a run in which no initiator injected packets, what an agent waits for, to read in a page table or a buffer of an initiator that has a list open, is the main transaction of the
+-- At a place of a run, where lists are open as they should be, what an agent waits for, to read in a page table or a buffer of an initiator that injected no packets and has a list open, is the main transaction of the
 -- agent that has the list, in the slot of the first ORB that has not ended.
 use Rattle.std.proofs.Common.{arith, ◌≡◌, ◌∙◌, refl, sym, ap, subst, ◌<◌, ◌-◌, ℕ, suc, Bool, true, List, [], Option, Some, None}
 use Rattle.bus_memory.specs.Memory.{new_memory}
@@ -31,8 +31,7 @@ use Rattle.sbp_world.specs.Agents.AskedRuns.{IsAccessFor}
 use Rattle.sbp_world.proofs.Agents.Management.Holding.{Holding}
 use Rattle.sbp_world.proofs.Agents.Management.Still.{hist}
 use Rattle.sbp_world.specs.Lists.Along.{AreAlong, GoesAlong}
-use Rattle.sbp_world.specs.Lists.Needs.{IsOpenAt, OpenLists, initiator_in, is_open_at, machine_at}
-use Rattle.sbp_world.specs.Lists.OwnLogins.{IsTame}
+use Rattle.sbp_world.specs.Lists.Needs.{IsCalm, IsOpenAt, OpenLists, initiator_in, is_open_at, machine_at}
 use Rattle.sbp_world.specs.Lists.OwnReads.{AreOwnReads, IsOwnRead, ReadsData, data_slot}
 use Rattle.sbp_world.specs.Lists.SentReads.{slot_in}
 use Rattle.sbp_world.proofs.Lists.Bringing.{read_prepared}
@@ -107,14 +106,14 @@ module _ (past : List Moment) (i n : ℕ) where
   ahead_none phases.Dead p next ahead is_status fifo slot access k a small d = idle_none ahead next is_status fifo access k a
 
 -- ---- at a place
-module _ (units ready : ℕ) (has : 0 < units) (start : List Disk) {past : List Moment} {lines : ℕ} (w : WorldState) (h : Holding units ready start past lines w) (s : Site start past w) (open_lists : OpenLists (hist past w) w) (along : AreAlong (hist past w) w) (tame : IsTame (hist past w)) where
+module _ (units ready : ℕ) (has : 0 < units) (start : List Disk) {past : List Moment} {lines : ℕ} (w : WorldState) (h : Holding units ready start past lines w) (s : Site start past w) (open_lists : OpenLists (hist past w) w) (along : AreAlong (hist past w) w) where
   abbrev ms : List Moment
   ms = hist past w
 
   abbrev T : Target
   T = over (target_at start ms)
 
-  module _ (place : ℕ) (b : place < 8) (is_open : is_open_at w place ≡ true) (n : ℕ) (list_is : (holder w place).list ≡ Some n) (other : ℕ) (c : other < 8) (which : Which) (serial slot : ℕ) (r : ReadsData start ms other which serial (initiator_in w place) slot) where
+  module _ (place : ℕ) (b : place < 8) (is_open : is_open_at w place ≡ true) (calm : IsCalm ms (initiator_in w place)) (n : ℕ) (list_is : (holder w place).list ≡ Some n) (other : ℕ) (c : other < 8) (which : Which) (serial slot : ℕ) (r : ReadsData start ms other which serial (initiator_in w place) slot) where
     abbrev i : ℕ
     i = initiator_in w place
 
@@ -134,7 +133,7 @@ module _ (units ready : ℕ) (has : 0 < units) (start : List Disk) {past : List 
     initiator_is = let e = same_some (suc j) (suc i) (sym asked.to ∙ r.to) in omega (arith, e)
 
     place_is : other ≡ place
-    place_is = open_lists.one place other b c is_open asked.is_open (tame i) initiator_is
+    place_is = open_lists.one place other b c is_open asked.is_open calm initiator_is
 
     access_is : asked.access ≡ r.access
     access_is = same_access asked.access r.access (sym asked.is ∙ r.is)
@@ -142,18 +141,21 @@ module _ (units ready : ℕ) (has : 0 < units) (start : List Disk) {past : List 
     asks : IsAccessFor (under_as which m) asked.status fifo r.access
     asks = subst (IsAccessFor (under_as which m) asked.status fifo) access_is asked.asks
 
+    abbrev quiet : IsCalm ms j
+    quiet = subst (IsCalm ms) (sym initiator_is) calm
+
     abbrev o : IsOpenAt ms w other
-    o = open_lists.listed other c asked.is_open (tame j)
+    o = open_lists.listed other c asked.is_open quiet
 
     abbrev goes : GoesAlong ms j o.n m
-    goes = along.all other c asked.is_open (tame j) o.n o.list
+    goes = along.all other c asked.is_open quiet o.n o.list
 
     abbrev number : ℕ
     number = number_of which m.phase goes.progress.ended
 
     prepared : IsPrepared ms j (slot_at ms j o.n number) o.n number
     prepared =
-        read_prepared units ready has start w h s open_lists other c asked.is_open asked.inside (tame j) o.n o.list goes.progress.ended number goes.is
+        read_prepared units ready has start w h s open_lists other c asked.is_open asked.inside quiet o.n o.list goes.progress.ended number goes.is
         (is_in ms j o.n which goes.progress m asked.status fifo r.access goes.along asks r.reads)
 
     stands_there : slot_in (window_at r.access.offset) ≡ Some (slot_at ms j o.n number)
@@ -190,4 +192,4 @@ module _ (units ready : ℕ) (has : 0 < units) (start : List Disk) {past : List 
     }
 
   pub are_own_reads : AreOwnReads start ms w
-  are_own_reads place b is_open n list_is other c which serial slot r = own_read place b is_open n list_is other c which serial slot r
+  are_own_reads place b is_open calm n list_is other c which serial slot r = own_read place b is_open calm n list_is other c which serial slot r

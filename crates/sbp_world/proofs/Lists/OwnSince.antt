@@ -13,8 +13,8 @@ use Rattle.sbp_world.specs.Lists.FedRuns.{AllElsewhere, AreOwnOrOthers, IsOwnOrO
 use Rattle.sbp_world.specs.Lists.OwnGots.{AreOwnAsGot, OwnAsGot}
 use Rattle.sbp_world.specs.Lists.OwnSince.{AllAwaited, AllElsewhereBut, AreAwaited, IsAwaited, IsElsewhereBut, OwnSinceLaw, by_purpose}
 
-module _ (start : List Disk) (i place slot : ℕ) (small : place < 8) where
-  module _ (past : List Moment) (serial : ℕ) (own : AreOwnAsGot start past serial) (a : IsAwaited start past i place) where
+module _ (wild : ℕ → Bool) (start : List Disk) (i place slot : ℕ) (calm : wild i ≡ false) (small : place < 8) where
+  module _ (past : List Moment) (serial : ℕ) (own : AreOwnAsGot wild start past serial) (a : IsAwaited start past i place) where
     abbrev t : Terms
     t = terms past
 
@@ -40,7 +40,7 @@ module _ (start : List Disk) (i place slot : ℕ) (small : place < 8) where
         )
 
     by : (r : ℕ) → answered_at t serial ≡ Some r → (p : Purpose) → purpose_of T r ≡ p → by_purpose p (AllElsewhere slot (read_by t i serial (Some r))) → Own
-    by r e (for_agent other which) f b = own place small a.side a.mine i a.waits a.to r other slot which e f
+    by r e (for_agent other which) f b = own place small a.side a.mine i calm a.waits a.to r other slot which e f
     by r e for_manager f b = others r e (ap (λ p. is_main_of p place) f) b
     by r e for_nobody f b = others r e (ap (λ p. is_main_of p place) f) b
 
@@ -51,12 +51,12 @@ module _ (start : List Disk) (i place slot : ℕ) (small : place < 8) where
     got_own : IsElsewhereBut start past i slot serial (answered_at t serial) → Own
     got_own b = by_answer (answered_at t serial) refl b
 
-  since : (later before : List Moment) → EachMoment (OwnAsGot start) (later ++ before) → AreAwaited start i place slot later before → AreOwnOrOthers start i place slot later before
+  since : (later before : List Moment) → EachMoment (OwnAsGot wild start) (later ++ before) → AreAwaited start i place slot later before → AreOwnOrOthers start i place slot later before
   since [] before g a = tt
   since (asked line event ∷ later) before g a = since later before g.1 a
   since (said note ∷ later) before g a = by_note note g.0 a (λ x. since later before g.1 x)
     where
-      by_note : (note : Note) → OwnAsGot start (said note) (later ++ before) → AreAwaited start i place slot (said note ∷ later) before → (AreAwaited start i place slot later before → AreOwnOrOthers start i place slot later before) → AreOwnOrOthers start i place slot (said note ∷ later) before
+      by_note : (note : Note) → OwnAsGot wild start (said note) (later ++ before) → AreAwaited start i place slot (said note ∷ later) before → (AreAwaited start i place slot later before → AreOwnOrOthers start i place slot later before) → AreOwnOrOthers start i place slot (said note ∷ later) before
       by_note (notes.Got serial) g a more = (got_own (later ++ before) serial g a.0.0 a.0.1, more a.1)
       by_note note g a more = more a
 
@@ -72,4 +72,4 @@ module _ (start : List Disk) (i place slot : ℕ) where
       by_note note a e more = more a e
 
 pub own_since_law : OwnSinceLaw
-own_since_law start i place slot small later before g a = since start i place slot small later before g a
+own_since_law wild start i place slot calm small later before g a = since wild start i place slot calm small later before g a

@@ -1,5 +1,5 @@
--- As each packet is got in a run in which no initiator injected packets, the agents wait for page tables and data of the ORBs at the heads of their own lists alone.
-use Rattle.std.proofs.Common.{inl, ◌≡◌, ◌∙◌, sym, ap, subst, ◌<◌, ℕ, suc, List, [], ◌∷◌, ◌++◌, map, Option, Some}
+-- As each packet is got in a run in which no initiator injected packets, or few logins were given, the agents wait for page tables and data of an initiator that injected none for the ORB at the head of its own list alone.
+use Rattle.std.proofs.Common.{◌≡◌, ◌∙◌, sym, ap, subst, ◌<◌, ℕ, suc, List, [], ◌∷◌, ◌++◌, map, Option, Some}
 use Rattle.rbc_disk.specs.Disk.{Disk}
 use Rattle.sbp_journal.specs.Run.{Moment, asked, said}
 use Rattle.sbp_journal.specs.Transactions.{Sending}
@@ -17,15 +17,16 @@ use Rattle.sbp_world.proofs.Agents.Management.Holding.{Holding}
 use Rattle.sbp_world.proofs.Agents.Management.Still.{hist}
 use Rattle.sbp_world.specs.Hosts.Runs.{more_deliveries}
 use Rattle.sbp_world.specs.Lists.Closes.{OpenListsLaw}
-use Rattle.sbp_world.specs.Lists.Needs.{initiator_in}
-use Rattle.sbp_world.specs.Lists.OwnLogins.{IsTame}
+use Rattle.sbp_world.specs.Lists.FewLogins.{IsTameOrFew}
+use Rattle.sbp_world.specs.Lists.Needs.{IsCalm, initiator_in}
 use Rattle.sbp_world.specs.Lists.OwnWaits.{AreReadsOwn, ReadsAsGot, ReadsAsGotLaw, ReadsItsOwn}
+use Rattle.sbp_world.proofs.Lists.Calm.{asked_calm}
 use Rattle.sbp_world.proofs.Lists.Courses.{EveryPlace, Keeps, at_between, at_lines, more_than_one}
 use Rattle.sbp_world.proofs.Lists.FedOwners.{are_own_reads}
 use Rattle.sbp_world.proofs.Lists.Gots.{Next, next, next_line, same_still}
 use Rattle.sbp_world.proofs.Lists.Judging.{goes_next}
 use Rattle.sbp_world.proofs.Lists.ListsProved.{closing}
-use Rattle.sbp_world.proofs.Lists.LiveRuns.{goes_tame}
+use Rattle.sbp_world.proofs.Lists.LiveRuns.{goes_tame_or_few}
 use Rattle.sbp_world.proofs.Lists.ManageSends.{opened_terms}
 use Rattle.sbp_world.proofs.Lists.OrbWaits.{over_twice}
 use Rattle.sbp_world.proofs.Lists.Quiet.{AllQuiet, IsQuiet}
@@ -34,24 +35,26 @@ use Rattle.sbp_world.proofs.Lists.StillRuns.{ground_everywhere}
 use Rattle.sbp_world.proofs.Lists.StillTurns.{Ground, site_at}
 
 -- ---- at a place
-module _ (units ready : ℕ) (has : 0 < units) (start : List Disk) {past : List Moment} {lines : ℕ} (w : WorldState) (h : Holding units ready start past lines w) (q : Ground start (hist past w) w) (tame : IsTame (hist past w)) where
+module _ (units ready : ℕ) (has : 0 < units) (start : List Disk) {past : List Moment} {lines : ℕ} (w : WorldState) (h : Holding units ready start past lines w) (q : Ground start (hist past w) w) (beside : IsTameOrFew (hist past w)) where
   same_initiator : (a b : ℕ) → Some (suc a) ≡ Some (suc b) → a ≡ b
   same_initiator a b e = cc
 
   reads_here : AreReadsOwn start (hist past w)
-  reads_here place b side mine i waits to =
+  reads_here place b side mine i waits to calm =
       let site = site_at start past w q in
       let x = waiting units ready has start w h site place b side mine waits in
-      let o = (q.lists (inl tame)).listed place b x.is_open (tame (initiator_in w place)) in
-      subst (λ j. ReadsItsOwn start (hist past w) place j) (same_initiator (initiator_in w place) i (sym x.to ∙ to))
-      (record { n = o.n; latest = o.still.latest; each = are_own_reads units ready has start w h site (q.lists (inl tame)) q.along tame place b x.is_open o.n o.list })
+      let same : initiator_in w place ≡ i = same_initiator (initiator_in w place) i (sym x.to ∙ to) in
+      let quiet = subst (IsCalm (hist past w)) (sym same) calm in
+      let o = (q.lists beside).listed place b x.is_open quiet in
+      subst (λ j. ReadsItsOwn start (hist past w) place j) same
+      (record { n = o.n; latest = o.still.latest; each = are_own_reads units ready has start w h site (q.lists beside) q.along place b x.is_open quiet o.n o.list })
 
 -- ---- as a line begins
 reads_asked : (start : List Disk) (line : ℕ) (event : Event) (past : List Moment) → AreReadsOwn start past → AreReadsOwn start (asked line event ∷ past)
-reads_asked start line event past a place b side mine i waits to =
+reads_asked start line event past a place b side mine i waits to calm =
     let same : (terms (asked line event ∷ past)).sent ≡ (terms past).sent = (opened_terms event (terms past)).sent in
     let twice = over_twice (target_at start past) in
-    let x = a place b side mine i (subst (λ (T : Target). serial_of side (agent_at T place) ≡ Some mine) twice waits) (ap (λ (f : ℕ → Option Sending). receiver_in (f mine)) (sym same) ∙ to) in
+    let x = a place b side mine i (subst (λ (T : Target). serial_of side (agent_at T place) ≡ Some mine) twice waits) (ap (λ (f : ℕ → Option Sending). receiver_in (f mine)) (sym same) ∙ to) (asked_calm line event past i calm) in
     record {
       n = x.n;
       latest = x.latest;
@@ -95,24 +98,24 @@ module _ (start : List Disk) where
 
 -- ---- at each place of a run
 abbrev pub ReadsSo : List Disk → List Moment → WorldState → Type 0
-ReadsSo start past w = IsTame past → EachMoment (ReadsAsGot start) past
+ReadsSo start past w = IsTameOrFew past → EachMoment (ReadsAsGot start) past
 
 all_reads : (units ready : ℕ) → 0 < units → (start : List Disk) → Keeps units ready start (Ground start) (ReadsSo start)
-all_reads units ready has start past s later t lines more g h h_now q q_now e tame =
-    let before = goes_tame past s later t g tame in
+all_reads units ready has start past s later t lines more g h h_now q q_now e beside =
+    let before = goes_tame_or_few past s later t g beside in
     reads_turn start (hist past s.world) (hist later t.world) (goes_next past s later t g) (reads_here units ready has start s.world h q before) (e before)
 
 pub reads_as_got : OpenListsLaw → EveryPlace ReadsSo
 reads_as_got lists = record {
   after_lines = λ line run r has small size so_far.
-      at_lines Ground (ReadsSo run.start.disks) (ground_everywhere lists) line run r.few has small size (all_reads run.units (ready_logins run.initiators run.ready) has run.start.disks) (λ tame. (tt, (tt, tt))) r so_far;
+      at_lines Ground (ReadsSo run.start.disks) (ground_everywhere lists) line run r.few has small size (all_reads run.units (ready_logins run.initiators run.ready) has run.start.disks) (λ beside. (tt, (tt, tt))) r so_far;
   between = λ line run r has small size next most told m so_far.
-      at_between Ground (ReadsSo run.start.disks) (ground_everywhere lists) line run r.few has small size (all_reads run.units (ready_logins run.initiators run.ready) has run.start.disks) (λ tame. (tt, (tt, tt))) r next most told m so_far;
+      at_between Ground (ReadsSo run.start.disks) (ground_everywhere lists) line run r.few has small size (all_reads run.units (ready_logins run.initiators run.ready) has run.start.disks) (λ beside. (tt, (tt, tt))) r next most told m so_far;
 }
 
 pub reads_as_got_law : OpenListsLaw → ReadsAsGotLaw
 reads_as_got_law lists = record {
-  after_lines = λ line run r has small size tame. (reads_as_got lists).after_lines line run r has small size (closing.before lists line run r has small size (inl tame)) tame;
-  between = λ line run r has small size next most told m tame.
-      (reads_as_got lists).between line run r has small size next most told m (closing.between lists line run r has small size next (more_deliveries most) (more_than_one most) told m (inl tame)) tame;
+  after_lines = λ line run r has small size beside. (reads_as_got lists).after_lines line run r has small size (closing.before lists line run r has small size beside) beside;
+  between = λ line run r has small size next most told m beside.
+      (reads_as_got lists).between line run r has small size next most told m (closing.between lists line run r has small size next (more_deliveries most) (more_than_one most) told m beside) beside;
 }

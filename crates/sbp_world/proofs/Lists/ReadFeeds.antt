@@ -1,5 +1,5 @@
--- In every run in which no initiator injected packets the ORB of each run was read behind its append, by the response behind which its agent read its buffer and its data.
-use Rattle.std.proofs.Common.{inl, ◌≡◌, ◌∙◌, sym, ap, subst, IsSomeAnd, ◌<◌, ℕ, suc, Bool, false, List, [], ◌∷◌, ◌++◌, map, Some, None, Option}
+-- In every run in which no initiator injected packets, or few logins were given, the ORB of each run of an initiator that injected none was read behind its append, by the response behind which its agent read its buffer and its data.
+use Rattle.std.proofs.Common.{◌≡◌, ◌∙◌, sym, ap, subst, IsSomeAnd, ◌<◌, ℕ, Bool, false, List, [], ◌∷◌, ◌++◌, map, Some, None, Option}
 use Rattle.bus_transactions.specs.Judging.{AreJudged}
 use Rattle.rbc_disk.specs.Disk.{Disk}
 use Rattle.sbp_journal.specs.Run.{Moment, asked, said}
@@ -22,16 +22,18 @@ use Rattle.sbp_world.specs.Hosts.Runs.{more_deliveries}
 use Rattle.sbp_world.specs.Lists.Closes.{OpenListsLaw}
 use Rattle.sbp_world.specs.Lists.FedNames.{RunIsNamedFed}
 use Rattle.sbp_world.specs.Lists.FedRuns.{AreOthers, AreOwnOrOthers, RunIsFed}
+use Rattle.sbp_world.specs.Lists.Needs.{IsCalm}
 use Rattle.sbp_world.specs.Lists.OneUp.{OneUpLaw}
 use Rattle.sbp_world.specs.Lists.OrbReads.{SentAsGot}
 use Rattle.sbp_world.specs.Lists.OwnGots.{OwnAsGot}
 use Rattle.sbp_world.specs.Lists.OwnSince.{AllAwaited, AllElsewhereBut}
 use Rattle.sbp_world.specs.Lists.ReadFeeds.{ReadAndFedAt, ReadAndFedLaw, RunWasReadAndFed}
-use Rattle.sbp_world.proofs.Lists.Fair.{IsFair, fair_before, fair_of, told_everywhere, told_of}
+use Rattle.sbp_world.proofs.Lists.Fair.{Told, told_before, told_everywhere}
+use Rattle.sbp_world.proofs.Lists.Calm.{calm_before}
 use Rattle.sbp_world.proofs.Lists.CarriedEnds.{run_read, run_read_by}
 use Rattle.sbp_world.proofs.Lists.Courses.{more_than_one}
 use Rattle.sbp_world.proofs.Lists.Executes.{NamedRun, OpensBeside, opens_before, runs_named}
-use Rattle.sbp_world.proofs.Lists.FedJoins.{run_since, since_fed}
+use Rattle.sbp_world.proofs.Lists.FedJoins.{fed_asked, run_since, since_fed}
 use Rattle.sbp_world.proofs.Lists.FedOnce.{judged_before, judged_everywhere}
 use Rattle.sbp_world.proofs.Lists.ListsProved.{closing}
 use Rattle.sbp_world.proofs.Lists.OpenGots.{OpenAsGot, open_as_got}
@@ -40,29 +42,30 @@ use Rattle.sbp_world.proofs.Lists.OwnSince.{each_awaited, own_since_law}
 use Rattle.sbp_world.proofs.Lists.RunLaws.{order_run_law}
 use Rattle.sbp_world.proofs.Lists.SentGots.{sent_as_got}
 
-module _ (wild : ℕ → Bool) (calm : (i : ℕ) → wild i ≡ false) (start : List Disk) where
-  module _ (past : List Moment) (so : OpensBeside past) (f : IsFair past) (j : AreJudged past) (sent : EachMoment (SentAsGot start) past) (opens : OpenAsGot start past) (law : OrderLaw wild past) (gots : EachMoment (OwnAsGot start) past) where
+module _ (wild : ℕ → Bool) (start : List Disk) where
+  module _ (past : List Moment) (so : OpensBeside past) (calm : (i : ℕ) → wild i ≡ false → IsCalm past i) (f : Told past) (j : AreJudged past) (sent : EachMoment (SentAsGot start) past) (opens : OpenAsGot start past) (law : OrderLaw wild past) (gots : EachMoment (OwnAsGot wild start) past) where
     -- the buffer and the data by what was read since a response
     abbrev Since : (i n k : ℕ) → List ℕ → ℕ → Type 0
     Since i n k bytes r =
         IsSomeAnd (request_at past i n k) (λ request. bytes_of (buffer_in (orb_read past r) (reads_since past i r)) ≡ (plan_of request.buffer).bytes) × (bytes ≡ joined (chunks (limit_of (orb_read past r)) (buffer_in (orb_read past r) (reads_since past i r))) (reads_since past i r))
 
-    both : (i n k : ℕ) (bytes : List ℕ) → RunIsNamedFed start past i n k bytes → RunWasReadAndFed start past i n k bytes
-    both i n k bytes e =
-        let read = run_read wild start past (told_of past f) sent opens law i n k (f.fair (suc i)) e.named in
-        let since = run_since start past f j i n k bytes e.fed in
+    both : (i n k : ℕ) (bytes : List ℕ) → wild i ≡ false → RunIsNamedFed start past i n k bytes → RunWasReadAndFed start past i n k bytes
+    both i n k bytes own e =
+        let read = run_read wild start past f sent opens law i n k (calm i own) e.named in
+        let asked_it = fed_asked start past i n k bytes e in
+        let since = run_since start past f j i n k bytes (calm i own) e.fed asked_it in
         let place = since.fed.place in
         let later = since.fed.later in
         let before = since.fed.between ++ said (notes.Got since.fed.brought.response) ∷ since.fed.brought.earlier in
         let slot = slot_at past i n k in
-        let same_fed : since.fed ≡ e.fed = since_fed start past f j i n k bytes e.fed in
+        let same_fed : since.fed ≡ e.fed = since_fed start past f j i n k bytes (calm i own) e.fed asked_it in
         let same : since.fed.brought.response ≡ read.read.response =
-        ap (λ (x : RunIsFed start past i n k bytes). x.brought.response) same_fed ∙ (e.response ∙ sym (run_read_by wild start past (told_of past f) sent opens law i n k (f.fair (suc i)) e.named)) in
+        ap (λ (x : RunIsFed start past i n k bytes). x.brought.response) same_fed ∙ (e.response ∙ sym (run_read_by wild start past f sent opens law i n k (calm i own) e.named)) in
         let small : place < 8 = subst (λ p. p < 8) (sym (ap (λ (x : RunIsFed start past i n k bytes). x.place) same_fed ∙ e.place)) e.named.small in
         let awaited : AllAwaited start i place later before =
         subst (λ (x : RunIsFed start past i n k bytes). AllAwaited start i x.place x.later (x.between ++ said (notes.Got x.brought.response) ∷ x.brought.earlier)) (sym same_fed) e.awaited in
-        let own : AllElsewhereBut start i slot later before → AreOwnOrOthers start i place slot later before =
-        λ b. own_since_law start i place slot small later before (subst (EachMoment (OwnAsGot start)) (sym since.fed.is) gots) (each_awaited start i place slot later before awaited b) in
+        let own_or_others : AllElsewhereBut start i slot later before → AreOwnOrOthers start i place slot later before =
+        λ b. own_since_law wild start i place slot own small later before (subst (EachMoment (OwnAsGot wild start)) (sym since.fed.is) gots) (each_awaited start i place slot later before awaited b) in
         let carried_own : AreOthers i slot since.fed.between (said (notes.Got since.fed.brought.response) ∷ since.fed.brought.earlier) → AreOwnOrOthers start i place slot later before → RunIsCarried start past i n k bytes =
         λ o p.
         let x = subst (Since i n k bytes) same (since.whole o p) in
@@ -73,42 +76,46 @@ module _ (wild : ℕ → Bool) (calm : (i : ℕ) → wild i ≡ false) (start : 
           response = same;
           small = small;
           awaited = awaited;
-          own = own;
-          carried = λ o b. carried_own o (own b);
+          own = own_or_others;
+          carried = λ o b. carried_own o (own_or_others b);
           carried_own = carried_own;
         }
 
-    by_names : (i : ℕ) (list number : Option ℕ) (unit : ℕ) (cdb bytes : List ℕ) (check : _) → NamedRun wild start (said (notes.Ran i list number unit cdb bytes check)) past → ReadAndFedAt start (said (notes.Ran i list number unit cdb bytes check)) past
-    by_names i (Some n) (Some k) unit cdb bytes check e = both i n k bytes (e so (calm i))
+    by_names : (i : ℕ) (list number : Option ℕ) (unit : ℕ) (cdb bytes : List ℕ) (check : _) → NamedRun wild start (said (notes.Ran i list number unit cdb bytes check)) past → ReadAndFedAt wild start (said (notes.Ran i list number unit cdb bytes check)) past
+    by_names i (Some n) (Some k) unit cdb bytes check e = λ own. both i n k bytes own (e so own)
     by_names i (Some n) None unit cdb bytes check e = tt
     by_names i None number unit cdb bytes check e = tt
 
-    by_note : (note : Note) → NamedRun wild start (said note) past → ReadAndFedAt start (said note) past
+    by_note : (note : Note) → NamedRun wild start (said note) past → ReadAndFedAt wild start (said note) past
     by_note (notes.Ran i list number unit cdb bytes check) e = by_names i list number unit cdb bytes check e
     by_note note e = tt
 
-    by_moment : (m : Moment) → NamedRun wild start m past → ReadAndFedAt start m past
+    by_moment : (m : Moment) → NamedRun wild start m past → ReadAndFedAt wild start m past
     by_moment (asked line event) e = tt
     by_moment (said note) e = by_note note e
 
-  all_both : (past : List Moment) → OpensBeside past → IsFair past → AreJudged past → EachMoment (SentAsGot start) past → OpenAsGot start past → OrderLaw wild past → EachMoment (OwnAsGot start) past → EachMoment (NamedRun wild start) past → EachMoment (ReadAndFedAt start) past
-  all_both [] so f j sent opens law gots e = tt
-  all_both (m ∷ past) so f j sent opens law gots e =
-      let g = fair_before m past f in
+  all_both : (past : List Moment) → OpensBeside past → ((i : ℕ) → wild i ≡ false → IsCalm past i) → Told past → AreJudged past → EachMoment (SentAsGot start) past → OpenAsGot start past → OrderLaw wild past → EachMoment (OwnAsGot wild start) past → EachMoment (NamedRun wild start) past → EachMoment (ReadAndFedAt wild start) past
+  all_both [] so calm f j sent opens law gots e = tt
+  all_both (m ∷ past) so calm f j sent opens law gots e =
+      let g = told_before m past f in
       let q = judged_before m past j in
       let before = opens_before (m ∷ []) past so in
-      (by_moment past before g q sent.1 opens.1 law.1 gots.1 m e.0, all_both past before g q sent.1 opens.1 law.1 gots.1 e.1)
+      let quiet : (i : ℕ) → wild i ≡ false → IsCalm past i = λ i own. calm_before (m ∷ []) past i (calm i own) in
+      (by_moment past before quiet g q sent.1 opens.1 law.1 gots.1 m e.0, all_both past before quiet g q sent.1 opens.1 law.1 gots.1 e.1)
 
 pub read_and_fed_law : OpenListsLaw → OneUpLaw → ReadAndFedLaw
 read_and_fed_law lists up = record {
-  after_lines = λ line run r has small size tame.
-      let so_far = closing.before lists line run r has small size (inl tame) in
+  after_lines = λ line run r has small size beside.
+      let so_far = closing.before lists line run r has small size beside in
       let past = history_of line run in
-      all_both (injectors past) (λ i. tame i) run.start.disks past (closing, lists, inl tame) (fair_of past (told_everywhere.after_lines line run r has small size so_far) tame)
-      (judged_everywhere.after_lines line run r has small size so_far) ((sent_as_got lists).after_lines line run r has small size so_far (inl tame)) ((open_as_got lists up).after_lines line run r has small size so_far (inl tame)) (order_run_law.after_lines line run r has small size so_far) ((own_as_got lists).after_lines line run r has small size so_far tame) (runs_named.after_lines line run r has small size so_far);
-  between = λ line run r has small size next most told m tame.
+      all_both (injectors past) run.start.disks past (closing, lists, beside) (λ i own. own) (told_everywhere.after_lines line run r has small size so_far) (judged_everywhere.after_lines line run r has small size so_far)
+      ((sent_as_got lists).after_lines line run r has small size so_far beside) ((open_as_got lists up).after_lines line run r has small size so_far beside) (order_run_law.after_lines line run r has small size so_far)
+      ((own_as_got lists).after_lines line run r has small size so_far beside) (runs_named.after_lines line run r has small size so_far);
+  between = λ line run r has small size next most told m beside.
       let now = map said (after_all told (begun (after (beginning run) run.entries))).world.fresh ++ asked next (more_deliveries most) ∷ history_of line run in
-      let so_far = closing.between lists line run r has small size next (more_deliveries most) (more_than_one most) told m (inl tame) in
-      all_both (injectors now) (λ i. tame i) run.start.disks now (closing, lists, inl tame) (fair_of now (told_everywhere.between line run r has small size next most told m so_far) tame)
-      (judged_everywhere.between line run r has small size next most told m so_far) ((sent_as_got lists).between line run r has small size next most told m so_far (inl tame)) ((open_as_got lists up).between line run r has small size next most told m so_far (inl tame)) (order_run_law.between line run r has small size next (more_deliveries most) (more_than_one most) told m so_far) ((own_as_got lists).between line run r has small size next most told m so_far tame) (runs_named.between line run r has small size next most told m so_far);
+      let so_far = closing.between lists line run r has small size next (more_deliveries most) (more_than_one most) told m beside in
+      all_both (injectors now) run.start.disks now (closing, lists, beside) (λ i own. own) (told_everywhere.between line run r has small size next most told m so_far)
+      (judged_everywhere.between line run r has small size next most told m so_far) ((sent_as_got lists).between line run r has small size next most told m so_far beside)
+      ((open_as_got lists up).between line run r has small size next most told m so_far beside) (order_run_law.between line run r has small size next (more_deliveries most) (more_than_one most) told m so_far)
+      ((own_as_got lists).between line run r has small size next most told m so_far beside) (runs_named.between line run r has small size next most told m so_far);
 }

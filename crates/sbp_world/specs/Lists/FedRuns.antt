@@ -28,10 +28,10 @@ use Rattle.sbp_world.specs.Settling.{MayAll, after_all}
 use Rattle.sbp_world.specs.Worlds.{begun}
 use Rattle.sbp_world.specs.Agents.Management.Terms.{DeliversMore}
 use Rattle.sbp_world.specs.Hosts.Runs.{IsRun, more_deliveries}
+use Rattle.sbp_world.specs.Lists.FewLogins.{IsTameOrFew}
 use Rattle.sbp_world.specs.Lists.GotOnce.{NoneAgain}
 use Rattle.sbp_world.specs.Lists.Needs.{OpenBefore, OpenBetween}
 use Rattle.sbp_world.specs.Lists.OrbReads.{IsBrought}
-use Rattle.sbp_world.specs.Lists.OwnLogins.{IsTame}
 
 -- ---- what the main transactions of the agent of a place brought
 abbrev pub is_main_of : Purpose → ℕ → Bool
@@ -136,11 +136,13 @@ pub record RunIsSince (start : List Disk) (past : List Moment) (i n k : ℕ) (by
   pub plain : (let since = reads_since past i fed.brought.response in let orb = orb_read past fed.brought.response in orb.has_table ≡ false → IsSomeAnd (request_at past i n k) (λ request. bytes_of (buffer_in orb since) ≡ (plan_of request.buffer).bytes))
   pub empty : (let since = reads_since past i fed.brought.response in let orb = orb_read past fed.brought.response in orb.has_table ≡ false → orb.data_size ≡ 0 → bytes ≡ joined (chunks (agent.limit_of orb) (buffer_in orb since)) since)
 
-abbrev pub SinceAt : List Disk → Moment → List Moment → Type 0
-SinceAt start (said (notes.Ran i (Some n) (Some k) unit cdb bytes check)) past = RunIsSince start past i n k bytes
-SinceAt start moment past = Unit {0}
+-- of each initiator that is not among these
+abbrev pub SinceAt : (ℕ → Bool) → List Disk → Moment → List Moment → Type 0
+SinceAt wild start (said (notes.Ran i (Some n) (Some k) unit cdb bytes check)) past = wild i ≡ false → RunIsSince start past i n k bytes
+SinceAt wild start moment past = Unit {0}
 
--- After every line of every run, and behind each delivery of a line that may follow, where no initiator injected packets and lists were open as they should be before in this run.
+-- After every line of every run, and behind each delivery of a line that may follow, where no initiator injected packets, or few logins were given, and lists were open as they should be before in this run:
+-- of each initiator that injected none.
 pub record RunsSinceLaw : Type 0 where
-  pub after_lines : (line : ℕ) (run : Run) → IsRun run → 0 < run.units → run.units ≤ 4 → length run.start.disks ≡ run.units → OpenBefore line run run.entries → IsTame (history_of line run) → EachMoment (SinceAt run.start.disks) (history_of line run)
-  pub between : (line : ℕ) (run : Run) → IsRun run → 0 < run.units → run.units ≤ 4 → length run.start.disks ≡ run.units → (next : ℕ) (most : Option ℕ) (told : List (Option Told)) → MayAll told (begun (after (beginning run) run.entries)) → OpenBetween line run next (more_deliveries most) told → (let w = (after_all told (begun (after (beginning run) run.entries))).world in let now = map said w.fresh ++ asked next (more_deliveries most) ∷ history_of line run in IsTame now → EachMoment (SinceAt run.start.disks) now)
+  pub after_lines : (line : ℕ) (run : Run) → IsRun run → 0 < run.units → run.units ≤ 4 → length run.start.disks ≡ run.units → OpenBefore line run run.entries → IsTameOrFew (history_of line run) → EachMoment (SinceAt (injectors (history_of line run)) run.start.disks) (history_of line run)
+  pub between : (line : ℕ) (run : Run) → IsRun run → 0 < run.units → run.units ≤ 4 → length run.start.disks ≡ run.units → (next : ℕ) (most : Option ℕ) (told : List (Option Told)) → MayAll told (begun (after (beginning run) run.entries)) → OpenBetween line run next (more_deliveries most) told → (let w = (after_all told (begun (after (beginning run) run.entries))).world in let now = map said w.fresh ++ asked next (more_deliveries most) ∷ history_of line run in IsTameOrFew now → EachMoment (SinceAt (injectors now) run.start.disks) now)

@@ -1,6 +1,6 @@
 -- Which packets bring what the main transaction of an agent asked for, by every history (NCITS 325-1998, command block agents): where answers to agents are their own as they are got, the agent of a place waited for
 -- an answer of the initiator as each packet was got, and what answers no agent begins elsewhere than in a slot.
-use Rattle.std.specs.Prelude.{◌≡◌, ◌<◌, ℕ, suc, List, [], ◌∷◌, ◌++◌, Option, Some, None}
+use Rattle.std.specs.Prelude.{◌≡◌, ◌<◌, ℕ, suc, Bool, false, List, [], ◌∷◌, ◌++◌, Option, Some, None}
 use Rattle.command_agent.specs.declared.step.Which.{Which}
 use Rattle.rbc_disk.specs.Disk.{Disk}
 use Rattle.sbp_journal.specs.Run.{Moment, said}
@@ -52,4 +52,4 @@ AreAwaited start i place slot (said (notes.Got serial) ∷ later) before =
 AreAwaited start i place slot (moment ∷ later) before = AreAwaited start i place slot later before
 
 abbrev pub OwnSinceLaw : Type 0
-OwnSinceLaw = (start : List Disk) (i place slot : ℕ) → place < 8 → (later before : List Moment) → EachMoment (OwnAsGot start) (later ++ before) → AreAwaited start i place slot later before → AreOwnOrOthers start i place slot later before
+OwnSinceLaw = (wild : ℕ → Bool) (start : List Disk) (i place slot : ℕ) → wild i ≡ false → place < 8 → (later before : List Moment) → EachMoment (OwnAsGot wild start) (later ++ before) → AreAwaited start i place slot later before → AreOwnOrOthers start i place slot later before
