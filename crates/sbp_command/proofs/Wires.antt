@@ -12,13 +12,14 @@ use Rattle.sbp_laws.specs.OnLists.{LawfulOnLists}
 use Rattle.sbp_laws.specs.OnTheBus.{LawfulOnTheBus}
 use Rattle.sbp_laws.specs.Turns.{EachMoment, EachTurn}
 use Rattle.sbp_laws.proofs.InTime.{in_time_law}
-use Rattle.sbp_world.proofs.Lists.Clauses.{brought_law, lengths_law, lists_law, reads_law}
+use Rattle.sbp_world.proofs.Lists.Clauses.{answers_hold, brought_law, lengths_law, lists_law, reads_law}
 use Rattle.sbp_world.proofs.Lists.Executes.{due_runs_law}
 use Rattle.sbp_world.proofs.Lists.GrantRuns.{few_logins_law}
 use Rattle.sbp_world.specs.Lists.AnswerLengths.{LengthOf}
+use Rattle.sbp_world.specs.Lists.AnswersHold.{AnswersHold}
+use Rattle.sbp_world.specs.Lists.OwnLogins.{IsTame}
 use Rattle.sbp_world.specs.Lists.Brought.{AreBrought}
 use Rattle.sbp_world.specs.Lists.CarriedEnds.{WereRead}
-use Rattle.sbp_world.specs.Lists.OwnLogins.{IsTame}
 use Rattle.sbp_world.specs.Wire.History.{IsOfWire}
 use Rattle.sbp_world.specs.Wire.Journal.{journal_run}
 use Rattle.sbp_world.specs.Wire.Lines.{AreLines}
@@ -93,11 +94,19 @@ run_brought line run start same units some most few count all lines =
     (brought_law line run is some most size (inr (few_logins_law.few line run is some most size (omega arith))))
 
 pub run_reads : (line : ℕ) (run : Run) (start : Held) → run.start ≡ start → run.units ≡ length start.disks → 0 < run.units → run.units ≤ 4 → run.initiators ≤ 4 → length run.entries ≤ 65535 → AreEntries (beginning run) run.entries → AreLines run run.entries
-    → IsTame (history_of line run) → WereRead start.disks (history_of line run)
-run_reads line run start same units some most few count all lines tame =
+    → WereRead (injectors (history_of line run)) start.disks (history_of line run)
+run_reads line run start same units some most few count all lines =
     let is : IsRun run = record { few = few; short = omega arith; entries = all; lines = lines } in
     let size : length run.start.disks ≡ run.units = ap (λ (h : Held). length h.disks) same ∙ sym units in
-    subst (λ s. WereRead s (history_of line run)) (ap (λ (h : Held). h.disks) same) (reads_law.after_lines line run is some most size tame)
+    subst (λ s. WereRead (injectors (history_of line run)) s (history_of line run)) (ap (λ (h : Held). h.disks) same)
+    (reads_law.after_lines line run is some most size (inr (few_logins_law.few line run is some most size (omega arith))))
+
+pub run_answers : (line : ℕ) (run : Run) (start : Held) → run.start ≡ start → run.units ≡ length start.disks → 0 < run.units → run.units ≤ 4 → run.initiators ≤ 4 → length run.entries ≤ 65535 → AreEntries (beginning run) run.entries → AreLines run run.entries
+    → IsTame (history_of line run) → AnswersHold (injectors (history_of line run)) start.disks (history_of line run)
+run_answers line run start same units some most few count all lines tame =
+    let is : IsRun run = record { few = few; short = omega arith; entries = all; lines = lines } in
+    let size : length run.start.disks ≡ run.units = ap (λ (h : Held). length h.disks) same ∙ sym units in
+    subst (λ s. AnswersHold (injectors (history_of line run)) s (history_of line run)) (ap (λ (h : Held). h.disks) same) (answers_hold line run is some most size tame)
 
 pub run_lengths : (line : ℕ) (run : Run) (start : Held) → run.start ≡ start → run.units ≡ length start.disks → 0 < run.units → run.units ≤ 4 → run.initiators ≤ 4 → length run.entries ≤ 65535 → AreEntries (beginning run) run.entries → AreLines run run.entries
     → (i : ℕ) → i < run.initiators → injectors (history_of line run) i ≡ false → EachMoment (LengthOf start.disks i) (history_of line run)
@@ -132,6 +141,7 @@ has_run line run start media world happened same units some most few count event
       on_lists = lawful;
       brought = run_brought line run start same units some most few count stands.lines lines;
       reads = run_reads line run start same units some most few count stands.lines lines;
+      answers = run_answers line run start same units some most few count stands.lines lines;
       lengths = run_lengths line run start same units some most few count stands.lines lines;
       in_time = in_time_law (injectors (history_of line run)) start.disks (history_of line run) lawful;
     }
