@@ -490,9 +490,9 @@ pub fn commands_run_where_they_are_due()
     ensures { DueRunsLaw }
 {}
 
-/// In every run in which no initiator injected packets, where lists were open as they should be before, each ORB of an initiator that
-/// ends, but as failed, had not run before the turn in which it ends; or in this turn the target gets the answer, with rcode 0, to the
-/// write of the last chunk of its answer.
+/// In every run, where lists were open as they should be before, each ORB of an initiator that injected no packets which ends, but as
+/// failed, had not run before the turn in which it ends; or in this turn the target gets the answer, with rcode 0, to the write of the
+/// last chunk of its answer.
 #[tactic(auto, using(crate::proofs::Lists::DataLaws::answers_end_law))]
 pub fn answers_are_written_before_the_end()
     ensures { AnswersEndLaw }
@@ -555,15 +555,15 @@ pub fn data_that_were_served_were_got()
     ensures { ServedGotLaw }
 {}
 
-/// In every run in which no initiator injected packets, where lists were open as they should be before, the answer that an agent writes
-/// has as many bytes as the buffer of the ORB, and not all of them were written.
+/// In every run, where lists were open as they should be before, the answer that an agent writes for an initiator that injected no
+/// packets has as many bytes as the buffer of the ORB, and not all of them were written.
 #[tactic(auto, using(crate::proofs::Lists::DataWhole::whole_law))]
 pub fn answers_fill_their_buffers()
     ensures { AnswersWholeLaw }
 {}
 
-/// In every run in which no initiator injected packets, where lists were open as they should be before, the answer that an agent writes
-/// is the one that the plain disk had for the command of its present ORB as this ran, where the medium told its bytes.
+/// In every run, where lists were open as they should be before, the answer that an agent writes for an initiator that injected no
+/// packets is the one that the plain disk had for the command of its present ORB as this ran, where the medium told its bytes.
 #[tactic(auto, using(crate::proofs::Lists::AnswersTold::told_law))]
 pub fn answers_are_as_the_disk_told()
     ensures { AnswersToldLaw }

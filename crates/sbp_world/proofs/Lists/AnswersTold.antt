@@ -28,11 +28,10 @@ use Rattle.sbp_world.specs.Making.{new_world, ready_logins}
 use Rattle.sbp_world.specs.Agents.Alike.{answers, has_list}
 use Rattle.sbp_world.specs.Agents.Management.Terms.{DeliversMore}
 use Rattle.sbp_world.specs.Hosts.Runs.{more_deliveries, IsRun}
-use Rattle.sbp_world.specs.Lists.Closes.{WhereTame}
 use Rattle.sbp_world.proofs.Lists.AnswerLengths.{commands_fill}
 use Rattle.sbp_world.proofs.Lists.DataSteps.{ArePrepared, answer_kept, answers_is, has_run, ran_well}
 use Rattle.sbp_world.proofs.Lists.Executes.{asked_of}
-use Rattle.sbp_world.proofs.Lists.Full.{IsFull}
+use Rattle.sbp_world.proofs.Lists.Full.{IsFull, closed_where}
 use Rattle.sbp_world.proofs.Lists.RunOutcomes.{AreAsked, listed}
 use Rattle.sbp_world.proofs.Lists.RunTells.{delivery_may, NoneRan, RanBy, ran_as, ran_for, served_there}
 use Rattle.sbp_world.proofs.Lists.Sites.{named_prepared}
@@ -49,7 +48,6 @@ use Rattle.sbp_world.proofs.Lists.UnrunLaws.{unrun_law}
 use Rattle.sbp_world.proofs.Lists.UnrunTerms.{passes_from}
 use Rattle.sbp_world.proofs.Lists.Running.{runs_other}
 use Rattle.sbp_world.proofs.Lists.Passing.{GoesOn, PassAt, PassLaw}
-use Rattle.sbp_world.specs.Lists.OwnLogins.{IsTame}
 use Rattle.sbp_world.specs.Lists.Lists.{orbs}
 use Rattle.agent_laws.specs.Along.Along.{Knows}
 use Rattle.sbp_laws.specs.Terms.{ends, lists, runs}
@@ -79,7 +77,7 @@ use Rattle.sbp_journal.specs.declared.event.Event.{Event}
 
 abbrev AllTold : List Disk → (ℕ → Bool) → List Moment → WorldState → Type 0
 AllTold start wild ms w =
-    ((j : ℕ) → wild j ≡ false) → (q : ℕ) → q < 8 → answers (machine_at w q).phase ≡ true → (n : ℕ) → (holder w q).list ≡ Some n → suc n ≡ lists ms (initiator_in w q) → IsAnswerOf start ms (initiator_in w q) n (ends ms (initiator_in w q) n) (machine_at w q).answer
+    (q : ℕ) → q < 8 → wild (initiator_in w q) ≡ false → answers (machine_at w q).phase ≡ true → (n : ℕ) → (holder w q).list ≡ Some n → suc n ≡ lists ms (initiator_in w q) → IsAnswerOf start ms (initiator_in w q) n (ends ms (initiator_in w q) n) (machine_at w q).answer
 
 no : false ≡ true → ⊥
 no e = cc
@@ -115,7 +113,7 @@ response_packet a c l m d g z = cc
 response_label : (a c : Packet) (l m : LabelParts) (d g : ℕ) → of_response a l (Some (purposes.Agent d)) ≡ of_response c m (Some (purposes.Agent g)) → l ≡ m
 response_label a c l m d g z = cc
 
-module _ (wild : ℕ → Bool) (units ready : ℕ) (has : 0 < units) (start : List Disk) (past : List Moment) (s : Scene) (later : List Moment) (t : Scene) (step : Step wild units ready start Ground (WhereTame AreWhole) past s later t) (all_own : (j : ℕ) → wild j ≡ false) (p : AllTold start wild (hist past s.world) s.world) where
+module _ (wild : ℕ → Bool) (units ready : ℕ) (has : 0 < units) (start : List Disk) (past : List Moment) (s : Scene) (later : List Moment) (t : Scene) (step : Step wild units ready start Ground AreWhole past s later t) (p : AllTold start wild (hist past s.world) s.world) where
   abbrev w : WorldState
   w = s.world
 
@@ -140,11 +138,8 @@ module _ (wild : ℕ → Bool) (units ready : ℕ) (has : 0 < units) (start : Li
   abbrev known : Ready wild past w
   known = step.stands.known_all
 
-  calm : (j : ℕ) → IsCalm ms j
-  calm j = step.stands.reached.calm j (all_own j)
-
-  whole : AreWhole ms w
-  whole = step.so_far 0 (all_own 0) calm
+  calm : (j : ℕ) → wild j ≡ false → IsCalm ms j
+  calm = step.stands.reached.calm
 
   -- the agent of a place runs its command in this turn
   record RunsNow (q : ℕ) (xs : List ℕ) : Type 0 where
@@ -179,16 +174,16 @@ module _ (wild : ℕ → Bool) (units ready : ℕ) (has : 0 < units) (start : Li
       let x = named_prepared units ready has start w step.stands.reached.holds step.stands.reached.site place n j there named in
       record { there = x.there; small = x.small; filled = λ cmd e. step.stands.reached.site.filled (initiator_in w place) there (slot_at ms (initiator_in w place) n j) n j cmd x.small x.there e }
 
-  full : (q : ℕ) → q < 8 → IsFull (M q)
-  full q b e = let x = whole q b (answers_is (M q).phase e) in record { more = x.0; fills = x.1 }
+  full : (q : ℕ) → q < 8 → wild (initiator_in w q) ≡ false → IsFull (M q)
+  full q b own e = let x = step.so_far (initiator_in w q) own q b (calm (initiator_in w q) own) (answers_is (M q).phase e) in record { more = x.0; fills = x.1 }
 
-  replies : (serial : ℕ) (sent : Sent) (run : Option Told) → heard serial run → found_sent serial w.store.kept ≡ Some sent → sent.to ≡ 0 → MayTell run sent w.target s.media → (packet : Packet) (label : LabelParts) (q : ℕ) → (judging_step w.target.layer sent.generation sent.bytes).0 ≡ of_response packet label (Some (purposes.Agent q)) → q < 8 → (login : Login) → served_login w.target q ≡ Some login → (which : Which) → which_in (desk_at w.target q) (header_in packet).source label ≡ Some which → answers (stepped run q packet login which).1.phase ≡ true → From q (stepped run q packet login which).1.answer
-  replies serial sent run h found zero_to may packet label q judged b login served which e e_then = by (stepped run q packet login which).0.ran refl
+  replies : (serial : ℕ) (sent : Sent) (run : Option Told) → heard serial run → found_sent serial w.store.kept ≡ Some sent → sent.to ≡ 0 → MayTell run sent w.target s.media → (packet : Packet) (label : LabelParts) (q : ℕ) → (judging_step w.target.layer sent.generation sent.bytes).0 ≡ of_response packet label (Some (purposes.Agent q)) → q < 8 → (login : Login) → served_login w.target q ≡ Some login → (which : Which) → which_in (desk_at w.target q) (header_in packet).source label ≡ Some which → wild (initiator_in w q) ≡ false → answers (stepped run q packet login which).1.phase ≡ true → From q (stepped run q packet login which).1.answer
+  replies serial sent run h found zero_to may packet label q judged b login served which e own e_then = by (stepped run q packet login which).0.ran refl
     where
       by : (x : Option Outcome) → (stepped run q packet login which).0.ran ≡ x → From q (stepped run q packet login which).1.answer
       by None ran =
-          let k = answer_kept wild past w known asked_orbs sent (record { serial = serial; found = found; to = zero_to }) run s.media.disks packet label q judged b login which e (all_own (holder w q).initiator)
-          (delivery_may w.target known.good.mid.size known.good.table.sound sent run s.media may packet label q judged login served which e) prepared (λ j n k cmd g. commands_fill ms step.known.fills j n k cmd g) (full q b) e_then ran in
+          let k = answer_kept wild past w known asked_orbs sent (record { serial = serial; found = found; to = zero_to }) run s.media.disks packet label q judged b login which e own
+          (delivery_may w.target known.good.mid.size known.good.table.sound sent run s.media may packet label q judged login served which e) prepared (λ j n k cmd g. commands_fill ms step.known.fills j n k cmd g) (full q b own) e_then ran in
           was k.0 k.1
       by (Some outcome) ran =
           ran_now (record {
@@ -208,20 +203,20 @@ module _ (wild : ℕ → Bool) (units ready : ℕ) (has : 0 < units) (start : Li
             is_which = e;
             outcome = outcome;
             ran = ran;
-            good = ran_well wild past w known asked_orbs sent (record { serial = serial; found = found; to = zero_to }) run s.media.disks packet label q judged b login which e (all_own (holder w q).initiator)
-                (delivery_may w.target known.good.mid.size known.good.table.sound sent run s.media may packet label q judged login served which e) prepared (λ j n k cmd g. commands_fill ms step.known.fills j n k cmd g) (full q b) e_then outcome ran;
+            good = ran_well wild past w known asked_orbs sent (record { serial = serial; found = found; to = zero_to }) run s.media.disks packet label q judged b login which e own
+                (delivery_may w.target known.good.mid.size known.good.table.sound sent run s.media may packet label q judged login served which e) prepared (λ j n k cmd g. commands_fill ms step.known.fills j n k cmd g) (full q b own) e_then outcome ran;
             answer_is = refl;
           })
 
-  from_there : (q : ℕ) → q < 8 → Writes (From q) (machine_at v q)
+  from_there : (q : ℕ) → q < 8 → wild (initiator_in w q) ≡ false → Writes (From q) (machine_at v q)
   from_there =
-      turn_full (λ q m. Writes (From q) m) (writes_closed From) wild past s later t step.turn
+      turn_full (λ q m. wild (initiator_in w q) ≡ false → Writes (From q) m) (closed_where (λ q. wild (initiator_in w q) ≡ false) (λ q m. Writes (From q) m) (writes_closed From)) wild past s later t step.turn
       (record {
         ready = known;
         seats = λ q login e. let k = step.stands.reached.site.held.held q login e in record { holder_is = k.holder; there = k.there; id_is = k.login_is };
-        replies = λ serial sent run h found zero_to may packet label q judged b login served which e writes e_then. replies serial sent run h found zero_to may packet label q judged b login served which e e_then;
+        replies = λ serial sent run h found zero_to may packet label q judged b login served which e writes own e_then. replies serial sent run h found zero_to may packet label q judged b login served which e own e_then;
       })
-      (λ q b e. was e refl)
+      (λ q b own e. was e refl)
 
   passes : PassLaw wild now
   passes = step.reaches.kept.passes
@@ -230,7 +225,7 @@ module _ (wild : ℕ → Bool) (units ready : ℕ) (has : 0 < units) (start : Li
   coming = turn_comes units ready has start past s later t step.turn known.good step.units_are
 
   -- ---- an agent that writes an answer behind the turn
-  module _ (q : ℕ) (b : q < 8) (e : answers (machine_at v q).phase ≡ true) (n : ℕ) (list : (holder v q).list ≡ Some n) (latest : suc n ≡ lists now (initiator_in v q)) where
+  module _ (q : ℕ) (b : q < 8) (own_now : wild (initiator_in v q) ≡ false) (e : answers (machine_at v q).phase ≡ true) (n : ℕ) (list : (holder v q).list ≡ Some n) (latest : suc n ≡ lists now (initiator_in v q)) where
     abbrev i : ℕ
     i = initiator_in v q
 
@@ -246,8 +241,11 @@ module _ (wild : ℕ → Bool) (units ready : ℕ) (has : 0 < units) (start : Li
     owner : i ≡ initiator_in w q
     owner = walk_owns units ready has start s step.stands.reached.holds step.stands.reached.site.held later t step.turn q b (listing_up (machine_at v q).phase is_open)
 
+    own : wild (initiator_in w q) ≡ false
+    own = ap wild (sym owner) ∙ own_now
+
     goes : GoesOn now i n (machine_at v q)
-    goes = step.reaches.kept.on q b is_open n list (all_own i)
+    goes = step.reaches.kept.on q b is_open n list own_now
 
     ran_there : 0 < runs now i n k
     ran_there =
@@ -260,15 +258,15 @@ module _ (wild : ℕ → Bool) (units ready : ℕ) (has : 0 < units) (start : Li
       open_then = ap has_list (answers_is (M q).phase f)
 
       opened : IsOpenAt ms w q
-      opened = (step.stands.lists (initiator_in w q) (all_own (initiator_in w q))).listed q b open_then (calm (initiator_in w q))
+      opened = (step.stands.lists (initiator_in w q) own).listed q b open_then (calm (initiator_in w q) own)
 
       kept_on : (grown : List Moment) → grown ++ ms ≡ now → 0 < runs ms i n k → Goal
       kept_on grown is ran =
-          let x : WasFirst ms now i n = was_first wild grown ms now is passes i n (all_own i) latest ran in
+          let x : WasFirst ms now i n = was_first wild grown ms now is passes i n own_now latest ran in
           let first = opened.still.latest in
           let there : suc n ≡ lists ms (initiator_in w q) = x.latest ∙ ap (lists ms) owner in
           let list_same : opened.n ≡ n = (let d = first in let c = there in omega (arith, c, d)) in
-          let had : IsAnswerOf start ms (initiator_in w q) opened.n (ends ms (initiator_in w q) opened.n) (M q).answer = p all_own q b f opened.n opened.list first in
+          let had : IsAnswerOf start ms (initiator_in w q) opened.n (ends ms (initiator_in w q) opened.n) (M q).answer = p q b own f opened.n opened.list first in
           let at_list : IsAnswerOf start ms (initiator_in w q) n (ends ms (initiator_in w q) n) (M q).answer = subst (λ m. IsAnswerOf start ms (initiator_in w q) m (ends ms (initiator_in w q) m) (M q).answer) list_same had in
           let at_owner : IsAnswerOf start ms i n (ends ms i n) (M q).answer = subst (λ j. IsAnswerOf start ms j n (ends ms j n) (M q).answer) (sym owner) at_list in
           let at_number : IsAnswerOf start ms i n k (M q).answer = subst (λ j. IsAnswerOf start ms i n j (M q).answer) (sym x.number) at_owner in
@@ -280,7 +278,7 @@ module _ (wild : ℕ → Bool) (units ready : ℕ) (has : 0 < units) (start : Li
           let there = served_there w.target r.place r.by.login r.by.served in
           let small : r.place < 8 = (let l = within w.target.logins.places r.place r.by.login there in let c = known.good.table.sound.size in omega (arith, l, c)) in
           let open_there : has_list (M r.place).phase ≡ true = listed (M r.place) r.place (plain_in w.target.units s.media.disks r.by.login.unit) run r.by.which (answer_in r.by.packet) r.outcome r.by.ran in
-          let one_place : r.place ≡ q = (step.stands.lists (initiator_in w q) (all_own (initiator_in w q))).one q r.place b small open_then open_there (calm (initiator_in w q)) (sym mine ∙ owner) in
+          let one_place : r.place ≡ q = (step.stands.lists (initiator_in w q) own).one q r.place b small open_then open_there (calm (initiator_in w q) own) (sym mine ∙ owner) in
           let none = answering_none (M r.place) r.place (plain_in w.target.units s.media.disks r.by.login.unit) run r.by.which (answer_in r.by.packet) (ap (λ j. answers (M j).phase) one_place ∙ f) in
           none_some r.outcome (sym none ∙ r.by.ran)
 
@@ -371,6 +369,9 @@ module _ (wild : ℕ → Bool) (units ready : ℕ) (has : 0 < units) (start : Li
         owner_is : (holder w r.place).initiator ≡ i
         owner_is = ap (λ j. initiator_in w j) place_same ∙ sym owner
 
+        own_there : wild (holder w r.place).initiator ≡ false
+        own_there = ap wild owner_is ∙ own_now
+
         -- and it has this name
         abbrev note : Option ℕ → Option ℕ → Moment
         note list number = said (notes.Ran (holder w r.place).initiator list number (holder w r.place).unit r.cdb r.payload (check_of r.outcome))
@@ -388,8 +389,8 @@ module _ (wild : ℕ → Bool) (units ready : ℕ) (has : 0 < units) (start : Li
               pick : ((n ≡ m) × (k ≡ l)) ⊎ (0 < runs base i n k) → (n ≡ m) × (k ≡ l)
               pick (inl z) = z
               pick (inr had) =
-                  let f : WasFirst base now i n = was_first wild (c.more ++ note (Some m) (Some l) ∷ []) base now (joined c.more (note (Some m) (Some l) ∷ []) base ∙ at) passes i n (all_own i) latest had in
-                  let turn = (pass (all_own (holder w r.place).initiator)).next.turn in
+                  let f : WasFirst base now i n = was_first wild (c.more ++ note (Some m) (Some l) ∷ []) base now (joined c.more (note (Some m) (Some l) ∷ []) base ∙ at) passes i n own_now latest had in
+                  let turn = (pass own_there).next.turn in
                   let at_m : suc m ≡ lists base i = turn.still.latest ∙ ap (lists base) owner_is in
                   let same_n : n ≡ m = (let a = f.latest in omega (arith, a, at_m)) in
                   let at_l : l ≡ ends base i n = turn.number ∙ (ap (λ j. ends base j m) owner_is ∙ ap (λ j. ends base i j) (sym same_n)) in
@@ -411,8 +412,8 @@ module _ (wild : ℕ → Bool) (units ready : ℕ) (has : 0 < units) (start : Li
 
         by_names : (list number : Option ℕ) → c.more ++ note list number ∷ base ≡ now → PassAt wild (note list number) base → 0 < runs (note list number ∷ base) i n k → Goal
         by_names (Some m) (Some l) at pass ran = named m l at pass ran
-        by_names None number at pass ran = absurd (no (sym (all_own (holder w r.place).initiator) ∙ pass))
-        by_names (Some m) None at pass ran = absurd (no (sym (all_own (holder w r.place).initiator) ∙ pass))
+        by_names None number at pass ran = absurd (no (sym own_there ∙ pass))
+        by_names (Some m) None at pass ran = absurd (no (sym own_there ∙ pass))
 
         fresh : Goal
         fresh = by_names r.list r.number c.is passed same_runs
@@ -426,12 +427,12 @@ module _ (wild : ℕ → Bool) (units ready : ℕ) (has : 0 < units) (start : Li
     by_from (ran_now x) = by_run x (turn_ran units ready has start past s later t step.turn known.good step.units_are x.serial x.sent x.run x.heard_is x.found x.zero_to x.may)
 
     told_now : Goal
-    told_now = by_from (from_there q b e)
+    told_now = by_from (from_there q b own e)
 
-told_walk : (wild : ℕ → Bool) (units ready : ℕ) → 0 < units → (start : List Disk) → Walks wild units ready start Ground (WhereTame AreWhole) (AllTold start wild)
-told_walk wild units ready has start past s later t step p = λ all_own q b e n list latest. told_now wild units ready has start past s later t step all_own p q b e n list latest
+told_walk : (wild : ℕ → Bool) (units ready : ℕ) → 0 < units → (start : List Disk) → Walks wild units ready start Ground AreWhole (AllTold start wild)
+told_walk wild units ready has start past s later t step p = λ q b own e n list latest. told_now wild units ready has start past s later t step p q b own e n list latest
 
--- ---- over a run in which no initiator injected packets
+-- ---- over a run
 module _ (line : ℕ) (run : Run) (r : IsRun run) (has : 0 < run.units) (small : run.units ≤ 4) (size : length run.start.disks ≡ run.units) where
   abbrev first_disks : List Disk
   first_disks = run.start.disks
@@ -447,21 +448,21 @@ module _ (line : ℕ) (run : Run) (r : IsRun run) (has : 0 < run.units) (small :
 
   first : (wild : ℕ → Bool) → All wild (moments_behind line run []) (beginning run).world
   unfolding new_world
-  first wild all_own q b e n list latest = absurd (no_answers _ (ap (λ (d : Desk). d.agent) (new_desks 8 q)) e)
+  first wild q b own e n list latest = absurd (no_answers _ (ap (λ (d : Desk). d.agent) (new_desks 8 q)) e)
     where
       new_desks : (count p : ℕ) → slice_index_or (replicate count new_desk) p new_desk ≡ new_desk
       new_desks zero p = refl
       new_desks (suc count) zero = refl
       new_desks (suc count) (suc p) = new_desks count p
 
-  abbrev own_walks : (wild : ℕ → Bool) → Walks wild run.units (ready_logins run.initiators run.ready) first_disks Ground (WhereTame AreWhole) (All wild)
+  abbrev own_walks : (wild : ℕ → Bool) → Walks wild run.units (ready_logins run.initiators run.ready) first_disks Ground AreWhole (All wild)
   own_walks wild = told_walk wild run.units (ready_logins run.initiators run.ready) has first_disks
 
   abbrev opened_by : (wild : ℕ → Bool) → (i : ℕ) → wild i ≡ false → OpensLaw
   opened_by wild i own = opens_law
 
   abbrev Over : List Disk → List Moment → WorldState → Type 0
-  Over start = WhereTame AreWhole
+  Over start = AreWhole
 
   over_law : EveryPlace Over
   over_law = record {
@@ -472,10 +473,10 @@ module _ (line : ℕ) (run : Run) (r : IsRun run) (has : 0 < run.units) (small :
   lines_walked : (wild : ℕ → Bool) → OpenBefore line run run.entries → ((i : ℕ) → wild i ≡ false → IsCalm (history_of line run) i) → All wild (history_of line run) last.world
   lines_walked wild so_far calm_there = walk_after wild Ground Over (All wild) all_filled over_law line run r.few has small size (own_walks wild) (first wild) run.entries r.short r.entries r.lines (λ i own. so_far) calm_there
 
-  told_after : OpenBefore line run run.entries → IsTame (history_of line run) → AreAnswers first_disks (history_of line run) last.world
-  told_after so_far tame place b answering n list opened =
-      answer_before first_disks (injectors (history_of line run)) (history_of line run) (initiator_in last.world place) n (ends (history_of line run) (initiator_in last.world place) n) (machine_at last.world place).answer (tame (initiator_in last.world place)) (execution_run_law.after_lines line run r has small size so_far)
-      (lines_walked (injectors (history_of line run)) so_far (λ j own. own) tame place b (ap answers answering) n list opened.latest)
+  told_after : OpenBefore line run run.entries → AreAnswers first_disks (history_of line run) last.world
+  told_after so_far place b calm answering n list opened =
+      answer_before first_disks (injectors (history_of line run)) (history_of line run) (initiator_in last.world place) n (ends (history_of line run) (initiator_in last.world place) n) (machine_at last.world place).answer calm (execution_run_law.after_lines line run r has small size so_far)
+      (lines_walked (injectors (history_of line run)) so_far (λ j own. own) place b calm (ap answers answering) n list opened.latest)
 
   module _ (next : ℕ) (event : Event) (d : DeliversMore event) (told : List (Option Told)) (m : MayAll told (begun last)) (so_far : OpenBetween line run next event told) where
     abbrev end : WorldState
@@ -500,10 +501,10 @@ module _ (line : ℕ) (run : Run) (r : IsRun run) (has : 0 < run.units) (small :
         (walk_at wild_there Ground Over (All wild_there) all_filled over_law line run r.few has small size (own_walks wild_there) (first wild_there) run.entries r.short r.entries r.lines (λ i own. so_far.before) x (λ i own. so_far.begins) first_calm next event d told m (λ i own. so_far.goes)
         (λ i own. subst (λ h. IsCalm (map said end.fresh ++ asked next event ∷ h) i) (sym x.so_far.is) own) there)
 
-    told_between : IsTame all_past → AreAnswers first_disks all_past end
-    told_between tame place b answering n list opened =
-        answer_before first_disks wild_there all_past (initiator_in end place) n (ends all_past (initiator_in end place) n) (machine_at end place).answer (tame (initiator_in end place)) (execution_run_law.between line run r has small size next event d told m so_far)
-        (walked tame place b (ap answers answering) n list opened.latest)
+    told_between : AreAnswers first_disks all_past end
+    told_between place b calm answering n list opened =
+        answer_before first_disks wild_there all_past (initiator_in end place) n (ends all_past (initiator_in end place) n) (machine_at end place).answer calm (execution_run_law.between line run r has small size next event d told m so_far)
+        (walked place b calm (ap answers answering) n list opened.latest)
 
 delivers : (most : Option ℕ) → DeliversMore (more_deliveries most)
 delivers (Some count) = tt
@@ -511,6 +512,6 @@ delivers None = tt
 
 pub told_law : AnswersToldLaw
 told_law = record {
-  after_lines = λ line run r has small size so_far tame. told_after line run r has small size so_far tame;
-  between = λ line run r has small size next most told m so_far tame. told_between line run r has small size next (more_deliveries most) (delivers most) told m so_far tame;
+  after_lines = λ line run r has small size so_far. told_after line run r has small size so_far;
+  between = λ line run r has small size next most told m so_far. told_between line run r has small size next (more_deliveries most) (delivers most) told m so_far;
 }

@@ -281,7 +281,7 @@ module _ (wild : ℕ → Bool) (i : ℕ) (own : wild i ≡ false) (past : List M
   late_called layer s note f u b others managed (manages answer its e) = managed answer its e
 
   -- ---- a packet is delivered
-  module _ (up : (q : ℕ) → q < 8 → has_list (machine_at w q).phase ≡ true → Up wild i own past w q) (sent : Sent) (is_for : IsFor w sent) (run : Option Told) (media : Held) (serial : ℕ) (prepared : ArePrepared ms w) (heard_so : AreHeard wild ms w) (same_serial : is_for.serial ≡ serial) (full : (q : ℕ) → q < 8 → IsFull (machine_at w q)) (same_gen : gen ≡ (terms ms).generation 0) where
+  module _ (up : (q : ℕ) → q < 8 → has_list (machine_at w q).phase ≡ true → Up wild i own past w q) (sent : Sent) (is_for : IsFor w sent) (run : Option Told) (media : Held) (serial : ℕ) (prepared : ArePrepared ms w) (heard_so : AreHeard wild ms w) (same_serial : is_for.serial ≡ serial) (full : (q : ℕ) → q < 8 → wild (initiator_in w q) ≡ false → IsFull (machine_at w q)) (same_gen : gen ≡ (terms ms).generation 0) where
     got_heard : (p : Packet) (label : LabelParts) (place : ℕ) → (judging_step w.target.layer sent.generation sent.bytes).0 ≡ of_response p label (Some (purposes.Agent place)) → (received run sent.generation sent.bytes (whole_of w.target media)).0 ≡ judgements.Got
     unfolding received
     got_heard p label place f =
@@ -334,7 +334,7 @@ module _ (wild : ℕ → Bool) (i : ℕ) (own : wild i ≡ false) (past : List M
                 (reply_piece wild past w r asked sent is_for run media.disks p label place f b login which e ours prepared none at size ask (above_zero at slot (ap window_at (sym same) ∙ goes)));
             got = is_for.serial;
             got_is = ap (λ x. judged_note serial x) (got_heard p label place f) ∙ ap (λ n. notes.Got n) (sym same_serial);
-            turn = reply_turn wild past w r asked sent is_for run media.disks p label place f b login which e ours (full place b) heard_so none at size ask (above_zero at slot (ap window_at (sym same) ∙ goes));
+            turn = reply_turn wild past w r asked sent is_for run media.disks p label place f b login which e ours (full place b ours) heard_so none at size ask (above_zero at slot (ap window_at (sym same) ∙ goes));
           };
     }
 

@@ -57,7 +57,7 @@ module _ (short : ShortLaw) where
   statuses_by : Under (WhereTameOrFew AllStatuses)
   statuses_by = places.statuses opened_known.laws.pointers opened_known.laws.begun (here_beside short) (placed_beside short)
 
-pub answers_end_law : Under (WhereTame AllEndSo)
+pub answers_end_law : Under AllEndSo
 answers_end_law = ends_law (ground_law opened_known.laws.pointers opened_known.laws.begun)
 
 -- what each history of such a run is

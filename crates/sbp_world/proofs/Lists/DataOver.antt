@@ -26,10 +26,10 @@ use Rattle.sbp_world.specs.Worlds.{Scene, WorldState, begun, without_notes}
 use Rattle.sbp_world.proofs.Agents.Management.Still.{hist}
 use Rattle.sbp_world.specs.Agents.Management.Terms.{DeliversMore}
 use Rattle.sbp_world.specs.Hosts.Runs.{more_deliveries}
-use Rattle.sbp_world.specs.Lists.Closes.{Always, Under, WhereTame}
+use Rattle.sbp_world.specs.Lists.Closes.{Always, Under}
 use Rattle.sbp_world.specs.Lists.DataEnds.{AllEndSo, EndSo, WasWritten, is_behind, is_fresh, IsWritten}
 use Rattle.sbp_world.specs.Lists.DataWrites.{AreDry, IsAnswered, IsDry}
-use Rattle.sbp_world.specs.Lists.Needs.{IsFor, machine_at}
+use Rattle.sbp_world.specs.Lists.Needs.{IsFor, initiator_in, machine_at}
 use Rattle.sbp_world.proofs.Lists.DataHears.{AreHeard, heard_asked, heard_there}
 use Rattle.sbp_world.proofs.Lists.DataSteps.{IsEndNow, end_named, ends_behind, ends_fresh, reply_ends}
 use Rattle.sbp_world.proofs.Lists.Endless.{AllLight, AllPlain, Delivers, IsEndBy, IsLightNote, IsPlain, OneEnd, Plainly, delivery_comes, light_death, light_plain, light_run, no_end, one_comes, one_end}
@@ -40,10 +40,9 @@ use Rattle.sbp_world.proofs.Lists.RunTells.{served_there}
 use Rattle.sbp_world.proofs.Lists.StatusAnswers.{opened}
 use Rattle.sbp_world.proofs.Lists.StatusProved.{Ground}
 use Rattle.sbp_world.proofs.Lists.Stays.{ready_now}
-use Rattle.sbp_world.proofs.Lists.TameWalks.{tame_after, tame_between}
 use Rattle.sbp_world.proofs.Lists.Turned.{IsOne}
 use Rattle.sbp_world.proofs.Lists.Turns.{Ready}
-use Rattle.sbp_world.proofs.Lists.Walks.{Turn, Walks, by_delivery, by_end, by_line, by_start}
+use Rattle.sbp_world.proofs.Lists.Walks.{Turn, Walks, by_delivery, by_end, by_line, by_start, walked_after, walked_between}
 use Rattle.sbp_world.specs.Lists.DataWhole.{AreWhole}
 use Rattle.sbp_world.proofs.Lists.DataProved.{full_of}
 use Rattle.sbp_world.proofs.Lists.DataWhole.{whole_law}
@@ -104,7 +103,7 @@ pub record Known (wild : ℕ → Bool) (past : List Moment) (w : WorldState) : T
   pub ready : Ready wild past w
   pub asked_orbs : AreAsked wild (hist past w) w
   pub heard : AreHeard wild (hist past w) w
-  pub full : (q : ℕ) → q < 8 → IsFull (machine_at w q)
+  pub full : (q : ℕ) → q < 8 → wild (initiator_in w q) ≡ false → IsFull (machine_at w q)
 
 same_number : (a b : ℕ) → Some a ≡ Some b → a ≡ b
 same_number a b e = cc
@@ -133,7 +132,7 @@ module _ (wild : ℕ → Bool) (i : ℕ) (own : wild i ≡ false) (past : List M
     n = (opened wild past w known.ready known.asked_orbs r.sent is_for run s.media.disks r.by.packet r.by.label r.place r.by.found small r.by.login r.by.which r.by.is_which ours).n
 
     it : IsEndNow ms (holder w r.place).initiator n (ends ms (holder w r.place).initiator n) serial
-    it = reply_ends wild past w known.ready known.asked_orbs r.sent is_for run s.media.disks r.by.packet r.by.label r.place r.by.found small r.by.login r.by.which r.by.is_which ours r.status r.by.ended (known.full r.place small) known.heard proper
+    it = reply_ends wild past w known.ready known.asked_orbs r.sent is_for run s.media.disks r.by.packet r.by.label r.place r.by.found small r.by.login r.by.which r.by.is_which ours r.status r.by.ended (known.full r.place small ours) known.heard proper
 
     names : (list_in (ticket_at w r.place r.orb) ≡ Some n) × (orb_in (ticket_at w r.place r.orb) ≡ Some (ends ms (holder w r.place).initiator n))
     names =
@@ -179,7 +178,7 @@ module _ (wild : ℕ → Bool) (i : ℕ) (own : wild i ≡ false) where
     ready = ready_now wild line event past w k.ready;
     asked_orbs = λ place c is_open mine n list number from below. k.asked_orbs place c is_open mine n list number from below;
     heard = heard;
-    full = λ q b. k.full q b;
+    full = λ q b own. k.full q b own;
   }
 
   told_so : (past : List Moment) (s : Scene) → Known wild past s.world → (run : Option Told) (serial : ℕ) (early : List Note) (ended : Note) → IsEndBy s run serial early ended → EndSo i (said ended) (map said early ++ said (notes.Got serial) ∷ hist past s.world) × AllLight early
@@ -235,7 +234,7 @@ module _ (wild : ℕ → Bool) (i : ℕ) (own : wild i ≡ false) where
   turn_ends _ _ _ _ (by_delivery past s one m) k e = next_ends past s k one m e
   turn_ends _ _ _ _ (by_end past s done) k e = done_ends past s.world done e
 
--- ---- over a run in which no initiator injected packets
+-- ---- over a run
 abbrev AllEnds : (ℕ → Bool) → List Moment → WorldState → Type 0
 AllEnds wild ms w = (i : ℕ) → i < length w.initiators → wild i ≡ false → EachMoment (EndSo i) ms
 
@@ -248,7 +247,7 @@ ends_walk wild units ready has start past s later t step p i b own =
       asked_orbs = asked_of wild start units ready has w at.holds at.site step.stands.lists at.calm step.known.orbs;
       heard = λ serial sent found zero_to packet label place e is_which c mild answering.
           heard_there wild units ready has start w at.holds at.site step.stands.lists at.calm step.known.orbs (λ p d. at.kept.on p d) serial sent found zero_to packet label place e is_which c mild answering;
-      full = full_of (hist past w) w (step.so_far i own);
+      full = λ q b ours. full_of (hist past w) w (step.so_far i own) q b (at.calm (initiator_in w q) ours);
     } in
     turn_ends wild i own past s later t step.turn known (p i (subst (λ n. i < n) step.count b) own)
 
@@ -259,9 +258,9 @@ delivers : (most : Option ℕ) → DeliversMore (more_deliveries most)
 delivers (Some count) = tt
 delivers None = tt
 
-pub ends_law : Always Ground → Under (WhereTame AllEndSo)
+pub ends_law : Always Ground → Under AllEndSo
 ends_law ground = record {
-  after_lines = λ line run r has small size so_far tame i b calm. tame_after Ground AreWhole AllEnds ground whole_law ends_walk first_ends line run r has small size so_far tame i b calm;
-  between = λ line run r has small size next most told m so_far tame i b calm.
-      tame_between Ground AreWhole AllEnds ground whole_law ends_walk first_ends line run r has small size next (more_deliveries most) (delivers most) told m so_far tame i b calm;
+  after_lines = λ line run r has small size so_far i b calm. walked_after Ground AreWhole AllEnds ground whole_law ends_walk first_ends line run r has small size so_far i b calm;
+  between = λ line run r has small size next most told m so_far i b calm.
+      walked_between Ground AreWhole AllEnds ground whole_law ends_walk first_ends line run r has small size next (more_deliveries most) (delivers most) told m so_far i b calm;
 }

@@ -46,8 +46,8 @@ gives wild i own past w r asked placed each slots = given_data wild i own past w
 module _ (pointers : PointersLaw) (begun : BegunLaw) (here : Under (WhereTame AreHere)) (names : Under (WhereTame AreNames)) (untaken : Under (WhereTame AreUntaken)) (dry : Under (WhereTame AllOfficeDry)) where
   over : Under (WhereTame (Over Placed placed_on gives))
   over = record {
-    after_lines = λ line run r has small size so_far tame. (here.after_lines line run r has small size so_far tame, (names.after_lines line run r has small size so_far tame, (untaken.after_lines line run r has small size so_far tame, (whole_law.after_lines line run r has small size so_far tame, dry.after_lines line run r has small size so_far tame))));
-    between = λ line run r has small size next most told m so_far tame. (here.between line run r has small size next most told m so_far tame, (names.between line run r has small size next most told m so_far tame, (untaken.between line run r has small size next most told m so_far tame, (whole_law.between line run r has small size next most told m so_far tame, dry.between line run r has small size next most told m so_far tame))));
+    after_lines = λ line run r has small size so_far tame. (here.after_lines line run r has small size so_far tame, (names.after_lines line run r has small size so_far tame, (untaken.after_lines line run r has small size so_far tame, (whole_law.after_lines line run r has small size so_far, dry.after_lines line run r has small size so_far tame))));
+    between = λ line run r has small size next most told m so_far tame. (here.between line run r has small size next most told m so_far tame, (names.between line run r has small size next most told m so_far tame, (untaken.between line run r has small size next most told m so_far tame, (whole_law.between line run r has small size next most told m so_far, dry.between line run r has small size next most told m so_far tame))));
   }
 
   pub data_sent : Under (WhereTame AllDataSo)

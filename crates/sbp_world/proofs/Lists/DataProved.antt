@@ -34,8 +34,8 @@ use Rattle.sbp_world.proofs.Lists.Full.{IsFull}
 abbrev pub AllData : (ℕ → Bool) → List Moment → WorldState → Type 0
 AllData wild ms w = (i : ℕ) → i < length w.initiators → wild i ≡ false → EachMoment (DataSo i) ms
 
-pub full_of : (past : List Moment) (w : WorldState) → AreWhole past w → (q : ℕ) → q < 8 → IsFull (machine_at w q)
-full_of past w whole q b e = let x = whole q b (answers_is (machine_at w q).phase e) in record { more = x.0; fills = x.1 }
+pub full_of : (past : List Moment) (w : WorldState) → AreWhole past w → (q : ℕ) → q < 8 → IsCalm past (initiator_in w q) → IsFull (machine_at w q)
+full_of past w whole q b calm e = let x = whole q b calm (answers_is (machine_at w q).phase e) in record { more = x.0; fills = x.1 }
 
 delivers : (most : Option ℕ) → DeliversMore (more_deliveries most)
 delivers (Some count) = tt
@@ -72,7 +72,7 @@ module _ (Placed : ℕ → WorldState → Type 0) (placed_on : (i : ℕ) (w : Wo
           each = p i inside own;
           asked_orbs = asked_of wild start units ready has w h site step.stands.lists step.stands.reached.calm k.orbs;
           placed = o.1.1.1.1 i inside calm;
-          full = λ q b. full_of ms w o.1.1.1.0 q b;
+          full = λ q b ours. full_of ms w o.1.1.1.0 q b (step.stands.reached.calm (initiator_in w q) ours);
           same_gen = sym (target_generation w h.sound.stands);
           prepared = λ place n j there named.
               let x = named_prepared units ready has start w h site place n j there named in

@@ -43,7 +43,7 @@ delivers : (most : Option ℕ) → DeliversMore (more_deliveries most)
 delivers (Some count) = tt
 delivers None = tt
 
-module _ (data_so : Under (WhereTame AllDataSo)) (ends_so : Under (WhereTame AllEndSo)) (statuses : Under (WhereTameOrFew AllStatuses)) (line : ℕ) (run : Run) (r : IsRun run) (has : 0 < run.units) (small : run.units ≤ 4) (size : length run.start.disks ≡ run.units) where
+module _ (data_so : Under (WhereTame AllDataSo)) (ends_so : Under AllEndSo) (statuses : Under (WhereTameOrFew AllStatuses)) (line : ℕ) (run : Run) (r : IsRun run) (has : 0 < run.units) (small : run.units ≤ 4) (size : length run.start.disks ≡ run.units) where
   abbrev last : Scene
   last = after (beginning run) run.entries
 
@@ -61,7 +61,7 @@ module _ (data_so : Under (WhereTame AllDataSo)) (ends_so : Under (WhereTame All
         rises = rises_of k.past last.world k.holds.sound.stands past k.is;
         serials = (subst IsOfWire k.is (laws_of k.past last.world k.holds.sound.stands)).serials;
         each = data_so.after_lines line run r has small size so_far tame i b calm;
-        ends_so = ends_so.after_lines line run r has small size so_far tame i b calm;
+        ends_so = ends_so.after_lines line run r has small size so_far i b calm;
         once = once_behind last.world k.holds.sound.stands past k.is;
         taken = (statuses.after_lines line run r has small size so_far (inl tame) i b calm).taken;
         honest = honest_of k.past last.world k.holds.sound.stands past k.is;
@@ -102,7 +102,7 @@ module _ (data_so : Under (WhereTame AllDataSo)) (ends_so : Under (WhereTame All
           rises = rises_of before end x.holds.sound.stands now is;
           serials = (subst IsOfWire is (laws_of before end x.holds.sound.stands)).serials;
           each = data_so.between line run r has small size next most told m so_far tame i b calm;
-          ends_so = ends_so.between line run r has small size next most told m so_far tame i b calm;
+          ends_so = ends_so.between line run r has small size next most told m so_far i b calm;
           once = once_behind end x.holds.sound.stands now is;
           taken = (statuses.between line run r has small size next most told m so_far (inl tame) i b calm).taken;
           honest = honest_of before end x.holds.sound.stands now is;
@@ -125,7 +125,7 @@ module _ (data_so : Under (WhereTame AllDataSo)) (ends_so : Under (WhereTame All
           serials = wire.serials;
         }
 
-pub data_served_law : Under (WhereTame AllDataSo) → Under (WhereTame AllEndSo) → Under (WhereTameOrFew AllStatuses) → DataServedLaw
+pub data_served_law : Under (WhereTame AllDataSo) → Under AllEndSo → Under (WhereTameOrFew AllStatuses) → DataServedLaw
 data_served_law data_so ends_so statuses = record {
   after_lines = λ line run r has small size so_far tame i b calm.
       are_served (injectors (history_of line run)) i calm (history_of line run) (sound_after data_so ends_so statuses line run r has small size so_far tame i b calm);
@@ -134,7 +134,7 @@ data_served_law data_so ends_so statuses = record {
       (sound_between data_so ends_so statuses line run r has small size next most told m so_far tame i b calm);
 }
 
-pub data_sequence_law : Under (WhereTame AllDataSo) → Under (WhereTame AllEndSo) → Under (WhereTameOrFew AllStatuses) → DataSequenceLaw
+pub data_sequence_law : Under (WhereTame AllDataSo) → Under AllEndSo → Under (WhereTameOrFew AllStatuses) → DataSequenceLaw
 data_sequence_law data_so ends_so statuses = record {
   after_lines = λ line run r has small size so_far tame i b calm.
       in_sequence (injectors (history_of line run)) i calm (history_of line run) (sound_after data_so ends_so statuses line run r has small size so_far tame i b calm);
@@ -143,7 +143,7 @@ data_sequence_law data_so ends_so statuses = record {
       (sound_between data_so ends_so statuses line run r has small size next most told m so_far tame i b calm);
 }
 
-pub data_gots_law : Under (WhereTame AllDataSo) → Under (WhereTame AllEndSo) → Under (WhereTameOrFew AllStatuses) → DataGotsLaw
+pub data_gots_law : Under (WhereTame AllDataSo) → Under AllEndSo → Under (WhereTameOrFew AllStatuses) → DataGotsLaw
 data_gots_law data_so ends_so statuses = record {
   after_lines = λ line run r has small size so_far tame i b calm.
       gots_so (injectors (history_of line run)) i calm (history_of line run) (known_after data_so ends_so statuses line run r has small size so_far i b) (sound_after data_so ends_so statuses line run r has small size so_far tame i b calm);
@@ -159,7 +159,7 @@ same_packet one other e = cc
 got_by : (past : List Moment) (i : ℕ) → SerialsCount past → AllApart past i → (serial slot : ℕ) (packet : Sending) → IsToHost past i serial packet → IsDataWrite packet.bytes slot → 0 < (terms past).served serial → WasGot past serial
 got_by past i c apart serial slot packet t x l = was_got i serial slot packet t.to_host x past c (λ q e. same_packet q packet (sym e ∙ t.is)) apart l
 
-pub served_got_law : Under (WhereTame AllDataSo) → Under (WhereTame AllEndSo) → Under (WhereTameOrFew AllStatuses) → ServedGotLaw
+pub served_got_law : Under (WhereTame AllDataSo) → Under AllEndSo → Under (WhereTameOrFew AllStatuses) → ServedGotLaw
 served_got_law data_so ends_so statuses = record {
   after_lines = λ line run r has small size so_far tame i b calm serial slot packet t x l.
       got_by (history_of line run) i (known_after data_so ends_so statuses line run r has small size so_far i b).serials

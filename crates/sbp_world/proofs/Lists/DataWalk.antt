@@ -39,7 +39,7 @@ use Rattle.sbp_world.specs.Agents.Alike.{has_list}
 use Rattle.sbp_world.proofs.Agents.Management.Still.{hist}
 use Rattle.sbp_world.specs.Hosts.Handing.{AreOthers}
 use Rattle.sbp_world.proofs.Hosts.Hands.{hand_law}
-use Rattle.sbp_world.specs.Lists.Needs.{IsFor, machine_at}
+use Rattle.sbp_world.specs.Lists.Needs.{IsFor, initiator_in, machine_at}
 use Rattle.sbp_world.specs.Lists.OwnLogins.{AreOwn}
 use Rattle.sbp_world.specs.Lists.DataWrites.{DataSo}
 use Rattle.sbp_world.proofs.Lists.Generations.{moment_generation}
@@ -73,7 +73,7 @@ module _ (wild : ℕ → Bool) (i : ℕ) (own : wild i ≡ false) where
       pub placed : Placed w
       pub prepared : ArePrepared (hist past w) w
       pub slots : HaveSlots (hist past w) i
-      pub full : (q : ℕ) → q < 8 → IsFull (machine_at w q)
+      pub full : (q : ℕ) → q < 8 → wild (initiator_in w q) ≡ false → IsFull (machine_at w q)
       pub same_gen : (topology_at w.generations 0).generation ≡ (terms (hist past w)).generation 0
       pub up : (q : ℕ) → q < 8 → has_list (machine_at w q).phase ≡ true → Up wild i own past w q
 
@@ -94,7 +94,7 @@ module _ (wild : ℕ → Bool) (i : ℕ) (own : wild i ≡ false) where
         asked_orbs = λ place c is_open mine n list number from below. f.asked_orbs place c is_open mine n list number from below;
         placed = placed_on w f.placed;
         prepared = λ place n k inside named. let x = f.prepared place n k inside (record { list = named.list; number = named.number }) in record { there = x.there; small = x.small; filled = x.filled };
-        full = λ q b. f.full q b;
+        full = λ q b ours. f.full q b ours;
         same_gen = f.same_gen ∙ sym (moment_generation 0 (asked line event) (hist past w) refl);
         slots = λ n k e from below. let x = f.slots n k e from below in record { there = x.there; held = x.held };
         up = λ q b l. up_asked line event past w q (f.up q b l);

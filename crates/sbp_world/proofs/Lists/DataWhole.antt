@@ -1,5 +1,5 @@
 -- While an agent writes an answer, it has as many bytes as the buffer of the ORB, and not all were written: the command of a line fills its buffer, and what a run tells has the length of the answer to it.
-use Rattle.std.proofs.Common.{◌≡◌, refl, sym, ap, subst, ◌<◌, ℕ, zero, suc, Bool, true, false, List, [], length, Option, Some, None}
+use Rattle.std.proofs.Common.{◌≡◌, ◌∙◌, refl, sym, ap, subst, ◌<◌, ℕ, zero, suc, Bool, true, false, List, [], length, Option, Some, None}
 use Rattle.std.specs.Prelude.{slice_index_or, replicate}
 use Rattle.rbc_disk.specs.Disk.{Disk}
 use Rattle.sbp_journal.specs.Run.{Moment}
@@ -9,36 +9,33 @@ use Rattle.sbp_world.specs.Settling.{after_all}
 use Rattle.sbp_world.specs.Worlds.{WorldState, begun, initiator_at}
 use Rattle.sbp_world.proofs.Agents.Management.Still.{hist}
 use Rattle.sbp_world.specs.Lists.Needs.{initiator_in, machine_at}
-use Rattle.sbp_world.proofs.Lists.Walks.{Walks}
-use Rattle.sbp_world.specs.Telling.{holder}
+use Rattle.sbp_world.proofs.Lists.Walks.{Walks, walked_after, walked_between}
 use Rattle.sbp_laws.specs.Lists.{slot_at}
 use Rattle.sbp_target.specs.declared.desk.Desk.{Desk}
 use Rattle.sbp_target.specs.Desks.{new_desk}
 use Rattle.sbp_world.specs.Making.{new_world}
-use Rattle.sbp_world.specs.Agents.Alike.{answers}
+use Rattle.sbp_world.specs.Agents.Alike.{answers, has_list}
 use Rattle.sbp_world.specs.Agents.Management.Terms.{DeliversMore}
 use Rattle.sbp_world.specs.Hosts.Orbs.{HoldsOrbs}
 use Rattle.sbp_world.specs.Hosts.Runs.{more_deliveries}
-use Rattle.sbp_world.specs.Lists.Closes.{Always, Under, WhereTame}
+use Rattle.sbp_world.specs.Lists.Closes.{Always, Under}
 use Rattle.sbp_world.specs.Lists.DataWhole.{AnswersWholeLaw}
 use Rattle.sbp_world.proofs.Lists.AnswerLengths.{AreFilled, FillsEvent, commands_fill, filled_behind, filled_said}
-use Rattle.sbp_world.proofs.Lists.DataSteps.{ArePrepared, reply_whole}
+use Rattle.sbp_world.proofs.Lists.DataSteps.{ArePrepared, answers_is, reply_whole}
 use Rattle.sbp_world.proofs.Lists.Executes.{asked_of}
-use Rattle.sbp_world.proofs.Lists.Full.{IsFull, full_closed}
+use Rattle.sbp_world.proofs.Lists.Full.{IsFull, closed_where, full_closed}
+use Rattle.sbp_world.proofs.Lists.OpenTurns.{listing_up}
+use Rattle.sbp_world.proofs.Lists.PlaceOwners.{walk_owns}
 use Rattle.sbp_world.proofs.Lists.RunOutcomes.{AreAsked}
 use Rattle.sbp_world.proofs.Lists.RunTells.{delivery_may}
 use Rattle.sbp_world.proofs.Lists.Sites.{named_prepared}
 use Rattle.sbp_world.proofs.Lists.StatusAnswers.{all_hold}
-use Rattle.sbp_world.proofs.Lists.TameWalks.{tame_after, tame_between}
 use Rattle.sbp_world.proofs.Lists.MachineTurns.{turn_full}
 
 no : false ≡ true → ⊥
 no e = cc
 
-abbrev F : WorldState → Type 0
-F w = (q : ℕ) → q < 8 → IsFull (machine_at w q)
-
--- ---- over a run in which no initiator injected packets
+-- ---- over a run
 -- the commands of lines fill their buffers
 pub record Ground (ms : List Moment) (w : WorldState) : Type 0 where
   pub orbs : (i : ℕ) → i < length w.initiators → HoldsOrbs ms i (initiator_at w i)
@@ -56,41 +53,47 @@ all_filled = record {
     more_fills None = tt
 
 abbrev AllFull : (ℕ → Bool) → List Moment → WorldState → Type 0
-AllFull wild ms w = ((j : ℕ) → wild j ≡ false) → F w
+AllFull wild ms w = (q : ℕ) → q < 8 → wild (initiator_in w q) ≡ false → IsFull (machine_at w q)
 
 abbrev Nothing : List Moment → WorldState → Type 0
 Nothing past w = Unit {0}
 
 full_walk : (wild : ℕ → Bool) (units ready : ℕ) → 0 < units → (start : List Disk) → Walks wild units ready start Ground Nothing (AllFull wild)
-full_walk wild units ready has start past s later t step p all_own =
+full_walk wild units ready has start past s later t step p =
     let w = s.world in
+    let v = t.world in
     let ms = hist past w in
     let at = step.stands.reached in
     let asked_orbs : AreAsked wild ms w = asked_of wild start units ready has w at.holds at.site step.stands.lists at.calm step.known.orbs in
     let prepared : ArePrepared ms w = (λ place n j there named.
     let x = named_prepared units ready has start w at.holds at.site place n j there named in
     record { there = x.there; small = x.small; filled = λ cmd e. at.site.filled (initiator_in w place) there (slot_at ms (initiator_in w place) n j) n j cmd x.small x.there e }) in
-    turn_full (λ q m. IsFull m) full_closed wild past s later t step.turn
+    let kept : (q : ℕ) → q < 8 → wild (initiator_in w q) ≡ false → IsFull (machine_at v q) =
+    turn_full (λ q m. wild (initiator_in w q) ≡ false → IsFull m) (closed_where (λ q. wild (initiator_in w q) ≡ false) (λ q m. IsFull m) full_closed) wild past s later t step.turn
     (record {
       ready = step.stands.known_all;
       seats = λ q login e. let k = at.site.held.held q login e in record { holder_is = k.holder; there = k.there; id_is = k.login_is };
-      replies = λ serial sent run h found zero_to may p label place judged b login served which e full e_then.
-          reply_whole wild past w step.stands.known_all asked_orbs sent (record { serial = serial; found = found; to = zero_to }) run s.media.disks p label place judged b login which e (all_own (holder w place).initiator)
-          (delivery_may w.target step.stands.known_all.good.mid.size step.stands.known_all.good.table.sound sent run s.media may p label place judged login served which e) prepared (λ j n k cmd g. commands_fill ms step.known.fills j n k cmd g) full e_then;
+      replies = λ serial sent run h found zero_to may p label place judged b login served which e full own e_then.
+          reply_whole wild past w step.stands.known_all asked_orbs sent (record { serial = serial; found = found; to = zero_to }) run s.media.disks p label place judged b login which e own
+          (delivery_may w.target step.stands.known_all.good.mid.size step.stands.known_all.good.table.sound sent run s.media may p label place judged login served which e) prepared (λ j n k cmd g. commands_fill ms step.known.fills j n k cmd g) (full own) e_then;
     })
-    (p all_own)
+    p in
+    -- an agent that writes an answer is of the initiator that had its place before
+    (λ q b own e.
+    let owner : initiator_in v q ≡ initiator_in w q = walk_owns units ready has start s at.holds at.site.held later t step.turn q b (listing_up (machine_at v q).phase (ap has_list (answers_is (machine_at v q).phase e))) in
+    kept q b (ap wild (sym owner) ∙ own) e)
 
 first_full : (wild : ℕ → Bool) (line : ℕ) (run : Run) → AllFull wild (moments_behind line run []) (beginning run).world
 unfolding new_world
-first_full wild line run all_own q b = subst (λ (d : Desk). IsFull d.agent) (sym (new_desks 8 q)) (λ e. absurd (no e))
+first_full wild line run q b own = subst (λ (d : Desk). IsFull d.agent) (sym (new_desks 8 q)) (λ e. absurd (no e))
   where
     new_desks : (n p : ℕ) → slice_index_or (replicate n new_desk) p new_desk ≡ new_desk
     new_desks zero p = refl
     new_desks (suc n) zero = refl
     new_desks (suc n) (suc p) = new_desks n p
 
-nothing : Under (WhereTame Nothing)
-nothing = record { after_lines = λ line run r has small size so_far tame. tt; between = λ line run r has small size next most told m so_far tame. tt }
+nothing : Under Nothing
+nothing = record { after_lines = λ line run r has small size so_far. tt; between = λ line run r has small size next most told m so_far. tt }
 
 delivers : (most : Option ℕ) → DeliversMore (more_deliveries most)
 delivers (Some count) = tt
@@ -98,8 +101,8 @@ delivers None = tt
 
 pub whole_law : AnswersWholeLaw
 whole_law = record {
-  after_lines = λ line run r has small size so_far tame place b answering.
-      let x = tame_after Ground Nothing AllFull all_filled nothing full_walk first_full line run r has small size so_far tame tame place b (ap answers answering) in (x.more, x.fills);
-  between = λ line run r has small size next most told m so_far tame place b answering.
-      let x = tame_between Ground Nothing AllFull all_filled nothing full_walk first_full line run r has small size next (more_deliveries most) (delivers most) told m so_far tame tame place b (ap answers answering) in (x.more, x.fills);
+  after_lines = λ line run r has small size so_far place b calm answering.
+      let x = walked_after Ground Nothing AllFull all_filled nothing full_walk first_full line run r has small size so_far place b calm (ap answers answering) in (x.more, x.fills);
+  between = λ line run r has small size next most told m so_far place b calm answering.
+      let x = walked_between Ground Nothing AllFull all_filled nothing full_walk first_full line run r has small size next (more_deliveries most) (delivers most) told m so_far place b calm (ap answers answering) in (x.more, x.fills);
 }

@@ -91,3 +91,13 @@ pub record IsClosed (F : ℕ → Machine → Type 0) : Type 0 where
 
 pub full_closed : IsClosed (λ q m. IsFull m)
 full_closed = record { reset = λ q m. reset_full m; abort = λ q m. abort_full m; lost = λ q m. lost_full m; bell = λ q m. bell_full m; point = λ q m. point_full m }
+
+-- where something is so of the place
+pub closed_where : (Q : ℕ → Type 0) (F : ℕ → Machine → Type 0) → IsClosed F → IsClosed (λ q m. Q q → F q m)
+closed_where Q F c = record {
+  reset = λ q m it. c.reset q m;
+  abort = λ q m orb f it. c.abort q m orb (f it);
+  lost = λ q m which cause f it. c.lost q m which cause (f it);
+  bell = λ q m f it. c.bell q m (f it);
+  point = λ q m pointer f it. c.point q m pointer (f it);
+}

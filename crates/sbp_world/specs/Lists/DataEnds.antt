@@ -1,5 +1,5 @@
 -- How an ORB comes to its end, but as failed (NCITS 325-1998, command block ORB and data buffers): its command had not run before the turn in which it ends; or the write of the last chunk of
--- its answer is answered with rcode 0 in this turn. At each place of a run in which no initiator injected packets, before which lists were open as they should be.
+-- its answer is answered with rcode 0 in this turn. Of each initiator that injected no packets, at each place of a run before which lists were open as they should be.
 use Rattle.std.specs.Prelude.{◌≡◌, ◌<◌, ℕ, List, ◌∷◌, ◌++◌, length, Some}
 use Rattle.command_agent.specs.Machine.{Machine}
 use Rattle.orb_layout.specs.declared.status.StatusKind.TheVariants as kinds
@@ -8,7 +8,7 @@ use Rattle.sbp_journal.specs.declared.note.Note.TheVariants as notes
 use Rattle.sbp_laws.specs.Terms.{ends, runs}
 use Rattle.sbp_laws.specs.Turns.{EachMoment}
 use Rattle.sbp_world.specs.Worlds.{WorldState}
-use Rattle.sbp_world.specs.Lists.Closes.{Under, WhereTame}
+use Rattle.sbp_world.specs.Lists.Closes.{Under}
 use Rattle.sbp_world.specs.Lists.DataWrites.{AreDry, IsAnswered}
 use Rattle.sbp_world.specs.Lists.Needs.{IsCalm}
 
@@ -35,4 +35,4 @@ abbrev pub AllEndSo : List Moment → WorldState → Type 0
 AllEndSo past w = (i : ℕ) → i < length w.initiators → IsCalm past i → EachMoment (EndSo i) past
 
 abbrev pub AnswersEndLaw : Type 0
-AnswersEndLaw = Under (WhereTame AllEndSo)
+AnswersEndLaw = Under AllEndSo
