@@ -6,14 +6,16 @@ use Rattle.agent_laws.specs.Along.Requests.{main_ask}
 use Rattle.sbp_world.specs.Agents.AskedRuns.{AreAskedAt, IsAccessFor, read_access, serial_of}
 use Rattle.sbp_world.proofs.Agents.Management.Firsts.{wire_is}
 use Rattle.command_agent.specs.declared.phase.Phase.TheVariants as phases
+use Rattle.command_agent.specs.declared.phase.ReadAhead.{ReadAhead}
+use Rattle.command_agent.specs.declared.phase.ReadAhead.TheVariants as aheads
 use Rattle.command_agent.specs.declared.step.Which.{Which}
 use Rattle.command_agent.specs.declared.step.Which.TheVariants.{Ahead, Main}
-use Rattle.command_agent.specs.Machine.{Machine, chunk_of, limit_of}
+use Rattle.command_agent.specs.Machine.{Machine, aligned, chunk_of, limit_of}
 use Rattle.orb_layout.specs.declared.ask.Ask.{Ask}
 use Rattle.orb_layout.specs.declared.ask.Ask.TheVariants as requests
 use Rattle.orb_layout.specs.declared.command.CommandOrb.{CommandOrb}
+use Rattle.orb_layout.specs.declared.pointer.OrbPointer.TheVariants.{At}
 use Rattle.orb_layout.specs.Replies.{Answer, payload_of}
-use Rattle.page_table.specs.declared.segment.Segment.{Segment}
 use Rattle.rbc_disk.specs.Disk.{Disk}
 use Rattle.sbp_journal.specs.Addresses.{Access}
 use Rattle.sbp_journal.specs.Run.{Moment, asked, said}
@@ -33,17 +35,35 @@ use Rattle.sbp_world.proofs.Lists.Brought.{paid}
 use Rattle.sbp_world.proofs.Lists.FedFolds.{AreSo, AreStill, IsKept, Pends, over_still, so}
 use Rattle.sbp_world.proofs.Lists.FedNotes.{managed_kept, note_kept, request_kept}
 use Rattle.sbp_world.proofs.Lists.FedPieces.{IsPiece, all_bytes, all_more, turn_more}
-use Rattle.sbp_world.proofs.Lists.FedSteps.{Feeding, Hears, IsFed, Tabling, abort_feeds, ahead_steps, bell_feeds, late_feeds, lost_feeds, main_steps, new_feeds, point_feeds, reset_feeds, unheard_feeds}
-use Rattle.sbp_world.proofs.Lists.OrbReading.{ahead_more, brings}
+use Rattle.sbp_world.proofs.Lists.FedSteps.{Feeding, Hears, IsFed, abort_feeds, ahead_steps, bell_feeds, late_feeds, lost_feeds, main_steps, new_feeds, point_feeds, reset_feeds, unheard_feeds}
+use Rattle.sbp_world.proofs.Lists.OrbReading.{ahead_more}
 use Rattle.sbp_bus.specs.Packets.{judged_note}
 use Rattle.sbp_journal.specs.declared.cause.Judged.{Judged}
 use Rattle.sbp_journal.specs.declared.cause.Judged.TheVariants as judgements
 use Rattle.sbp_journal.specs.declared.event.Event.{Event}
 use Rattle.sbp_world.proofs.Lists.OrbNotes.{GotBrings}
-use Rattle.sbp_world.proofs.Lists.OrbReading.{ahead_more}
+use Rattle.sbp_world.proofs.Lists.OrbSteps.{ReadAheadOf, holds_read}
 use Rattle.sbp_world.proofs.Lists.Quiet.{AllQuiet, IsQuiet}
 use Rattle.sbp_world.proofs.Lists.TurnReads.{Course, as_it_was, by_asked, by_judged, by_noted}
 use Rattle.sbp_world.proofs.Lists.WasReads.{each_at}
+
+-- ---- what is known of an agent, otherwise
+module _ (R S : ℕ → CommandOrb → Type 0) (T U : ℕ → CommandOrb → List Moved → Type 0) (m : Machine) (main : holds_read m.phase ≡ true → (reads : List Moved) → T m.present m.orb reads → U m.present m.orb reads) (ahead : (orb : CommandOrb) → m.ahead ≡ aheads.Kept orb → (offset : ℕ) → m.orb.next ≡ At offset → R (aligned offset) orb → S (aligned offset) orb) where
+  ahead_so : (a : ReadAhead) → m.ahead ≡ a → ReadAheadOf R m.orb.next a → ReadAheadOf S m.orb.next a
+  ahead_so aheads.Idle e r = tt
+  ahead_so (aheads.UnderWay rung) e r = record { offset = r.offset; is = r.is }
+  ahead_so (aheads.Kept orb) e r = record { offset = r.offset; is = r.is; read = ahead orb e r.offset r.is r.read }
+
+  pub fed_so : IsFed R T m → IsFed S U m
+  fed_so h = record {
+    main = record {
+      fetching = h.main.fetching;
+      tabling = λ e. let d = h.main.tabling e in record { turned = main (ap holds_read e) [] d.turned; empty = d.empty; reads = d.reads };
+      filling = λ wanted e. let d = h.main.filling wanted e in record { tables = d.tables; pieces = d.pieces; turned = main (ap holds_read e) (d.tables ++ d.pieces) d.turned; table = d.table; bytes = d.bytes; turn = d.turn };
+    };
+    ahead = ahead_so m.ahead refl h.ahead;
+    idle = h.idle;
+  }
 
 -- ---- the history goes on
 abbrev pub IsNoGot : Moment → Type 0
@@ -58,7 +78,7 @@ same_reads start (said note) n q later before = by note n
     by (notes.Got serial) n = absurd n
     by note n = refl
 
-module _ (start : List Disk) (Read : List Moment → ℕ → ℕ → CommandOrb → Type 0) (Turned : List Moment → ℕ → ℕ → CommandOrb → List Moved → Type 0) (turns : (past : List Moment) (q at : ℕ) (orb : CommandOrb) → Read past q at orb → Turned past q at orb []) (read_more : (m : Moment) (past : List Moment) (q at : ℕ) (orb : CommandOrb) → Read past q at orb → Read (m ∷ past) q at orb) (turned_more : (m : Moment) → IsNoGot m → (past : List Moment) (q at : ℕ) (orb : CommandOrb) (reads : List Moved) → Turned past q at orb reads → Turned (m ∷ past) q at orb reads) (turned_got : (serial : ℕ) (past : List Moment) (q at : ℕ) (orb : CommandOrb) (reads more : List Moved) → main_read start past q serial ≡ more → Turned past q at orb reads → Turned (said (notes.Got serial) ∷ past) q at orb (reads ++ more)) where
+module _ (start : List Disk) (Read : List Moment → ℕ → ℕ → CommandOrb → Type 0) (Turned : List Moment → ℕ → ℕ → CommandOrb → List Moved → Type 0) (Ready : List Moment → ℕ → Type 0) (turns : (past : List Moment) (q at : ℕ) (orb : CommandOrb) → Read past q at orb → Turned past q at orb []) (read_more : (m : Moment) (past : List Moment) (q at : ℕ) (orb : CommandOrb) → Read past q at orb → Read (m ∷ past) q at orb) (turned_more : (m : Moment) → IsNoGot m → (past : List Moment) (q at : ℕ) (orb : CommandOrb) (reads : List Moved) → Turned past q at orb reads → Turned (m ∷ past) q at orb reads) (turned_got : (serial : ℕ) (past : List Moment) (q at : ℕ) (orb : CommandOrb) (reads more : List Moved) → Ready past q → main_read start past q serial ≡ more → Turned past q at orb reads → Turned (said (notes.Got serial) ∷ past) q at orb (reads ++ more)) where
   abbrev pub Fed : List Moment → ℕ → Machine → Type 0
   Fed past q m = IsFed (Read past q) (Turned past q) m
 
@@ -74,36 +94,27 @@ module _ (start : List Disk) (Read : List Moment → ℕ → ℕ → CommandOrb 
     unheard = λ q plain told which answer. (unheard_feeds (Read past q) (Turned past q) (turns past q) q plain told which answer).fed;
   }
 
-  turned_same : (serial : ℕ) (past : List Moment) (q : ℕ) → main_read start past q serial ≡ [] → (at : ℕ) (orb : CommandOrb) (reads : List Moved) → Turned past q at orb reads → Turned (said (notes.Got serial) ∷ past) q at orb reads
-  turned_same serial past q e at orb reads t = subst (Turned (said (notes.Got serial) ∷ past) q at orb) (append-nil reads) (turned_got serial past q at orb reads [] e t)
+  turned_same : (serial : ℕ) (past : List Moment) (q : ℕ) → Ready past q → main_read start past q serial ≡ [] → (at : ℕ) (orb : CommandOrb) (reads : List Moved) → Turned past q at orb reads → Turned (said (notes.Got serial) ∷ past) q at orb reads
+  turned_same serial past q ready e at orb reads t = subst (Turned (said (notes.Got serial) ∷ past) q at orb) (append-nil reads) (turned_got serial past q at orb reads [] ready e t)
 
   -- what is known of an agent is so later
-  module _ (past now : List Moment) (q : ℕ) (b : (at : ℕ) (orb : CommandOrb) → Read past q at orb → Read now q at orb) (t : (at : ℕ) (orb : CommandOrb) (reads : List Moved) → Turned past q at orb reads → Turned now q at orb reads) where
-    feeding_later : (at : ℕ) (orb : CommandOrb) (segments : List Segment) (payload : List ℕ) (wanted : ℕ) → Feeding (Turned past q) at orb segments payload wanted → Feeding (Turned now q) at orb segments payload wanted
-    feeding_later at orb segments payload wanted d = record { tables = d.tables; pieces = d.pieces; turned = t at orb (d.tables ++ d.pieces) d.turned; table = d.table; bytes = d.bytes; turn = d.turn }
-
-    tabling_later : (at : ℕ) (orb : CommandOrb) (payload : List ℕ) → Tabling (Turned past q) at orb payload → Tabling (Turned now q) at orb payload
-    tabling_later at orb payload d = record { turned = t at orb [] d.turned; empty = d.empty; reads = d.reads }
-
-    fed_later : (m : Machine) → Fed past q m → Fed now q m
-    fed_later m h = record {
-      main = record {
-        fetching = h.main.fetching;
-        tabling = λ e. tabling_later m.present m.orb m.payload (h.main.tabling e);
-        filling = λ wanted e. feeding_later m.present m.orb m.segments m.payload wanted (h.main.filling wanted e);
-      };
-      ahead = ahead_more (Read past q) (Read now q) b m.orb.next m.ahead h.ahead;
-      idle = h.idle;
-    }
-
   fed_more : (m : Moment) → IsNoGot m → (past : List Moment) (q : ℕ) (machine : Machine) → Fed past q machine → Fed (m ∷ past) q machine
-  fed_more m n past q machine h = fed_later past (m ∷ past) q (λ at orb x. read_more m past q at orb x) (turned_more m n past q) machine h
+  fed_more m n past q machine h =
+      fed_so (Read past q) (Read (m ∷ past) q) (Turned past q) (Turned (m ∷ past) q) machine (λ holds reads. turned_more m n past q machine.present machine.orb reads)
+      (λ orb kept offset next. read_more m past q (aligned offset) orb) h
 
-  fed_same : (serial : ℕ) (past : List Moment) (q : ℕ) → main_read start past q serial ≡ [] → (machine : Machine) → Fed past q machine → Fed (said (notes.Got serial) ∷ past) q machine
-  fed_same serial past q e machine h = fed_later past (said (notes.Got serial) ∷ past) q (λ at orb x. read_more (said (notes.Got serial)) past q at orb x) (turned_same serial past q e) machine h
+  fed_same : (serial : ℕ) (past : List Moment) (q : ℕ) → main_read start past q serial ≡ [] → (machine : Machine) → (holds_read machine.phase ≡ true → Ready past q) → Fed past q machine → Fed (said (notes.Got serial) ∷ past) q machine
+  fed_same serial past q e machine ready h =
+      let now = said (notes.Got serial) ∷ past in
+      fed_so (Read past q) (Read now q) (Turned past q) (Turned now q) machine (λ holds reads. turned_same serial past q (ready holds) e machine.present machine.orb reads)
+      (λ orb kept offset next. read_more (said (notes.Got serial)) past q (aligned offset) orb) h
+
+  -- each agent that has its ORB and has not ended it is ready for an answer
+  abbrev pub AreReady : List Moment → Type 0
+  AreReady past = (q : ℕ) → holds_read (agent_at (over (target_at start past)) q).machine.phase ≡ true → Ready past q
 
   -- ---- a packet is got
-  module _ (past : List Moment) (serial : ℕ) (waits : AreAskedAt start past) (brings : is_serial (receiver_in ((terms past).sent serial)) 0 ≡ true → GotBrings (Read (said (notes.Got serial) ∷ past)) (terms past) serial (over (target_at start past))) where
+  module _ (past : List Moment) (serial : ℕ) (waits : AreAskedAt start past) (brings : is_serial (receiver_in ((terms past).sent serial)) 0 ≡ true → GotBrings (Read (said (notes.Got serial) ∷ past)) (terms past) serial (over (target_at start past))) (ready : AreReady past) where
     abbrev wire : Terms
     wire = terms past
 
@@ -117,7 +128,7 @@ module _ (start : List Disk) (Read : List Moment → ℕ → ℕ → CommandOrb 
     answer = answer_in (packet_at wire serial)
 
     all_same : ((q : ℕ) → main_read start past q serial ≡ []) → AreStill (Fed past) T → AreStill (Fed now) T
-    all_same e h = record { agents = λ q. fed_same serial past q (e q) (agent_at T q).machine (h.agents q); none = h.none }
+    all_same e h = record { agents = λ q. fed_same serial past q (e q) (agent_at T q).machine (ready q) (h.agents q); none = h.none }
 
     module _ (by_target : is_serial (receiver_in (wire.sent serial)) 0 ≡ true) (own : ℕ) (closed : answered_at wire serial ≡ Some own) where
       read_is : (p : Purpose) → purpose_of T own ≡ p → (q : ℕ) → main_read start past q serial ≡ cond (is_main_of p q) (moved_by (access_at wire own) (payload_at wire serial)) []
@@ -147,7 +158,7 @@ module _ (start : List Disk) (Read : List Moment → ℕ → ℕ → CommandOrb 
 
           tabled : (e : m.phase ≡ phases.ReadingTable) (bytes : List ℕ) → payload_of answer (8 * m.orb.data_size) ≡ Ok bytes → Turned now place m.present m.orb (record { offset = m.orb.descriptor; bytes = bytes } ∷ [])
           tabled e bytes f =
-              turned_got serial past place m.present m.orb [] (record { offset = m.orb.descriptor; bytes = bytes } ∷ []) (moved_is m.orb.descriptor (8 * m.orb.data_size) (ap (λ phase. main_ask phase m) e) bytes f)
+              turned_got serial past place m.present m.orb [] (record { offset = m.orb.descriptor; bytes = bytes } ∷ []) (ready place (ap holds_read e)) (moved_is m.orb.descriptor (8 * m.orb.data_size) (ap (λ phase. main_ask phase m) e) bytes f)
               ((h.agents place).main.tabling e).turned
 
           filled : (wanted : ℕ) (e : m.phase ≡ phases.ReadingData wanted) (bytes : List ℕ) → payload_of answer (chunk_of m (length m.payload) wanted).length ≡ Ok bytes → Feeding (Turned now place) m.present m.orb m.segments (m.payload ++ bytes) wanted
@@ -155,7 +166,7 @@ module _ (start : List Disk) (Read : List Moment → ℕ → ℕ → CommandOrb 
               let d = (h.agents place).main.filling wanted e in
               let taken = chunk_of m (length m.payload) wanted in
               let one : Moved = record { offset = taken.offset; bytes = bytes } in
-              let got = turned_got serial past place m.present m.orb (d.tables ++ d.pieces) (one ∷ []) (moved_is taken.offset taken.length (ap (λ phase. main_ask phase m) e) bytes f) d.turned in
+              let got = turned_got serial past place m.present m.orb (d.tables ++ d.pieces) (one ∷ []) (ready place (ap holds_read e)) (moved_is taken.offset taken.length (ap (λ phase. main_ask phase m) e) bytes f) d.turned in
               let piece : IsPiece m.segments (limit_of m.orb) wanted (length m.payload) one = record { offset = refl; size = (paid answer taken.length bytes f).size_is } in
               let at : length m.payload ≡ 0 + length (all_bytes d.pieces) = (let z = ap (λ (xs : List ℕ). length xs) d.bytes in omega (arith, z)) in
               record {
@@ -186,7 +197,7 @@ module _ (start : List Disk) (Read : List Moment → ℕ → ℕ → CommandOrb 
           ahead_pends : Pends (Fed now) m (record { place = place; which = Ahead; answer = answer })
           ahead_pends plain told =
               let handed = waits.handed own place Ahead purpose in
-              let x = fed_same serial past place (read_is (for_agent place Ahead) purpose place) m (h.agents place) in
+              let x = fed_same serial past place (read_is (for_agent place Ahead) purpose place) m (ready place) (h.agents place) in
               (ahead_steps (Read now place) (Turned now place) (turns now place) m place plain told answer x
               (λ e offset f bytes g. (brings by_target own closed place Ahead purpose).ahead refl e offset f bytes g)).fed
 
@@ -203,7 +214,7 @@ module _ (start : List Disk) (Read : List Moment → ℕ → ℕ → CommandOrb 
 
       to_purpose : (p : Purpose) → purpose_of T own ≡ p → AreStill (Fed past) T → Then (replied_to p answer T)
       to_purpose (for_agent place which) e h = record {
-        agents = λ q f. fed_same serial past q (none_read place h which q e f) (agent_at T q).machine (h.agents q);
+        agents = λ q f. fed_same serial past q (none_read place h which q e f) (agent_at T q).machine (ready q) (h.agents q);
         pending = λ reply f.
             let mine : Reply = record { place = place; which = which; answer = answer } in
             let same : mine ≡ reply = (let both : Some mine ≡ Some reply = f in cc) in
@@ -237,10 +248,15 @@ module _ (start : List Disk) (Read : List Moment → ℕ → ℕ → CommandOrb 
   IfBrings (notes.Got serial) past = is_serial (receiver_in ((terms past).sent serial)) 0 ≡ true → GotBrings (Read (said (notes.Got serial) ∷ past)) (terms past) serial (over (target_at start past))
   IfBrings note past = Unit {0}
 
-  pub on_note : (note : Note) (past : List Moment) → AskedAsGot start (said note) past → IfBrings note past → AreSo (Fed past) (target_at start past) → AreSo (Fed (said note ∷ past)) (target_by note past (known_at start past).wire (target_at start past))
-  on_note (notes.Got serial) past waits brings h =
-      subst (λ (w : Terms). AreSo (Fed (said (notes.Got serial) ∷ past)) (target_by (notes.Got serial) past w (target_at start past))) (sym (wire_is start past)) (got_so past serial waits brings h)
-  on_note note past waits brings h =
+  -- and its agents are ready for it
+  abbrev pub IfReady : Note → List Moment → Type 0
+  IfReady (notes.Got serial) past = AreReady past
+  IfReady note past = Unit {0}
+
+  pub on_note : (note : Note) (past : List Moment) → AskedAsGot start (said note) past → IfBrings note past → IfReady note past → AreSo (Fed past) (target_at start past) → AreSo (Fed (said note ∷ past)) (target_by note past (known_at start past).wire (target_at start past))
+  on_note (notes.Got serial) past waits brings ready h =
+      subst (λ (w : Terms). AreSo (Fed (said (notes.Got serial) ∷ past)) (target_by (notes.Got serial) past w (target_at start past))) (sym (wire_is start past)) (got_so past serial waits brings ready h)
+  on_note note past waits brings ready h =
       note_kept (Fed (said note ∷ past)) (kept (said note ∷ past)) note past (known_at start past).wire (target_at start past) (all_more_so (said note) tt past (target_at start past) h) tt
 
   still_more : (m : Moment) → IsNoGot m → (past : List Moment) (t : Target) → AreStill (Fed past) t → AreStill (Fed (m ∷ past)) t
@@ -267,32 +283,40 @@ module _ (start : List Disk) (Read : List Moment → ℕ → ℕ → CommandOrb 
     quiet_brings (notes.Got serial) past q = absurd q
     quiet_brings note past q = tt
 
+    quiet_ready : (note : Note) (past : List Moment) → IsQuiet note → IfReady note past
+    quiet_ready (notes.Got serial) past q = absurd q
+    quiet_ready note past q = tt
+
     quiet_on : (front : List Note) (past : List Moment) → AllQuiet front → AreSo (Fed past) (target_at start past) → AreSo (Fed (map said front ++ past)) (target_at start (map said front ++ past))
     quiet_on [] past q h = h
     quiet_on (note ∷ front) past q h =
-        on_note note (map said front ++ past) (quiet_asked note (map said front ++ past) q.0) (quiet_brings note (map said front ++ past) q.0) (quiet_on front past q.1 h)
+        on_note note (map said front ++ past) (quiet_asked note (map said front ++ past) q.0) (quiet_brings note (map said front ++ past) q.0) (quiet_ready note (map said front ++ past) q.0) (quiet_on front past q.1 h)
 
     if_brings : (note : Note) (past later : List Moment) → later ++ said note ∷ past ≡ now → AskedAsGot start (said note) past → Gets past → IfBrings note past
     if_brings (notes.Got serial) past later e a g = g serial later e a
     if_brings note past later e a g = tt
 
-    judged_on : (serial : ℕ) (judged : Judged) (past later : List Moment) → later ++ said (judged_note serial judged) ∷ past ≡ now → AskedAsGot start (said (judged_note serial judged)) past → Gets past → AreStill (Fed past) (over (target_at start past)) → AreSo (Fed (said (judged_note serial judged) ∷ past)) (target_at start (said (judged_note serial judged) ∷ past))
-    judged_on serial (judgements.Ignored cause) past later e a g h = so (Fed (said (notes.Ignored serial cause) ∷ past)) (over (target_at start past)) (still_more (said (notes.Ignored serial cause)) tt past (over (target_at start past)) h)
-    judged_on serial judgements.Got past later e a g h =
-        subst (λ (w : Terms). AreSo (Fed (said (notes.Got serial) ∷ past)) (target_by (notes.Got serial) past w (target_at start past))) (sym (wire_is start past))
-        (got_by_receiver past serial a (g serial later e a) (is_serial (receiver_in ((terms past).sent serial)) 0) refl h)
+    if_ready : (note : Note) (past : List Moment) → AreReady past → IfReady note past
+    if_ready (notes.Got serial) past r = r
+    if_ready note past r = tt
 
-    pub fed_over : (before : List Moment) → Course before now → EachMoment (AskedAsGot start) now → Gets before → ((line : ℕ) (event : Event) → Gets (asked line event ∷ before)) → AreStill (Fed before) (over (target_at start before)) → AreStill (Fed now) (over (target_at start now))
-    fed_over before (as_it_was e) a g g_line h = subst (λ ms. AreStill (Fed ms) (over (target_at start ms))) (sym e) h
-    fed_over before (by_asked front q line event is) a g g_line h =
+    judged_on : (serial : ℕ) (judged : Judged) (past later : List Moment) → later ++ said (judged_note serial judged) ∷ past ≡ now → AskedAsGot start (said (judged_note serial judged)) past → Gets past → AreReady past → AreStill (Fed past) (over (target_at start past)) → AreSo (Fed (said (judged_note serial judged) ∷ past)) (target_at start (said (judged_note serial judged) ∷ past))
+    judged_on serial (judgements.Ignored cause) past later e a g ready h = so (Fed (said (notes.Ignored serial cause) ∷ past)) (over (target_at start past)) (still_more (said (notes.Ignored serial cause)) tt past (over (target_at start past)) h)
+    judged_on serial judgements.Got past later e a g ready h =
+        subst (λ (w : Terms). AreSo (Fed (said (notes.Got serial) ∷ past)) (target_by (notes.Got serial) past w (target_at start past))) (sym (wire_is start past))
+        (got_by_receiver past serial a (g serial later e a) ready (is_serial (receiver_in ((terms past).sent serial)) 0) refl h)
+
+    pub fed_over : (before : List Moment) → Course before now → EachMoment (AskedAsGot start) now → Gets before → ((line : ℕ) (event : Event) → Gets (asked line event ∷ before)) → AreReady before → ((line : ℕ) (event : Event) → AreReady (asked line event ∷ before)) → AreStill (Fed before) (over (target_at start before)) → AreStill (Fed now) (over (target_at start now))
+    fed_over before (as_it_was e) a g g_line ready ready_line h = subst (λ ms. AreStill (Fed ms) (over (target_at start ms))) (sym e) h
+    fed_over before (by_asked front q line event is) a g g_line ready ready_line h =
         subst (λ ms. AreStill (Fed ms) (over (target_at start ms))) is (over_now (map said front ++ asked line event ∷ before) (quiet_on front (asked line event ∷ before) q (on_asked line event before h)))
-    fed_over before (by_noted front q note line event is) a g g_line h =
+    fed_over before (by_noted front q note line event is) a g g_line ready ready_line h =
         let past = asked line event ∷ before in
         let a_then = each_at (AskedAsGot start) (map said front) (said note) past (subst (EachMoment (AskedAsGot start)) (sym is) a) in
         subst (λ ms. AreStill (Fed ms) (over (target_at start ms))) is
-        (over_now (map said front ++ said note ∷ past) (quiet_on front (said note ∷ past) q (on_note note past a_then (if_brings note past (map said front) is a_then (g_line line event)) (on_asked line event before h))))
-    fed_over before (by_judged front q serial judged is) a g g_line h =
+        (over_now (map said front ++ said note ∷ past) (quiet_on front (said note ∷ past) q (on_note note past a_then (if_brings note past (map said front) is a_then (g_line line event)) (if_ready note past (ready_line line event)) (on_asked line event before h))))
+    fed_over before (by_judged front q serial judged is) a g g_line ready ready_line h =
         let note = judged_note serial judged in
         let a_then = each_at (AskedAsGot start) (map said front) (said note) before (subst (EachMoment (AskedAsGot start)) (sym is) a) in
         subst (λ ms. AreStill (Fed ms) (over (target_at start ms))) is
-        (over_now (map said front ++ said note ∷ before) (quiet_on front (said note ∷ before) q (judged_on serial judged before (map said front) is a_then g h)))
+        (over_now (map said front ++ said note ∷ before) (quiet_on front (said note ∷ before) q (judged_on serial judged before (map said front) is a_then g ready h)))

@@ -1,26 +1,26 @@
 -- What an agent has of its ORB, by the response that brought it, and of the reads since it turned to it: what is known of that response goes on with it.
-use Rattle.std.proofs.Common.{◌≡◌, ◌∙◌, refl, sym, ap, subst, ℕ, true, false, List, [], ◌∷◌, ◌++◌}
+use Rattle.std.proofs.Common.{◌≡◌, ◌∙◌, refl, sym, ap, subst, ◌<◌, ℕ, true, false, List, [], ◌∷◌, ◌++◌}
 use Rattle.command_agent.specs.declared.phase.Phase.{Phase}
 use Rattle.command_agent.specs.declared.phase.Phase.TheVariants as phases
 use Rattle.command_agent.specs.declared.phase.ReadAhead.{ReadAhead}
-use Rattle.command_agent.specs.declared.phase.ReadAhead.TheVariants as aheads
-use Rattle.command_agent.specs.Machine.{Machine, aligned, awaits_run}
+use Rattle.command_agent.specs.Machine.{Machine, awaits_run}
 use Rattle.orb_layout.specs.declared.command.CommandOrb.{CommandOrb}
-use Rattle.orb_layout.specs.declared.pointer.OrbPointer.TheVariants.{At}
 use Rattle.orb_layout.specs.CommandOrbs.{command_orb}
 use Rattle.orb_layout.specs.Replies.{Answer}
 use Rattle.page_table.specs.declared.segment.Segment.{Segment}
 use Rattle.rbc_disk.specs.Disk.{Disk}
-use Rattle.sbp_journal.specs.Run.{Moment, said}
+use Rattle.sbp_journal.specs.Run.{Moment, asked, said}
+use Rattle.sbp_journal.specs.declared.note.Note.{Note}
 use Rattle.sbp_journal.specs.declared.note.Note.TheVariants as notes
 use Rattle.sbp_laws.specs.CarriedBytes.{Moved}
 use Rattle.sbp_world.specs.Agents.Alike.{has_list, moves_data}
 use Rattle.sbp_world.specs.Lists.FedRuns.{main_read, own_reads}
+use Rattle.sbp_world.specs.Lists.OwnSince.{AllAwaited, IsAwaited}
 use Rattle.sbp_world.proofs.Lists.FedGoing.{IsNoGot, same_reads}
 use Rattle.sbp_world.proofs.Lists.FedSteps.{Feeding, Hears, IsFed, Tabling, none_awaits}
 use Rattle.sbp_world.proofs.Lists.ManageTerms.{untrue}
 use Rattle.sbp_world.proofs.Lists.OrbReading.{ahead_more}
-use Rattle.sbp_world.proofs.Lists.OrbSteps.{ReadAheadOf, has_read, holds_read}
+use Rattle.sbp_world.proofs.Lists.OrbSteps.{ReadAheadOf, has_read}
 
 -- ---- a response brought an ORB
 -- `Known` of it, as it was got
@@ -32,7 +32,23 @@ module _ (start : List Disk) (Known : ℕ → ℕ → CommandOrb → ℕ → Lis
     pub is : later ++ said (notes.Got response) ∷ earlier ≡ past
     pub known : Known place at orb response earlier
 
-  -- and its agent turned to it, and its reads brought these since
+  pub read_on : (m : Moment) (past : List Moment) (place at : ℕ) (orb : CommandOrb) → ReadBy past place at orb → ReadBy (m ∷ past) place at orb
+  read_on m past place at orb r = record { response = r.response; earlier = r.earlier; later = m ∷ r.later; is = ap (λ ms. m ∷ ms) r.is; known = r.known }
+
+-- ---- the agent of a place waits for an answer of the initiator that has the place
+abbrev pub Awaits : List Disk → (ℕ → ℕ) → List Moment → ℕ → Type 0
+Awaits start owner past place = place < 8 → IsAwaited start past (owner place) place
+
+same_awaited : (start : List Disk) (m : Moment) → IsNoGot m → (i place : ℕ) (later before : List Moment) → AllAwaited start i place later before → AllAwaited start i place (m ∷ later) before
+same_awaited start (asked line event) n i place later before a = a
+same_awaited start (said note) n i place later before a = by note n
+  where
+    by : (note : Note) → IsNoGot (said note) → AllAwaited start i place (said note ∷ later) before
+    by (notes.Got serial) n = absurd n
+    by note n = a
+
+module _ (start : List Disk) (Known : ℕ → ℕ → CommandOrb → ℕ → List Moment → Type 0) (owner : ℕ → ℕ) where
+  -- the agent turned to an ORB that a response brought, and its reads brought these since; and it waited so as each packet was got
   pub record TurnedBy (past : List Moment) (place at : ℕ) (orb : CommandOrb) (reads : List Moved) : Type 0 where
     pub response : ℕ
     pub earlier : List Moment
@@ -41,12 +57,10 @@ module _ (start : List Disk) (Known : ℕ → ℕ → CommandOrb → ℕ → Lis
     pub is : later ++ (between ++ said (notes.Got response) ∷ earlier) ≡ past
     pub reads_are : reads ≡ own_reads start place later (between ++ said (notes.Got response) ∷ earlier)
     pub known : Known place at orb response earlier
+    pub awaited : place < 8 → AllAwaited start (owner place) place later (between ++ said (notes.Got response) ∷ earlier)
 
-  pub turns_by : (past : List Moment) (place at : ℕ) (orb : CommandOrb) → ReadBy past place at orb → TurnedBy past place at orb []
-  turns_by past place at orb r = record { response = r.response; earlier = r.earlier; later = []; between = r.later; is = r.is; reads_are = refl; known = r.known }
-
-  pub read_on : (m : Moment) (past : List Moment) (place at : ℕ) (orb : CommandOrb) → ReadBy past place at orb → ReadBy (m ∷ past) place at orb
-  read_on m past place at orb r = record { response = r.response; earlier = r.earlier; later = m ∷ r.later; is = ap (λ ms. m ∷ ms) r.is; known = r.known }
+  pub turns_by : (past : List Moment) (place at : ℕ) (orb : CommandOrb) → ReadBy start Known past place at orb → TurnedBy past place at orb []
+  turns_by past place at orb r = record { response = r.response; earlier = r.earlier; later = []; between = r.later; is = r.is; reads_are = refl; known = r.known; awaited = λ small. tt }
 
   pub turned_on : (m : Moment) → IsNoGot m → (past : List Moment) (place at : ℕ) (orb : CommandOrb) (reads : List Moved) → TurnedBy past place at orb reads → TurnedBy (m ∷ past) place at orb reads
   turned_on m n past place at orb reads t = record {
@@ -57,10 +71,11 @@ module _ (start : List Disk) (Known : ℕ → ℕ → CommandOrb → ℕ → Lis
     is = ap (λ ms. m ∷ ms) t.is;
     reads_are = t.reads_are ∙ sym (same_reads start m n place t.later _);
     known = t.known;
+    awaited = λ small. same_awaited start m n (owner place) place t.later _ (t.awaited small);
   }
 
-  pub turned_by_got : (serial : ℕ) (past : List Moment) (place at : ℕ) (orb : CommandOrb) (reads more : List Moved) → main_read start past place serial ≡ more → TurnedBy past place at orb reads → TurnedBy (said (notes.Got serial) ∷ past) place at orb (reads ++ more)
-  turned_by_got serial past place at orb reads more e t =
+  pub turned_by_got : (serial : ℕ) (past : List Moment) (place at : ℕ) (orb : CommandOrb) (reads more : List Moved) → Awaits start owner past place → main_read start past place serial ≡ more → TurnedBy past place at orb reads → TurnedBy (said (notes.Got serial) ∷ past) place at orb (reads ++ more)
+  turned_by_got serial past place at orb reads more waits e t =
       let m = said (notes.Got serial) in
       record {
         response = t.response;
@@ -70,25 +85,8 @@ module _ (start : List Disk) (Known : ℕ → ℕ → CommandOrb → ℕ → Lis
         is = ap (λ ms. m ∷ ms) t.is;
         reads_are = ap (λ xs. xs ++ more) t.reads_are ∙ ap (λ xs. own_reads start place t.later (t.between ++ said (notes.Got t.response) ∷ t.earlier) ++ xs) (sym e ∙ ap (λ ms. main_read start ms place serial) (sym t.is));
         known = t.known;
+        awaited = λ small. (subst (λ ms. IsAwaited start ms (owner place) place) (sym t.is) (waits small), t.awaited small);
       }
-
--- ---- what is known of it, otherwise
-module _ (R S : ℕ → CommandOrb → Type 0) (T U : ℕ → CommandOrb → List Moved → Type 0) (m : Machine) (main : holds_read m.phase ≡ true → (reads : List Moved) → T m.present m.orb reads → U m.present m.orb reads) (ahead : (orb : CommandOrb) → m.ahead ≡ aheads.Kept orb → (offset : ℕ) → m.orb.next ≡ At offset → R (aligned offset) orb → S (aligned offset) orb) where
-  ahead_so : (a : ReadAhead) → m.ahead ≡ a → ReadAheadOf R m.orb.next a → ReadAheadOf S m.orb.next a
-  ahead_so aheads.Idle e r = tt
-  ahead_so (aheads.UnderWay rung) e r = record { offset = r.offset; is = r.is }
-  ahead_so (aheads.Kept orb) e r = record { offset = r.offset; is = r.is; read = ahead orb e r.offset r.is r.read }
-
-  pub fed_so : IsFed R T m → IsFed S U m
-  fed_so h = record {
-    main = record {
-      fetching = h.main.fetching;
-      tabling = λ e. let d = h.main.tabling e in record { turned = main (ap holds_read e) [] d.turned; empty = d.empty; reads = d.reads };
-      filling = λ wanted e. let d = h.main.filling wanted e in record { tables = d.tables; pieces = d.pieces; turned = main (ap holds_read e) (d.tables ++ d.pieces) d.turned; table = d.table; bytes = d.bytes; turn = d.turn };
-    };
-    ahead = ahead_so m.ahead refl h.ahead;
-    idle = h.idle;
-  }
 
 -- ---- agents that are alike
 module _ (R : ℕ → CommandOrb → Type 0) (T : ℕ → CommandOrb → List Moved → Type 0) (a m : Machine) (phase : a.phase ≡ m.phase) (present : a.present ≡ m.present) (orb : a.orb ≡ m.orb) (payload : a.payload ≡ m.payload) (segments : moves_data m.phase ≡ true → a.segments ≡ m.segments) (ahead : a.ahead ≡ m.ahead) where

@@ -1,7 +1,10 @@
 -- What is known of the response that brought an ORB which an agent has: it is the one prepared last in its slot still; so it is as a turn begins, and of what a packet brings in it.
-use Rattle.std.proofs.Common.{arith, ◌≡◌, ◌∙◌, refl, sym, ap, subst, ◌<◌, ◌≤◌, ℕ, suc, nat_lt, Bool, true, false, List, ◌∷◌, ◌++◌, Option, Some}
+use Rattle.std.proofs.Common.{arith, ◌≡◌, ◌∙◌, refl, sym, ap, subst, ◌<◌, ◌≤◌, ℕ, suc, nat_lt, is_some, Bool, true, false, List, ◌∷◌, ◌++◌, Option, Some, None}
 use Rattle.std.proofs.lemmas.Bool.Decides.{nat_tests}
-use Rattle.command_agent.specs.Machine.{Machine, aligned}
+use Rattle.command_agent.specs.declared.phase.Phase.{Phase}
+use Rattle.command_agent.specs.declared.phase.Phase.TheVariants as phases
+use Rattle.command_agent.specs.declared.step.Which.TheVariants.{Main}
+use Rattle.command_agent.specs.Machine.{Machine, aligned, is_sent}
 use Rattle.orb_layout.specs.declared.command.CommandOrb.{CommandOrb}
 use Rattle.rbc_disk.specs.Disk.{Disk}
 use Rattle.sbp_journal.specs.Run.{Moment, said}
@@ -13,20 +16,29 @@ use Rattle.sbp_laws.specs.Lists.{orb as named_orb, prepared_in}
 use Rattle.sbp_laws.specs.Packets.{receiver_in}
 use Rattle.sbp_laws.specs.Targets.{Target, agent_at, over, target_at}
 use Rattle.sbp_laws.specs.Turns.{EachMoment}
+use Rattle.sbp_target.specs.Nodes.{desk_at}
+use Rattle.sbp_target.proofs.Histories.Calling.{not_eight}
+use Rattle.sbp_target.proofs.Histories.Following.{Fits}
 use Rattle.sbp_world.specs.Worlds.{WorldState}
 use Rattle.sbp_world.specs.Agents.Alike.{has_list, moves_data}
 use Rattle.sbp_world.specs.Agents.AskedRuns.{serial_of}
+use Rattle.sbp_world.specs.Agents.Crews.{IsOf}
+use Rattle.sbp_world.proofs.Agents.Purposes.{g}
 use Rattle.sbp_world.proofs.Agents.Management.Holding.{Holding}
 use Rattle.sbp_world.proofs.Agents.Management.Still.{hist}
 use Rattle.sbp_world.specs.Lists.Needs.{initiator_in, is_open_at, machine_at}
 use Rattle.sbp_world.specs.Lists.OrbNames.{IsJustBrought, IsStillBrought}
+use Rattle.sbp_world.specs.Lists.OwnSince.{AllAwaited, IsAwaited}
 use Rattle.sbp_world.proofs.Lists.FedFolds as folds
 use Rattle.sbp_world.proofs.Lists.FedFolds.{over_still}
 use Rattle.sbp_world.proofs.Lists.FedReads as reads
 use Rattle.sbp_world.proofs.Lists.FedReads.{IsTurned, feeding}
 use Rattle.sbp_world.proofs.Lists.FedSteps.{IsFed}
-use Rattle.sbp_world.proofs.Lists.FedStill.{ReadBy, TurnedBy, closed_feeds, fed_alike, fed_so}
+use Rattle.sbp_world.proofs.Lists.FedGoing.{fed_so}
+use Rattle.sbp_world.proofs.Lists.FedStill.{Awaits, ReadBy, TurnedBy, closed_feeds, fed_alike}
+use Rattle.sbp_world.proofs.Lists.ManageTerms.{untrue}
 use Rattle.sbp_world.proofs.Lists.OrbNotes.{GotBrings}
+use Rattle.sbp_world.proofs.Lists.OrbSteps.{holds_read}
 use Rattle.sbp_world.proofs.Lists.Sites.{Site, waiting}
 use Rattle.sbp_world.proofs.Lists.StillReads.{IsHad, named_over, still_had}
 use Rattle.sbp_world.specs.Lists.OrbReads.{AskedAsGot, IsBrought}
@@ -46,7 +58,7 @@ pub record KnownHad (start : List Disk) (now before : List Moment) (w : WorldSta
 
 -- of each agent that has a list open
 abbrev pub FedStill : List Disk → List Moment → WorldState → ℕ → Machine → Type 0
-FedStill start past w place m = IsFed (ReadBy start (KnownStill start past w) past place) (TurnedBy start (KnownStill start past w) past place) m
+FedStill start past w place m = IsFed (ReadBy start (KnownStill start past w) past place) (TurnedBy start (KnownStill start past w) (initiator_in w) past place) m
 
 abbrev pub AreFedStill : List Disk → List Moment → WorldState → Type 0
 AreFedStill start past w = (place : ℕ) → place < 8 → is_open_at w place ≡ true → FedStill start past w place (machine_at w place)
@@ -56,9 +68,23 @@ module _ (start : List Disk) (past : List Moment) (place : ℕ) (J K : ℕ → �
   pub read_known : (at : ℕ) (orb : CommandOrb) → ((response : ℕ) (earlier : List Moment) → J place at orb response earlier → K place at orb response earlier) → ReadBy start J past place at orb → ReadBy start K past place at orb
   read_known at orb f r = record { response = r.response; earlier = r.earlier; later = r.later; is = r.is; known = f r.response r.earlier r.known }
 
-  pub turned_known : (at : ℕ) (orb : CommandOrb) (reads : List Moved) → ((response : ℕ) (earlier : List Moment) → J place at orb response earlier → K place at orb response earlier) → TurnedBy start J past place at orb reads → TurnedBy start K past place at orb reads
-  turned_known at orb reads f t =
-      record { response = t.response; earlier = t.earlier; later = t.later; between = t.between; is = t.is; reads_are = t.reads_are; known = f t.response t.earlier t.known }
+  pub turned_known : (owner owner_now : ℕ → ℕ) → owner place ≡ owner_now place → (at : ℕ) (orb : CommandOrb) (reads : List Moved) → ((response : ℕ) (earlier : List Moment) → J place at orb response earlier → K place at orb response earlier) → TurnedBy start J owner past place at orb reads → TurnedBy start K owner_now past place at orb reads
+  turned_known owner owner_now same at orb reads known t = record {
+    response = t.response;
+    earlier = t.earlier;
+    later = t.later;
+    between = t.between;
+    is = t.is;
+    reads_are = t.reads_are;
+    known = known t.response t.earlier t.known;
+    awaited = λ small. subst (λ i. AllAwaited start i place t.later (t.between ++ said (notes.Got t.response) ∷ t.earlier)) same (t.awaited small);
+  }
+
+holds_sent : (phase : Phase) → holds_read phase ≡ true → is_sent phase ≡ true
+holds_sent phases.ReadingTable e = refl
+holds_sent (phases.ReadingData wanted) e = refl
+holds_sent phases.Answering e = refl
+holds_sent _ e = untrue e
 
 -- ---- as a turn begins, and what a packet brings in it
 module _ (units ready : ℕ) (has : 0 < units) (start : List Disk) {past : List Moment} {lines : ℕ} (w : WorldState) (h : Holding units ready start past lines w) (site : Site start past w) (asked_so : EachMoment (AskedAsGot start) (hist past w)) (fed : AreFedStill start (hist past w) w) (now : List Moment) (back : List Moment) (behind : back ++ hist past w ≡ now) where
@@ -75,7 +101,7 @@ module _ (units ready : ℕ) (has : 0 < units) (start : List Disk) {past : List 
   R ms p at orb = ReadBy start K ms p at orb
 
   abbrev pub U : List Moment → ℕ → ℕ → CommandOrb → List Moved → Type 0
-  U ms p at orb reads = TurnedBy start K ms p at orb reads
+  U ms p at orb reads = TurnedBy start K (initiator_in w) ms p at orb reads
 
   abbrev pub Fed : List Moment → ℕ → Machine → Type 0
   Fed ms p m = IsFed (R ms p) (U ms p) m
@@ -92,8 +118,8 @@ module _ (units ready : ℕ) (has : 0 < units) (start : List Disk) {past : List 
       let a = (agent_at T p).machine in
       let m = machine_at w p in
       let alike = (site.agents.are.each p b).machine in
-      let here = fed_so (ReadBy start (KnownStill start before w) before p) (R before p) (TurnedBy start (KnownStill start before w) before p) (U before p) m
-      (λ holds reads. turned_known start before p (KnownStill start before w) K m.present m.orb reads (had_before p m.present m.orb))
+      let here = fed_so (ReadBy start (KnownStill start before w) before p) (R before p) (TurnedBy start (KnownStill start before w) (initiator_in w) before p) (U before p) m
+      (λ holds reads. turned_known start before p (KnownStill start before w) K (initiator_in w) (initiator_in w) refl m.present m.orb reads (had_before p m.present m.orb))
       (λ orb kept offset next. read_known start before p (KnownStill start before w) K (aligned offset) orb (had_before p (aligned offset) orb)) (fed p b e) in
       fed_alike (R before p) (U before p) m a (sym alike.phase) (sym (alike.present e)) (sym (alike.orb e)) (sym (alike.payload e)) (λ f. sym (alike.segments (ap moves_data (sym alike.phase) ∙ f))) (sym (alike.ahead e)) here
   by_list p b false e =
@@ -104,7 +130,7 @@ module _ (units ready : ℕ) (has : 0 < units) (start : List Disk) {past : List 
 
   far_turned : (p : ℕ) → 8 ≤ p → (at : ℕ) (orb : CommandOrb) (reads : List Moved) → IsTurned start before p at orb reads → U before p at orb reads
   far_turned p far at orb reads t =
-      record { response = t.brought.response; earlier = t.brought.earlier; later = t.later; between = t.between; is = t.is; reads_are = t.reads_are; known = λ small. absurd (omega (arith, far, small)) }
+      record { response = t.brought.response; earlier = t.brought.earlier; later = t.later; between = t.between; is = t.is; reads_are = t.reads_are; known = λ small. absurd (omega (arith, far, small)); awaited = λ small. absurd (omega (arith, far, small)) }
 
   by_place : (p : ℕ) (x : Bool) → nat_lt p 8 ≡ x → Fed before p (agent_at T p).machine
   by_place p true e = by_list p (grind (arith, nat_tests)) (has_list (machine_at w p).phase) refl
@@ -116,6 +142,30 @@ module _ (units ready : ℕ) (has : 0 < units) (start : List Disk) {past : List 
 
   pub fed_before : folds.AreStill (Fed before) T
   fed_before = record { agents = λ p. by_place p (nat_lt p 8) refl; none = all_before.none }
+
+  -- ---- what its agents wait for
+  by_main : (p : ℕ) → p < 8 → (main : Option ℕ) → (agent_at T p).main ≡ main → is_some main ≡ true → IsAwaited start before (initiator_in w p) p
+  by_main p b None e f = untrue f
+  by_main p b (Some mine) e f = record { side = Main; mine = mine; waits = e; to = (waiting units ready has start w h site p b Main mine e).to }
+
+  pub awaits_before : (p : ℕ) → holds_read (agent_at T p).machine.phase ≡ true → Awaits start (initiator_in w) before p
+  awaits_before p holds b =
+      let a = agent_at T p in
+      let d = desk_at w.target p in
+      let is : IsOf site.agents.requests a d = site.agents.are.each p b in
+      let fits : Fits d = (g units ready has start w h).mid.fits p b (not_eight p b) in
+      by_main p b a.main refl (is.main ∙ fits.main ∙ holds_sent d.agent.phase (ap holds_read (sym is.machine.phase) ∙ holds))
+
+  -- and so they do as a line begins
+  pub awaits_in : (ms : List Moment) → over (target_at start ms) ≡ T → (terms ms).sent ≡ (terms before).sent → (p : ℕ) → holds_read (agent_at (over (target_at start ms)) p).machine.phase ≡ true → Awaits start (initiator_in w) ms p
+  awaits_in ms same sent p holds b =
+      let x = awaits_before p (ap (λ (t : Target). holds_read (agent_at t p).machine.phase) (sym same) ∙ holds) b in
+      record {
+        side = x.side;
+        mine = x.mine;
+        waits = ap (λ (t : Target). serial_of x.side (agent_at t p)) same ∙ x.waits;
+        to = ap (λ (f : ℕ → Option Sending). receiver_in (f x.mine)) sent ∙ x.to;
+      }
 
   -- ---- what a packet brings
   module _ (ms : List Moment) (same : over (target_at start ms) ≡ T) (sent : (terms ms).sent ≡ (terms before).sent) (there : (i slot : ℕ) → prepared_in ms i slot ≡ prepared_in before i slot) (serial : ℕ) (front : List Moment) (is : front ++ said (notes.Got serial) ∷ ms ≡ now) where

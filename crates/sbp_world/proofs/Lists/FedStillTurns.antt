@@ -34,13 +34,13 @@ use Rattle.sbp_world.specs.Lists.OwnLogins.{IsTame}
 use Rattle.sbp_world.proofs.Lists.Adds.{Stays}
 use Rattle.sbp_world.proofs.Lists.Courses.{Goes, by_delivery, by_end, by_line, by_start}
 use Rattle.sbp_world.proofs.Lists.FedGoing as going
-use Rattle.sbp_world.proofs.Lists.FedGoing.{IsNoGot}
+use Rattle.sbp_world.proofs.Lists.FedGoing.{IsNoGot, fed_so}
 use Rattle.sbp_bus.specs.Packets.{end_note}
 use Rattle.sbp_world.specs.Hosts.Runs.{more_deliveries}
 use Rattle.sbp_world.proofs.Lists.Judging.{goes_next, grown as grown_by}
 use Rattle.sbp_world.proofs.Lists.LiveRuns.{goes_size, goes_tame}
 use Rattle.sbp_world.proofs.Lists.FedSteps.{IsFed}
-use Rattle.sbp_world.proofs.Lists.FedStill.{ReadBy, TurnedBy, fed_alike, fed_so, read_on, turned_by_got, turned_on, turns_by}
+use Rattle.sbp_world.proofs.Lists.FedStill.{Awaits, ReadBy, TurnedBy, fed_alike, read_on, turned_by_got, turned_on, turns_by}
 use Rattle.sbp_world.proofs.Lists.LedRuns.{got_just}
 use Rattle.sbp_world.proofs.Lists.Lines.{acts}
 use Rattle.sbp_world.proofs.Lists.ManageSends.{opened_terms}
@@ -54,7 +54,7 @@ use Rattle.sbp_world.proofs.Lists.StillTurns.{Ground, none_acts, none_prepared, 
 use Rattle.sbp_world.proofs.Lists.TurnReads.{Course, delivery_course, line_course}
 use Rattle.sbp_world.proofs.Lists.Turned.{IsOne}
 use Rattle.sbp_world.proofs.Lists.WasReads.{each_at}
-use Rattle.sbp_world.proofs.Lists.FedStillReads.{AreFedStill, FedStill, KnownHad, KnownStill, fed_before, got_read, read_known, turned_known}
+use Rattle.sbp_world.proofs.Lists.FedStillReads.{AreFedStill, FedStill, KnownHad, KnownStill, awaits_before, awaits_in, fed_before, got_read, read_known, turned_known}
 
 -- ---- a turn
 module _ (units ready : ℕ) (has : 0 < units) (start : List Disk) (past : List Moment) (s : Scene) (later : List Moment) (t : Scene) {lines more : ℕ} (h : Holding units ready start past lines s.world) (h_now : Holding units ready start later more t.world) (q : Ground start (hist past s.world) s.world) (q_now : Ground start (hist later t.world) t.world) (tame : IsTame (hist past s.world)) (tame_now : IsTame (hist later t.world)) (owns : Owns s.world t.world) (count : length t.world.initiators ≡ length s.world.initiators) (have : AreStill start (hist past s.world) s.world) (fed : AreFedStill start (hist past s.world) s.world) (back : List Moment) (behind : back ++ hist past s.world ≡ hist later t.world) where
@@ -92,7 +92,7 @@ module _ (units ready : ℕ) (has : 0 < units) (start : List Disk) (past : List 
   R ms p at orb = ReadBy start K ms p at orb
 
   abbrev U : List Moment → ℕ → ℕ → CommandOrb → List Moved → Type 0
-  U ms p at orb reads = TurnedBy start K ms p at orb reads
+  U ms p at orb reads = TurnedBy start K (initiator_in w) ms p at orb reads
 
   abbrev Fed : List Moment → ℕ → Machine → Type 0
   Fed ms p m = IsFed (R ms p) (U ms p) m
@@ -100,8 +100,11 @@ module _ (units ready : ℕ) (has : 0 < units) (start : List Disk) (past : List 
   led_then : (serial : ℕ) (front ms : List Moment) → front ++ said (notes.Got serial) ∷ ms ≡ now → AreLed start ms
   led_then serial front ms is = each_at (LedAsGot start) front (said (notes.Got serial)) ms (subst (EachMoment (LedAsGot start)) (sym is) (q_now.led_so tame_now))
 
+  abbrev Waits : List Moment → ℕ → Type 0
+  Waits = Awaits start (initiator_in w)
+
   abbrev Gets : List Moment → Type 0
-  Gets ms = going.Gets start R U (turns_by start K) (read_on start K) (turned_on start K) (turned_by_got start K) now ms
+  Gets ms = going.Gets start R U Waits (turns_by start K (initiator_in w)) (read_on start K) (turned_on start K (initiator_in w)) (turned_by_got start K (initiator_in w)) now ms
 
   gets : Gets before
   gets serial front is a e = got_read units ready has start w h site q.asked_so fed now back behind before refl refl (λ i slot. refl) serial front is (got_just start before serial a (led_then serial front before is) e)
@@ -113,7 +116,9 @@ module _ (units ready : ℕ) (has : 0 < units) (start : List Disk) (past : List 
   -- ---- behind it
   fed_now : Course before now → (p : ℕ) (b : p < 8) → is_open_at v p ≡ true → Fed now p (machine_at v p)
   fed_now course p b e =
-      let all = going.fed_over start R U (turns_by start K) (read_on start K) (turned_on start K) (turned_by_got start K) now before course q_now.asked_so gets gets_line (fed_before units ready has start w h site q.asked_so fed now back behind) in
+      let all = going.fed_over start R U Waits (turns_by start K (initiator_in w)) (read_on start K) (turned_on start K (initiator_in w)) (turned_by_got start K (initiator_in w)) now before course q_now.asked_so gets gets_line
+      (awaits_before units ready has start w h site q.asked_so fed now back behind)
+      (λ line event. awaits_in units ready has start w h site q.asked_so fed now back behind (asked line event ∷ before) (over_twice (target_at start before)) (opened_terms event (terms before)).sent) (fed_before units ready has start w h site q.asked_so fed now back behind) in
       let alike = (site_now.agents.are.each p b).machine in
       fed_alike (R now p) (U now p) (agent_at (over (target_at start now)) p).machine (machine_at v p) alike.phase (alike.present e) (alike.orb e) (alike.payload e) alike.segments (alike.ahead e) (all.agents p)
 
@@ -126,8 +131,8 @@ module _ (units ready : ℕ) (has : 0 < units) (start : List Disk) (past : List 
   still_by : Course before now → ((p : ℕ) (b : p < 8) (e : is_open_at v p ≡ true) → holds_read (machine_at v p).phase ≡ true → (x : IsHad start now before w p (machine_at v p).present (machine_at v p).orb) → prepared_in now x.named.i x.named.led.slot ≡ prepared_in before x.named.i x.named.led.slot) → ((p : ℕ) (b : p < 8) (e : is_open_at v p ≡ true) (orb : CommandOrb) → (machine_at v p).ahead ≡ aheads.Kept orb → (offset : ℕ) → (machine_at v p).orb.next ≡ At offset → (x : IsHad start now before w p (aligned offset) orb) → prepared_in now x.named.i x.named.led.slot ≡ prepared_in before x.named.i x.named.led.slot) → AreFedStill start now v
   still_by course main ahead p b e =
       let m = machine_at v p in
-      fed_so (R now p) (ReadBy start (KnownStill start now v) now p) (U now p) (TurnedBy start (KnownStill start now v) now p) m
-      (λ holds reads. turned_known start now p K (KnownStill start now v) m.present m.orb reads (known_now p b e m.present m.orb (main p b e holds)))
+      fed_so (R now p) (ReadBy start (KnownStill start now v) now p) (U now p) (TurnedBy start (KnownStill start now v) (initiator_in v) now p) m
+      (λ holds reads. turned_known start now p K (KnownStill start now v) (initiator_in w) (initiator_in v) (sym (owner p b e)) m.present m.orb reads (known_now p b e m.present m.orb (main p b e holds)))
       (λ orb kept offset next. read_known start now p K (KnownStill start now v) (aligned offset) orb (known_now p b e (aligned offset) orb (ahead p b e orb kept offset next)))
       (fed_now course p b e)
 
@@ -198,8 +203,8 @@ module _ (units ready : ℕ) (has : 0 < units) (start : List Disk) (past : List 
         let J = KnownStill start before w in
         let N = KnownStill start now v in
         subst (FedStill start now v p) (sym same)
-        (fed_so (ReadBy start J before p) (ReadBy start N now p) (TurnedBy start J before p) (TurnedBy start N now p) M
-        (λ holds reads x. subst (λ ms. TurnedBy start N ms p M.present M.orb reads) is (turned_known start (m ∷ before) p J N M.present M.orb reads (known_on p b e M.present M.orb) (turned_on start J m none before p M.present M.orb reads x)))
+        (fed_so (ReadBy start J before p) (ReadBy start N now p) (TurnedBy start J (initiator_in w) before p) (TurnedBy start N (initiator_in v) now p) M
+        (λ holds reads x. subst (λ ms. TurnedBy start N (initiator_in v) ms p M.present M.orb reads) is (turned_known start (m ∷ before) p J N (initiator_in w) (initiator_in v) (sym (owner p b e)) M.present M.orb reads (known_on p b e M.present M.orb) (turned_on start J (initiator_in w) m none before p M.present M.orb reads x)))
         (λ orb kept offset next x. subst (λ ms. ReadBy start N ms p (aligned offset) orb) is (read_known start (m ∷ before) p J N (aligned offset) orb (known_on p b e (aligned offset) orb) (read_on start J m before p (aligned offset) orb x)))
         (fed p b f))
 

@@ -11,7 +11,7 @@ use Rattle.sbp_laws.specs.Targets.{Purpose, Target, for_agent, for_manager, for_
 use Rattle.sbp_laws.specs.Turns.{EachMoment}
 use Rattle.sbp_world.specs.Lists.FedRuns.{AllElsewhere, AreOwnOrOthers, IsOwnOrOther, is_main_of, main_moved}
 use Rattle.sbp_world.specs.Lists.OwnGots.{AreOwnAsGot, OwnAsGot}
-use Rattle.sbp_world.specs.Lists.OwnSince.{AreAwaited, IsAwaited, IsElsewhereBut, OwnSinceLaw, by_purpose}
+use Rattle.sbp_world.specs.Lists.OwnSince.{AllAwaited, AllElsewhereBut, AreAwaited, IsAwaited, IsElsewhereBut, OwnSinceLaw, by_purpose}
 
 module _ (start : List Disk) (i place slot : ℕ) (small : place < 8) where
   module _ (past : List Moment) (serial : ℕ) (own : AreOwnAsGot start past serial) (a : IsAwaited start past i place) where
@@ -59,6 +59,17 @@ module _ (start : List Disk) (i place slot : ℕ) (small : place < 8) where
       by_note : (note : Note) → OwnAsGot start (said note) (later ++ before) → AreAwaited start i place slot (said note ∷ later) before → (AreAwaited start i place slot later before → AreOwnOrOthers start i place slot later before) → AreOwnOrOthers start i place slot (said note ∷ later) before
       by_note (notes.Got serial) g a more = (got_own (later ++ before) serial g a.0.0 a.0.1, more a.1)
       by_note note g a more = more a
+
+-- ---- what was awaited, and what answers no agent, of each packet
+module _ (start : List Disk) (i place slot : ℕ) where
+  pub each_awaited : (later before : List Moment) → AllAwaited start i place later before → AllElsewhereBut start i slot later before → AreAwaited start i place slot later before
+  each_awaited [] before a e = tt
+  each_awaited (asked line event ∷ later) before a e = each_awaited later before a e
+  each_awaited (said note ∷ later) before a e = by_note note a e (λ x y. each_awaited later before x y)
+    where
+      by_note : (note : Note) → AllAwaited start i place (said note ∷ later) before → AllElsewhereBut start i slot (said note ∷ later) before → (AllAwaited start i place later before → AllElsewhereBut start i slot later before → AreAwaited start i place slot later before) → AreAwaited start i place slot (said note ∷ later) before
+      by_note (notes.Got serial) a e more = ((a.0, e.0), more a.1 e.1)
+      by_note note a e more = more a e
 
 pub own_since_law : OwnSinceLaw
 own_since_law start i place slot small later before g a = since start i place slot small later before g a

@@ -1,5 +1,5 @@
 -- In every run in which no initiator injected packets the ORB of each run was read behind its append, by the response behind which its agent read its buffer and its data.
-use Rattle.std.proofs.Common.{inl, ◌≡◌, ◌∙◌, sym, ap, subst, IsSomeAnd, ℕ, Bool, false, List, [], ◌∷◌, ◌++◌, map, Some, None, Option}
+use Rattle.std.proofs.Common.{inl, ◌≡◌, ◌∙◌, sym, ap, subst, IsSomeAnd, ◌<◌, ℕ, Bool, false, List, [], ◌∷◌, ◌++◌, map, Some, None, Option}
 use Rattle.bus_transactions.specs.Judging.{AreJudged}
 use Rattle.rbc_disk.specs.Disk.{Disk}
 use Rattle.sbp_journal.specs.Run.{Moment, asked, said}
@@ -10,6 +10,8 @@ use Rattle.page_table.specs.Buffer.{bytes_of, chunks}
 use Rattle.sbp_laws.specs.CarriedBytes.{buffer_in, joined, orb_read, reads_since}
 use Rattle.sbp_laws.specs.Terms.{plan_of, request_at}
 use Rattle.sbp_laws.specs.Lawful.{injectors}
+use Rattle.sbp_laws.specs.CarriedLaw.{RunIsCarried}
+use Rattle.sbp_laws.specs.Lists.{slot_at}
 use Rattle.sbp_laws.specs.OrderLaw.{OrderLaw}
 use Rattle.sbp_laws.specs.Turns.{EachMoment}
 use Rattle.sbp_world.specs.Histories.{history_of}
@@ -19,9 +21,11 @@ use Rattle.sbp_world.specs.Worlds.{begun}
 use Rattle.sbp_world.specs.Hosts.Runs.{more_deliveries}
 use Rattle.sbp_world.specs.Lists.Closes.{OpenListsLaw}
 use Rattle.sbp_world.specs.Lists.FedNames.{RunIsNamedFed}
-use Rattle.sbp_world.specs.Lists.FedRuns.{RunIsFed}
+use Rattle.sbp_world.specs.Lists.FedRuns.{AreOthers, AreOwnOrOthers, RunIsFed}
 use Rattle.sbp_world.specs.Lists.OneUp.{OneUpLaw}
 use Rattle.sbp_world.specs.Lists.OrbReads.{SentAsGot}
+use Rattle.sbp_world.specs.Lists.OwnGots.{OwnAsGot}
+use Rattle.sbp_world.specs.Lists.OwnSince.{AllAwaited, AllElsewhereBut}
 use Rattle.sbp_world.specs.Lists.ReadFeeds.{ReadAndFedAt, ReadAndFedLaw, RunWasReadAndFed}
 use Rattle.sbp_world.proofs.Lists.Fair.{IsFair, fair_before, fair_of, told_everywhere}
 use Rattle.sbp_world.proofs.Lists.CarriedEnds.{run_read, run_read_by}
@@ -31,14 +35,14 @@ use Rattle.sbp_world.proofs.Lists.FedJoins.{run_since, since_fed}
 use Rattle.sbp_world.proofs.Lists.FedOnce.{judged_before, judged_everywhere}
 use Rattle.sbp_world.proofs.Lists.ListsProved.{closing}
 use Rattle.sbp_world.proofs.Lists.OpenGots.{OpenAsGot, open_as_got}
+use Rattle.sbp_world.proofs.Lists.OwnGots.{own_as_got}
+use Rattle.sbp_world.proofs.Lists.OwnSince.{each_awaited, own_since_law}
 use Rattle.sbp_world.proofs.Lists.RunLaws.{order_run_law}
 use Rattle.sbp_world.proofs.Lists.RunNames.{RunNamedAt}
-use Rattle.sbp_world.specs.Lists.OneUp.{OneUpLaw}
-use Rattle.sbp_world.proofs.Lists.OpenGots.{OpenAsGot, open_as_got}
 use Rattle.sbp_world.proofs.Lists.SentGots.{sent_as_got}
 
 module _ (given : Type 0) (so : given) (wild : ℕ → Bool) (calm : (i : ℕ) → wild i ≡ false) (start : List Disk) where
-  module _ (past : List Moment) (f : IsFair past) (j : AreJudged past) (sent : EachMoment (SentAsGot start) past) (opens : OpenAsGot start past) (law : OrderLaw wild past) where
+  module _ (past : List Moment) (f : IsFair past) (j : AreJudged past) (sent : EachMoment (SentAsGot start) past) (opens : OpenAsGot start past) (law : OrderLaw wild past) (gots : EachMoment (OwnAsGot start) past) where
     -- the buffer and the data by what was read since a response
     abbrev Since : (i n k : ℕ) → List ℕ → ℕ → Type 0
     Since i n k bytes r =
@@ -48,16 +52,31 @@ module _ (given : Type 0) (so : given) (wild : ℕ → Bool) (calm : (i : ℕ) �
     both i n k bytes e =
         let read = run_read given so wild calm start past f sent opens law i n k e.named in
         let since = run_since start past f j i n k bytes e.fed in
+        let place = since.fed.place in
+        let later = since.fed.later in
+        let before = since.fed.between ++ said (notes.Got since.fed.brought.response) ∷ since.fed.brought.earlier in
+        let slot = slot_at past i n k in
+        let same_fed : since.fed ≡ e.fed = since_fed start past f j i n k bytes e.fed in
         let same : since.fed.brought.response ≡ read.read.response =
-        ap (λ (x : RunIsFed start past i n k bytes). x.brought.response) (since_fed start past f j i n k bytes e.fed)
-        ∙ (e.response ∙ sym (run_read_by given so wild calm start past f sent opens law i n k e.named)) in
+        ap (λ (x : RunIsFed start past i n k bytes). x.brought.response) same_fed ∙ (e.response ∙ sym (run_read_by given so wild calm start past f sent opens law i n k e.named)) in
+        let small : place < 8 = subst (λ p. p < 8) (sym (ap (λ (x : RunIsFed start past i n k bytes). x.place) same_fed ∙ e.place)) e.named.small in
+        let awaited : AllAwaited start i place later before =
+        subst (λ (x : RunIsFed start past i n k bytes). AllAwaited start i x.place x.later (x.between ++ said (notes.Got x.brought.response) ∷ x.brought.earlier)) (sym same_fed) e.awaited in
+        let own : AllElsewhereBut start i slot later before → AreOwnOrOthers start i place slot later before =
+        λ b. own_since_law start i place slot small later before (subst (EachMoment (OwnAsGot start)) (sym since.fed.is) gots) (each_awaited start i place slot later before awaited b) in
+        let carried_own : AreOthers i slot since.fed.between (said (notes.Got since.fed.brought.response) ∷ since.fed.brought.earlier) → AreOwnOrOthers start i place slot later before → RunIsCarried start past i n k bytes =
+        λ o p.
+        let x = subst (Since i n k bytes) same (since.whole o p) in
+        record { read = read.read; not_dummy = read.not_dummy; as_appended = read.as_appended; size = x.0; payloads = x.1 } in
         record {
           read = read;
           since = since;
           response = same;
-          carried = λ o p.
-              let x = subst (Since i n k bytes) same (since.whole o p) in
-              record { read = read.read; not_dummy = read.not_dummy; as_appended = read.as_appended; size = x.0; payloads = x.1 };
+          small = small;
+          awaited = awaited;
+          own = own;
+          carried = λ o b. carried_own o (own b);
+          carried_own = carried_own;
         }
 
     by_names : (i : ℕ) (list number : Option ℕ) (unit : ℕ) (cdb bytes : List ℕ) (check : _) → RunNamedAt given wild start (said (notes.Ran i list number unit cdb bytes check)) past → ReadAndFedAt start (said (notes.Ran i list number unit cdb bytes check)) past
@@ -73,12 +92,12 @@ module _ (given : Type 0) (so : given) (wild : ℕ → Bool) (calm : (i : ℕ) �
     by_moment (asked line event) e = tt
     by_moment (said note) e = by_note note e
 
-  all_both : (past : List Moment) → IsFair past → AreJudged past → EachMoment (SentAsGot start) past → OpenAsGot start past → OrderLaw wild past → EachMoment (RunNamedAt given wild start) past → EachMoment (ReadAndFedAt start) past
-  all_both [] f j sent opens law e = tt
-  all_both (m ∷ past) f j sent opens law e =
+  all_both : (past : List Moment) → IsFair past → AreJudged past → EachMoment (SentAsGot start) past → OpenAsGot start past → OrderLaw wild past → EachMoment (OwnAsGot start) past → EachMoment (RunNamedAt given wild start) past → EachMoment (ReadAndFedAt start) past
+  all_both [] f j sent opens law gots e = tt
+  all_both (m ∷ past) f j sent opens law gots e =
       let g = fair_before m past f in
       let q = judged_before m past j in
-      (by_moment past g q sent.1 opens.1 law.1 m e.0, all_both past g q sent.1 opens.1 law.1 e.1)
+      (by_moment past g q sent.1 opens.1 law.1 gots.1 m e.0, all_both past g q sent.1 opens.1 law.1 gots.1 e.1)
 
 pub read_and_fed_law : OpenListsLaw → OneUpLaw → ReadAndFedLaw
 read_and_fed_law lists up = record {
@@ -86,10 +105,10 @@ read_and_fed_law lists up = record {
       let so_far = closing.before lists line run r has small size (inl tame) in
       let past = history_of line run in
       all_both (Tamely (injectors past)) (lists, λ i. tame i) (injectors past) (λ i. tame i) run.start.disks past (fair_of past (told_everywhere.after_lines line run r has small size so_far) tame)
-      (judged_everywhere.after_lines line run r has small size so_far) ((sent_as_got lists).after_lines line run r has small size so_far tame) ((open_as_got lists up).after_lines line run r has small size so_far tame) (order_run_law.after_lines line run r has small size so_far) (runs_named.after_lines line run r has small size so_far);
+      (judged_everywhere.after_lines line run r has small size so_far) ((sent_as_got lists).after_lines line run r has small size so_far tame) ((open_as_got lists up).after_lines line run r has small size so_far tame) (order_run_law.after_lines line run r has small size so_far) ((own_as_got lists).after_lines line run r has small size so_far tame) (runs_named.after_lines line run r has small size so_far);
   between = λ line run r has small size next most told m tame.
       let now = map said (after_all told (begun (after (beginning run) run.entries))).world.fresh ++ asked next (more_deliveries most) ∷ history_of line run in
       let so_far = closing.between lists line run r has small size next (more_deliveries most) (more_than_one most) told m (inl tame) in
       all_both (Tamely (injectors now)) (lists, λ i. tame i) (injectors now) (λ i. tame i) run.start.disks now (fair_of now (told_everywhere.between line run r has small size next most told m so_far) tame)
-      (judged_everywhere.between line run r has small size next most told m so_far) ((sent_as_got lists).between line run r has small size next most told m so_far tame) ((open_as_got lists up).between line run r has small size next most told m so_far tame) (order_run_law.between line run r has small size next (more_deliveries most) (more_than_one most) told m so_far) (runs_named.between line run r has small size next most told m so_far);
+      (judged_everywhere.between line run r has small size next most told m so_far) ((sent_as_got lists).between line run r has small size next most told m so_far tame) ((open_as_got lists up).between line run r has small size next most told m so_far tame) (order_run_law.between line run r has small size next (more_deliveries most) (more_than_one most) told m so_far) ((own_as_got lists).between line run r has small size next most told m so_far tame) (runs_named.between line run r has small size next most told m so_far);
 }

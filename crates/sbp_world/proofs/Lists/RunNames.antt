@@ -16,14 +16,15 @@ use Rattle.sbp_world.specs.Telling.{holder}
 use Rattle.sbp_world.specs.Worlds.{Scene, WorldState}
 use Rattle.sbp_world.proofs.Agents.Management.Still.{hist}
 use Rattle.agent_laws.specs.Along.Steps.{heard_by}
-use Rattle.sbp_world.specs.Lists.Needs.{IsNamed, IsOpenAt, is_open_at}
+use Rattle.sbp_world.specs.Lists.Needs.{IsNamed, IsOpenAt, initiator_in, is_open_at}
 use Rattle.sbp_world.specs.Lists.OrbNames.{RunIsNamed}
 use Rattle.command_agent.specs.declared.step.Which.{Which}
 use Rattle.sbp_laws.specs.CarriedBytes.{Moved}
 use Rattle.sbp_world.specs.Lists.FedNames.{RunIsNamedFed}
 use Rattle.sbp_world.specs.Lists.FedRuns.{RunIsFed, own_reads}
+use Rattle.sbp_world.specs.Lists.OwnSince.{AllAwaited}
 use Rattle.sbp_world.proofs.Lists.FedReads.{IsTurned}
-use Rattle.sbp_world.proofs.Lists.FedRuns.{run_fed, turned, which_is}
+use Rattle.sbp_world.proofs.Lists.FedRuns.{reads as reads_of, run_fed, turned, which_is}
 use Rattle.sbp_world.proofs.Lists.FedSteps.{Hears}
 use Rattle.sbp_world.proofs.Lists.FedStill.{ReadBy, TurnedBy, turns_by}
 use Rattle.sbp_world.proofs.Lists.FedStillReads.{KnownHad}
@@ -80,11 +81,11 @@ module _ (given : Type 0) (wild : ℕ → Bool) (start : List Disk) (past : List
     abbrev J : ℕ → ℕ → CommandOrb → ℕ → List Moment → Type 0
     J = KnownHad start now ms w
 
-    hears : Hears (ReadBy start J now p) (TurnedBy start J now p) (turns_by start J now p) m (answer_in r.by.packet)
+    hears : Hears (ReadBy start J now p) (TurnedBy start J (initiator_in w) now p) (turns_by start J (initiator_in w) now p) m (answer_in r.by.packet)
     hears =
         known.fed.hears serial r.sent r.found r.to r.by.packet r.by.label p r.by.found (r.by.is_which ∙ ap (λ (x : Which). Some x) (which_is wild start past s set run ran serial r)) small (set.ready.calm i own) open_there
 
-    abbrev of_turned : (at : ℕ) (orb : CommandOrb) (reads : List Moved) → TurnedBy start J now p at orb reads → IsTurned start now p at orb reads
+    abbrev of_turned : (at : ℕ) (orb : CommandOrb) (reads : List Moved) → TurnedBy start J (initiator_in w) now p at orb reads → IsTurned start now p at orb reads
     of_turned at orb reads t =
         let b = t.known.had.named.brought in
         record {
@@ -96,6 +97,12 @@ module _ (given : Type 0) (wild : ℕ → Bool) (start : List Disk) (past : List
               t.reads_are
               ∙ sym (ap (λ x. own_reads start p t.later (t.between ++ said (notes.Got x) ∷ b.earlier)) t.known.response_is ∙ ap (λ xs. own_reads start p t.later (t.between ++ said (notes.Got t.response) ∷ xs)) t.known.earlier_is);
         }
+
+    -- and it waited as each packet was got
+    awaited_turned : (at : ℕ) (orb : CommandOrb) (reads : List Moved) (t : TurnedBy start J (initiator_in w) now p at orb reads) → AllAwaited start i p t.later (t.between ++ said (notes.Got t.known.had.named.brought.response) ∷ t.known.had.named.brought.earlier)
+    awaited_turned at orb reads t =
+        subst (λ x. AllAwaited start i p t.later (t.between ++ said (notes.Got x) ∷ t.known.had.named.brought.earlier)) (sym t.known.response_is)
+        (subst (λ xs. AllAwaited start i p t.later (t.between ++ said (notes.Got t.response) ∷ xs)) (sym t.known.earlier_is) (t.awaited small))
 
     abbrev o : IsOpenAt ms w p
     o = opened wild start past s set run ran serial r own
@@ -119,10 +126,16 @@ module _ (given : Type 0) (wild : ℕ → Bool) (start : List Disk) (past : List
       orb = stepped.1.orb
 
       abbrev fed : RunIsFed start now i n k r.payload
-      fed = run_fed wild start past s set run ran serial r own (ReadBy start J now p) (TurnedBy start J now p) (turns_by start J now p) of_turned hears n k next
+      fed = run_fed wild start past s set run ran serial r own (ReadBy start J now p) (TurnedBy start J (initiator_in w) now p) (turns_by start J (initiator_in w) now p) of_turned hears n k next
+
+      abbrev reads : List Moved
+      reads = reads_of wild start past s set run ran serial r own (ReadBy start J now p) (TurnedBy start J (initiator_in w) now p) (turns_by start J (initiator_in w) now p) of_turned hears n k next
+
+      abbrev t : TurnedBy start J (initiator_in w) now p (address_of now i n k) orb reads
+      t = turned wild start past s set run ran serial r own (ReadBy start J now p) (TurnedBy start J (initiator_in w) now p) (turns_by start J (initiator_in w) now p) of_turned hears n k next
 
       abbrev x : IsHad start now ms w p (address_of now i n k) orb
-      x = (turned wild start past s set run ran serial r own (ReadBy start J now p) (TurnedBy start J now p) (turns_by start J now p) of_turned hears n k next).known.had
+      x = t.known.had
 
       name_is : Some (named_orb x.named.led.n x.named.led.k) ≡ Some (named_orb n k)
       name_is =
@@ -143,7 +156,7 @@ module _ (given : Type 0) (wild : ℕ → Bool) (start : List Disk) (past : List
       }
 
       run_fed_so : RunIsNamedFed start now i n k r.payload
-      run_fed_so = record { named = run_named; fed = fed; place = refl; response = refl; earlier = refl }
+      run_fed_so = record { named = run_named; fed = fed; place = refl; response = refl; earlier = refl; awaited = awaited_turned (address_of now i n k) orb reads t }
 
   abbrev note_of : Option ℕ → Option ℕ → Note
   note_of list number = notes.Ran i list number (holder w p).unit r.cdb r.payload (check_of r.outcome)

@@ -31,6 +31,19 @@ abbrev pub IsElsewhereBut : List Disk → List Moment → (i slot serial : ℕ) 
 IsElsewhereBut start past i slot serial None = Unit {0}
 IsElsewhereBut start past i slot serial (Some request) = by_purpose (purpose_of (over (target_at start past)) request) (AllElsewhere slot (read_by (terms past) i serial (Some request)))
 
+-- as each packet was got the agent of the place waited for an answer of the initiator
+abbrev pub AllAwaited : List Disk → (i place : ℕ) → (later before : List Moment) → Type 0
+AllAwaited start i place [] before = Unit {0}
+AllAwaited start i place (said (notes.Got serial) ∷ later) before = IsAwaited start (later ++ before) i place × AllAwaited start i place later before
+AllAwaited start i place (moment ∷ later) before = AllAwaited start i place later before
+
+-- and what answers no agent begins elsewhere
+abbrev pub AllElsewhereBut : List Disk → (i slot : ℕ) → (later before : List Moment) → Type 0
+AllElsewhereBut start i slot [] before = Unit {0}
+AllElsewhereBut start i slot (said (notes.Got serial) ∷ later) before =
+    IsElsewhereBut start (later ++ before) i slot serial (answered_at (terms (later ++ before)) serial) × AllElsewhereBut start i slot later before
+AllElsewhereBut start i slot (moment ∷ later) before = AllElsewhereBut start i slot later before
+
 -- of each packet that was got
 abbrev pub AreAwaited : List Disk → (i place slot : ℕ) → (later before : List Moment) → Type 0
 AreAwaited start i place slot [] before = Unit {0}

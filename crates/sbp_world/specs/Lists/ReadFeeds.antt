@@ -1,5 +1,5 @@
 -- How the ORB of each run was read and what it runs with (NCITS 325-1998, command block agents, command block ORB and page tables), in runs in which no initiator injected packets: the response that
--- brought the ORB, as the carried law has it, is the one behind which its agent turned to it and read its buffer and its data.
+-- brought the ORB, as the carried law has it, is the one behind which its agent turned to it and read its buffer and its data; and as each packet was got since, the agent waited for an answer of the initiator.
 use Rattle.std.specs.Prelude.{◌≡◌, ◌<◌, ◌≤◌, ℕ, List, ◌∷◌, ◌++◌, length, map, Option, Some}
 use Rattle.rbc_disk.specs.Disk.{Disk}
 use Rattle.rbc_disk.specs.Runs.{Told}
@@ -16,13 +16,21 @@ use Rattle.sbp_world.specs.Hosts.Runs.{IsRun, more_deliveries}
 use Rattle.sbp_world.specs.Lists.CarriedEnds.{RunWasRead}
 use Rattle.sbp_world.specs.Lists.FedRuns.{AreOthers, AreOwnOrOthers, RunIsSince}
 use Rattle.sbp_world.specs.Lists.OwnLogins.{IsTame}
+use Rattle.sbp_world.specs.Lists.OwnSince.{AllAwaited, AllElsewhereBut}
 
 pub record RunWasReadAndFed (start : List Disk) (past : List Moment) (i n k : ℕ) (bytes : List ℕ) : Type 0 where
   pub read : RunWasRead start past i n k
   pub since : RunIsSince start past i n k bytes
   pub response : since.fed.brought.response ≡ read.read.response
-  -- so the carried law holds of it, where what the target got since of the initiator is its agent's or begins elsewhere than in the ORB's slot
-  pub carried : (let behind = said (notes.Got since.fed.brought.response) ∷ since.fed.brought.earlier in AreOthers i (slot_at past i n k) since.fed.between behind → AreOwnOrOthers start i since.fed.place (slot_at past i n k) since.fed.later (since.fed.between ++ behind) → RunIsCarried start past i n k bytes)
+  -- as each packet was got since, the agent waited for an answer of the initiator
+  pub small : since.fed.place < 8
+  pub awaited : AllAwaited start i since.fed.place since.fed.later (since.fed.between ++ said (notes.Got since.fed.brought.response) ∷ since.fed.brought.earlier)
+  -- so what the target got since of the initiator is its agent's or begins elsewhere than in the ORB's slot, where what answers no agent does
+  pub own : (let behind = said (notes.Got since.fed.brought.response) ∷ since.fed.brought.earlier in AllElsewhereBut start i (slot_at past i n k) since.fed.later (since.fed.between ++ behind) → AreOwnOrOthers start i since.fed.place (slot_at past i n k) since.fed.later (since.fed.between ++ behind))
+  -- and the carried law holds of it, where so does what the target got of the initiator before the agent turned to the ORB
+  pub carried : (let behind = said (notes.Got since.fed.brought.response) ∷ since.fed.brought.earlier in AreOthers i (slot_at past i n k) since.fed.between behind → AllElsewhereBut start i (slot_at past i n k) since.fed.later (since.fed.between ++ behind) → RunIsCarried start past i n k bytes)
+  -- it holds wherever what was got since is the agent's or begins elsewhere
+  pub carried_own : (let behind = said (notes.Got since.fed.brought.response) ∷ since.fed.brought.earlier in AreOthers i (slot_at past i n k) since.fed.between behind → AreOwnOrOthers start i since.fed.place (slot_at past i n k) since.fed.later (since.fed.between ++ behind) → RunIsCarried start past i n k bytes)
 
 abbrev pub ReadAndFedAt : List Disk → Moment → List Moment → Type 0
 ReadAndFedAt start (said (notes.Ran i (Some n) (Some k) unit cdb bytes check)) past = RunWasReadAndFed start past i n k bytes
