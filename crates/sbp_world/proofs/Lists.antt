@@ -109,6 +109,7 @@ pub mod Joins
 pub mod Judging
 pub mod Kept
 pub mod KeptBrings
+pub mod KeptPhases
 pub mod KeptReplies
 pub mod KeptRuns
 pub mod KeptTurns

@@ -1,4 +1,5 @@
 pub mod AheadGots
+pub mod AheadOrbs
 pub mod Along
 pub mod AtGots
 pub mod Bases

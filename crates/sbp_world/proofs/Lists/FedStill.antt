@@ -14,6 +14,7 @@ use Rattle.sbp_journal.specs.declared.note.Note.{Note}
 use Rattle.sbp_journal.specs.declared.note.Note.TheVariants as notes
 use Rattle.sbp_laws.specs.CarriedBytes.{Moved}
 use Rattle.sbp_world.specs.Agents.Alike.{has_list, moves_data}
+use Rattle.sbp_world.specs.Lists.AheadOrbs.{AllAhead, HasOrbAhead}
 use Rattle.sbp_world.specs.Lists.FedRuns.{main_read, own_reads}
 use Rattle.sbp_world.specs.Lists.OwnSince.{AllAwaited, IsAwaited}
 use Rattle.sbp_world.proofs.Lists.FedGoing.{IsNoGot, same_reads}
@@ -21,19 +22,6 @@ use Rattle.sbp_world.proofs.Lists.FedSteps.{Feeding, Hears, IsFed, Tabling, none
 use Rattle.sbp_world.proofs.Lists.ManageTerms.{untrue}
 use Rattle.sbp_world.proofs.Lists.OrbReading.{ahead_more}
 use Rattle.sbp_world.proofs.Lists.OrbSteps.{ReadAheadOf, has_read}
-
--- ---- a response brought an ORB
--- `Known` of it, as it was got
-module _ (start : List Disk) (Known : ℕ → ℕ → CommandOrb → ℕ → List Moment → Type 0) where
-  pub record ReadBy (past : List Moment) (place at : ℕ) (orb : CommandOrb) : Type 0 where
-    pub response : ℕ
-    pub earlier : List Moment
-    pub later : List Moment
-    pub is : later ++ said (notes.Got response) ∷ earlier ≡ past
-    pub known : Known place at orb response earlier
-
-  pub read_on : (m : Moment) (past : List Moment) (place at : ℕ) (orb : CommandOrb) → ReadBy past place at orb → ReadBy (m ∷ past) place at orb
-  read_on m past place at orb r = record { response = r.response; earlier = r.earlier; later = m ∷ r.later; is = ap (λ ms. m ∷ ms) r.is; known = r.known }
 
 -- ---- the agent of a place waits for an answer of the initiator that has the place
 abbrev pub Awaits : List Disk → (ℕ → ℕ) → List Moment → ℕ → Type 0
@@ -47,6 +35,39 @@ same_awaited start (said note) n i place later before a = by note n
     by (notes.Got serial) n = absurd n
     by note n = a
 
+-- and it has an ORB read ahead
+abbrev pub Spares : List Disk → (ℕ → ℕ) → List Moment → ℕ → ℕ → Type 0
+Spares start owner past place at = place < 8 → HasOrbAhead start past (owner place) place at
+
+same_ahead : (start : List Disk) (m : Moment) → IsNoGot m → (i place at : ℕ) (later before : List Moment) → AllAhead start i place at later before → AllAhead start i place at (m ∷ later) before
+same_ahead start (asked line event) n i place at later before a = a
+same_ahead start (said note) n i place at later before a = by note n
+  where
+    by : (note : Note) → IsNoGot (said note) → AllAhead start i place at (said note ∷ later) before
+    by (notes.Got serial) n = absurd n
+    by note n = a
+
+-- ---- a response brought an ORB
+-- `Known` of it, as it was got
+module _ (start : List Disk) (Known : ℕ → ℕ → CommandOrb → ℕ → List Moment → Type 0) (owner : ℕ → ℕ) where
+  -- and the agent had it read ahead as each packet was got since
+  pub record ReadBy (past : List Moment) (place at : ℕ) (orb : CommandOrb) : Type 0 where
+    pub response : ℕ
+    pub earlier : List Moment
+    pub later : List Moment
+    pub is : later ++ said (notes.Got response) ∷ earlier ≡ past
+    pub known : Known place at orb response earlier
+    pub ahead : place < 8 → AllAhead start (owner place) place at later (said (notes.Got response) ∷ earlier)
+
+  pub read_on : (m : Moment) → IsNoGot m → (past : List Moment) (place at : ℕ) (orb : CommandOrb) → ReadBy past place at orb → ReadBy (m ∷ past) place at orb
+  read_on m n past place at orb r =
+      record { response = r.response; earlier = r.earlier; later = m ∷ r.later; is = ap (λ ms. m ∷ ms) r.is; known = r.known; ahead = λ small. same_ahead start m n (owner place) place at r.later _ (r.ahead small) }
+
+  pub read_by_got : (serial : ℕ) (past : List Moment) (place at : ℕ) (orb : CommandOrb) → Spares start owner past place at → ReadBy past place at orb → ReadBy (said (notes.Got serial) ∷ past) place at orb
+  read_by_got serial past place at orb spares r =
+      let m = said (notes.Got serial) in
+      record { response = r.response; earlier = r.earlier; later = m ∷ r.later; is = ap (λ ms. m ∷ ms) r.is; known = r.known; ahead = λ small. (subst (λ ms. HasOrbAhead start ms (owner place) place at) (sym r.is) (spares small), r.ahead small) }
+
 module _ (start : List Disk) (Known : ℕ → ℕ → CommandOrb → ℕ → List Moment → Type 0) (owner : ℕ → ℕ) where
   -- the agent turned to an ORB that a response brought, and its reads brought these since; and it waited so as each packet was got
   pub record TurnedBy (past : List Moment) (place at : ℕ) (orb : CommandOrb) (reads : List Moved) : Type 0 where
@@ -58,9 +79,10 @@ module _ (start : List Disk) (Known : ℕ → ℕ → CommandOrb → ℕ → Lis
     pub reads_are : reads ≡ own_reads start place later (between ++ said (notes.Got response) ∷ earlier)
     pub known : Known place at orb response earlier
     pub awaited : place < 8 → AllAwaited start (owner place) place later (between ++ said (notes.Got response) ∷ earlier)
+    pub ahead : place < 8 → AllAhead start (owner place) place at between (said (notes.Got response) ∷ earlier)
 
-  pub turns_by : (past : List Moment) (place at : ℕ) (orb : CommandOrb) → ReadBy start Known past place at orb → TurnedBy past place at orb []
-  turns_by past place at orb r = record { response = r.response; earlier = r.earlier; later = []; between = r.later; is = r.is; reads_are = refl; known = r.known; awaited = λ small. tt }
+  pub turns_by : (past : List Moment) (place at : ℕ) (orb : CommandOrb) → ReadBy start Known owner past place at orb → TurnedBy past place at orb []
+  turns_by past place at orb r = record { response = r.response; earlier = r.earlier; later = []; between = r.later; is = r.is; reads_are = refl; known = r.known; awaited = λ small. tt; ahead = r.ahead }
 
   pub turned_on : (m : Moment) → IsNoGot m → (past : List Moment) (place at : ℕ) (orb : CommandOrb) (reads : List Moved) → TurnedBy past place at orb reads → TurnedBy (m ∷ past) place at orb reads
   turned_on m n past place at orb reads t = record {
@@ -72,6 +94,7 @@ module _ (start : List Disk) (Known : ℕ → ℕ → CommandOrb → ℕ → Lis
     reads_are = t.reads_are ∙ sym (same_reads start m n place t.later _);
     known = t.known;
     awaited = λ small. same_awaited start m n (owner place) place t.later _ (t.awaited small);
+    ahead = t.ahead;
   }
 
   pub turned_by_got : (serial : ℕ) (past : List Moment) (place at : ℕ) (orb : CommandOrb) (reads more : List Moved) → Awaits start owner past place → main_read start past place serial ≡ more → TurnedBy past place at orb reads → TurnedBy (said (notes.Got serial) ∷ past) place at orb (reads ++ more)
@@ -86,6 +109,7 @@ module _ (start : List Disk) (Known : ℕ → ℕ → CommandOrb → ℕ → Lis
         reads_are = ap (λ xs. xs ++ more) t.reads_are ∙ ap (λ xs. own_reads start place t.later (t.between ++ said (notes.Got t.response) ∷ t.earlier) ++ xs) (sym e ∙ ap (λ ms. main_read start ms place serial) (sym t.is));
         known = t.known;
         awaited = λ small. (subst (λ ms. IsAwaited start ms (owner place) place) (sym t.is) (waits small), t.awaited small);
+        ahead = t.ahead;
       }
 
 -- ---- agents that are alike
@@ -107,7 +131,7 @@ module _ (R : ℕ → CommandOrb → Type 0) (T : ℕ → CommandOrb → List Mo
   }
 
 -- without a list it waits for no data, and has none
-unlisted : (phase : Phase) → has_list phase ≡ false → (awaits_run phase ≡ false) × (has_read phase ≡ false)
+pub unlisted : (phase : Phase) → has_list phase ≡ false → (awaits_run phase ≡ false) × (has_read phase ≡ false)
 unlisted phases.Reset e = (refl, refl)
 unlisted phases.Dead e = (refl, refl)
 unlisted phases.Fetching e = untrue (sym e)

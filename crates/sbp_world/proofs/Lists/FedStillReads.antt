@@ -1,11 +1,13 @@
 -- What is known of the response that brought an ORB which an agent has: it is the one prepared last in its slot still; so it is as a turn begins, and of what a packet brings in it.
-use Rattle.std.proofs.Common.{arith, ◌≡◌, ◌∙◌, refl, sym, ap, subst, ◌<◌, ◌≤◌, ℕ, suc, nat_lt, is_some, Bool, true, false, List, ◌∷◌, ◌++◌, Option, Some, None}
+use Rattle.std.proofs.Common.{arith, ◌≡◌, ◌∙◌, refl, sym, ap, subst, ◌<◌, ◌≤◌, ℕ, suc, nat_lt, is_some, Bool, true, false, length, length-append, List, [], ◌∷◌, ◌++◌, Option, Some, None}
 use Rattle.std.proofs.lemmas.Bool.Decides.{nat_tests}
 use Rattle.command_agent.specs.declared.phase.Phase.{Phase}
 use Rattle.command_agent.specs.declared.phase.Phase.TheVariants as phases
+use Rattle.command_agent.specs.declared.phase.ReadAhead.TheVariants as aheads
 use Rattle.command_agent.specs.declared.step.Which.TheVariants.{Main}
 use Rattle.command_agent.specs.Machine.{Machine, aligned, is_sent}
 use Rattle.orb_layout.specs.declared.command.CommandOrb.{CommandOrb}
+use Rattle.orb_layout.specs.declared.pointer.OrbPointer.TheVariants.{At}
 use Rattle.rbc_disk.specs.Disk.{Disk}
 use Rattle.sbp_journal.specs.Run.{Moment, said}
 use Rattle.sbp_journal.specs.Transactions.{Sending}
@@ -26,6 +28,7 @@ use Rattle.sbp_world.specs.Agents.Crews.{IsOf}
 use Rattle.sbp_world.proofs.Agents.Purposes.{g}
 use Rattle.sbp_world.proofs.Agents.Management.Holding.{Holding}
 use Rattle.sbp_world.proofs.Agents.Management.Still.{hist}
+use Rattle.sbp_world.specs.Lists.AheadOrbs.{AllAhead}
 use Rattle.sbp_world.specs.Lists.Needs.{initiator_in, is_open_at, machine_at}
 use Rattle.sbp_world.specs.Lists.OrbNames.{IsJustBrought, IsStillBrought}
 use Rattle.sbp_world.specs.Lists.OwnSince.{AllAwaited, IsAwaited}
@@ -35,7 +38,8 @@ use Rattle.sbp_world.proofs.Lists.FedReads as reads
 use Rattle.sbp_world.proofs.Lists.FedReads.{IsTurned, feeding}
 use Rattle.sbp_world.proofs.Lists.FedSteps.{IsFed}
 use Rattle.sbp_world.proofs.Lists.FedGoing.{fed_so}
-use Rattle.sbp_world.proofs.Lists.FedStill.{Awaits, ReadBy, TurnedBy, closed_feeds, fed_alike}
+use Rattle.sbp_world.proofs.Lists.FedStill.{Awaits, ReadBy, Spares, TurnedBy, closed_feeds, fed_alike, unlisted}
+use Rattle.sbp_world.proofs.Lists.KeptPhases.{kept_idle}
 use Rattle.sbp_world.proofs.Lists.ManageTerms.{untrue}
 use Rattle.sbp_world.proofs.Lists.OrbNotes.{GotBrings}
 use Rattle.sbp_world.proofs.Lists.OrbSteps.{holds_read}
@@ -58,15 +62,30 @@ pub record KnownHad (start : List Disk) (now before : List Moment) (w : WorldSta
 
 -- of each agent that has a list open
 abbrev pub FedStill : List Disk → List Moment → WorldState → ℕ → Machine → Type 0
-FedStill start past w place m = IsFed (ReadBy start (KnownStill start past w) past place) (TurnedBy start (KnownStill start past w) (initiator_in w) past place) m
+FedStill start past w place m = IsFed (ReadBy start (KnownStill start past w) (initiator_in w) past place) (TurnedBy start (KnownStill start past w) (initiator_in w) past place) m
 
-abbrev pub AreFedStill : List Disk → List Moment → WorldState → Type 0
-AreFedStill start past w = (place : ℕ) → place < 8 → is_open_at w place ≡ true → FedStill start past w place (machine_at w place)
+abbrev pub AllFedStill : List Disk → List Moment → WorldState → Type 0
+AllFedStill start past w = (place : ℕ) → place < 8 → is_open_at w place ≡ true → FedStill start past w place (machine_at w place)
+
+-- a main transaction of one that has an ORB read ahead is under way
+abbrev pub AreSentAhead : WorldState → Type 0
+AreSentAhead w = (place : ℕ) → place < 8 → is_open_at w place ≡ true → (orb : CommandOrb) → (machine_at w place).ahead ≡ aheads.Kept orb → is_sent (machine_at w place).phase ≡ true
+
+pub record AreFedStill (start : List Disk) (past : List Moment) (w : WorldState) : Type 0 where
+  pub fed : AllFedStill start past w
+  pub sent : AreSentAhead w
 
 -- what is known of it otherwise
 module _ (start : List Disk) (past : List Moment) (place : ℕ) (J K : ℕ → ℕ → CommandOrb → ℕ → List Moment → Type 0) where
-  pub read_known : (at : ℕ) (orb : CommandOrb) → ((response : ℕ) (earlier : List Moment) → J place at orb response earlier → K place at orb response earlier) → ReadBy start J past place at orb → ReadBy start K past place at orb
-  read_known at orb f r = record { response = r.response; earlier = r.earlier; later = r.later; is = r.is; known = f r.response r.earlier r.known }
+  pub read_known : (owner owner_now : ℕ → ℕ) → owner place ≡ owner_now place → (at : ℕ) (orb : CommandOrb) → ((response : ℕ) (earlier : List Moment) → J place at orb response earlier → K place at orb response earlier) → ReadBy start J owner past place at orb → ReadBy start K owner_now past place at orb
+  read_known owner owner_now same at orb f r = record {
+    response = r.response;
+    earlier = r.earlier;
+    later = r.later;
+    is = r.is;
+    known = f r.response r.earlier r.known;
+    ahead = λ small. subst (λ i. AllAhead start i place at r.later (said (notes.Got r.response) ∷ r.earlier)) same (r.ahead small);
+  }
 
   pub turned_known : (owner owner_now : ℕ → ℕ) → owner place ≡ owner_now place → (at : ℕ) (orb : CommandOrb) (reads : List Moved) → ((response : ℕ) (earlier : List Moment) → J place at orb response earlier → K place at orb response earlier) → TurnedBy start J owner past place at orb reads → TurnedBy start K owner_now past place at orb reads
   turned_known owner owner_now same at orb reads known t = record {
@@ -78,6 +97,7 @@ module _ (start : List Disk) (past : List Moment) (place : ℕ) (J K : ℕ → �
     reads_are = t.reads_are;
     known = known t.response t.earlier t.known;
     awaited = λ small. subst (λ i. AllAwaited start i place t.later (t.between ++ said (notes.Got t.response) ∷ t.earlier)) same (t.awaited small);
+    ahead = λ small. subst (λ i. AllAhead start i place at t.between (said (notes.Got t.response) ∷ t.earlier)) same (t.ahead small);
   }
 
 holds_sent : (phase : Phase) → holds_read phase ≡ true → is_sent phase ≡ true
@@ -85,6 +105,14 @@ holds_sent phases.ReadingTable e = refl
 holds_sent (phases.ReadingData wanted) e = refl
 holds_sent phases.Answering e = refl
 holds_sent _ e = untrue e
+
+none_since : (x y : Moment) (earlier past later : List Moment) → later ++ x ∷ earlier ≡ y ∷ past → earlier ≡ past → later ≡ []
+none_since x y earlier past [] e same = refl
+none_since x y earlier past (m ∷ later) e same =
+    let tail : later ++ x ∷ earlier ≡ past = (let both : m ∷ (later ++ x ∷ earlier) ≡ y ∷ past = e in cc) in
+    let size = ap (λ (xs : List Moment). length xs) (tail ∙ sym same) in
+    let sum = length-append later (x ∷ earlier) in
+    absurd (omega (arith, size, sum))
 
 -- ---- as a turn begins, and what a packet brings in it
 module _ (units ready : ℕ) (has : 0 < units) (start : List Disk) {past : List Moment} {lines : ℕ} (w : WorldState) (h : Holding units ready start past lines w) (site : Site start past w) (asked_so : EachMoment (AskedAsGot start) (hist past w)) (fed : AreFedStill start (hist past w) w) (now : List Moment) (back : List Moment) (behind : back ++ hist past w ≡ now) where
@@ -98,7 +126,7 @@ module _ (units ready : ℕ) (has : 0 < units) (start : List Disk) {past : List 
   K p at orb response earlier = p < 8 → KnownHad start now before w p at orb response earlier
 
   abbrev pub R : List Moment → ℕ → ℕ → CommandOrb → Type 0
-  R ms p at orb = ReadBy start K ms p at orb
+  R ms p at orb = ReadBy start K (initiator_in w) ms p at orb
 
   abbrev pub U : List Moment → ℕ → ℕ → CommandOrb → List Moved → Type 0
   U ms p at orb reads = TurnedBy start K (initiator_in w) ms p at orb reads
@@ -118,19 +146,19 @@ module _ (units ready : ℕ) (has : 0 < units) (start : List Disk) {past : List 
       let a = (agent_at T p).machine in
       let m = machine_at w p in
       let alike = (site.agents.are.each p b).machine in
-      let here = fed_so (ReadBy start (KnownStill start before w) before p) (R before p) (TurnedBy start (KnownStill start before w) (initiator_in w) before p) (U before p) m
+      let here = fed_so (ReadBy start (KnownStill start before w) (initiator_in w) before p) (R before p) (TurnedBy start (KnownStill start before w) (initiator_in w) before p) (U before p) m
       (λ holds reads. turned_known start before p (KnownStill start before w) K (initiator_in w) (initiator_in w) refl m.present m.orb reads (had_before p m.present m.orb))
-      (λ orb kept offset next. read_known start before p (KnownStill start before w) K (aligned offset) orb (had_before p (aligned offset) orb)) (fed p b e) in
+      (λ orb kept offset next. read_known start before p (KnownStill start before w) K (initiator_in w) (initiator_in w) refl (aligned offset) orb (had_before p (aligned offset) orb)) (fed.fed p b e) in
       fed_alike (R before p) (U before p) m a (sym alike.phase) (sym (alike.present e)) (sym (alike.orb e)) (sym (alike.payload e)) (λ f. sym (alike.segments (ap moves_data (sym alike.phase) ∙ f))) (sym (alike.ahead e)) here
   by_list p b false e =
       closed_feeds (IsBrought start before p) (R before p) (IsTurned start before p) (U before p) (agent_at T p).machine (ap has_list (site.agents.are.each p b).machine.phase ∙ e) (all_before.agents p)
 
   far_read : (p : ℕ) → 8 ≤ p → (at : ℕ) (orb : CommandOrb) → IsBrought start before p at orb → R before p at orb
-  far_read p far at orb b = record { response = b.response; earlier = b.earlier; later = b.later; is = b.is; known = λ small. absurd (omega (arith, far, small)) }
+  far_read p far at orb b = record { response = b.response; earlier = b.earlier; later = b.later; is = b.is; known = λ small. absurd (omega (arith, far, small)); ahead = λ small. absurd (omega (arith, far, small)) }
 
   far_turned : (p : ℕ) → 8 ≤ p → (at : ℕ) (orb : CommandOrb) (reads : List Moved) → IsTurned start before p at orb reads → U before p at orb reads
   far_turned p far at orb reads t =
-      record { response = t.brought.response; earlier = t.brought.earlier; later = t.later; between = t.between; is = t.is; reads_are = t.reads_are; known = λ small. absurd (omega (arith, far, small)); awaited = λ small. absurd (omega (arith, far, small)) }
+      record { response = t.brought.response; earlier = t.brought.earlier; later = t.later; between = t.between; is = t.is; reads_are = t.reads_are; known = λ small. absurd (omega (arith, far, small)); awaited = λ small. absurd (omega (arith, far, small)); ahead = λ small. absurd (omega (arith, far, small)) }
 
   by_place : (p : ℕ) (x : Bool) → nat_lt p 8 ≡ x → Fed before p (agent_at T p).machine
   by_place p true e = by_list p (grind (arith, nat_tests)) (has_list (machine_at w p).phase) refl
@@ -156,6 +184,20 @@ module _ (units ready : ℕ) (has : 0 < units) (start : List Disk) {past : List 
       let fits : Fits d = (g units ready has start w h).mid.fits p b (not_eight p b) in
       by_main p b a.main refl (is.main ∙ fits.main ∙ holds_sent d.agent.phase (ap holds_read (sym is.machine.phase) ∙ holds))
 
+  listed : (p : ℕ) → p < 8 → (orb : CommandOrb) → (agent_at T p).machine.ahead ≡ aheads.Kept orb → (x : Bool) → has_list (machine_at w p).phase ≡ x → x ≡ true
+  listed p b orb kept true e = refl
+  listed p b orb kept false e =
+      kept_idle orb (sym kept ∙ (all_before.agents p).idle ((unlisted (agent_at T p).machine.phase (ap has_list (site.agents.are.each p b).machine.phase ∙ e)).1))
+
+  spares_before : (p : ℕ) (orb : CommandOrb) → (agent_at T p).machine.ahead ≡ aheads.Kept orb → p < 8 → IsAwaited start before (initiator_in w p) p
+  spares_before p orb kept b =
+      let a = agent_at T p in
+      let d = desk_at w.target p in
+      let is : IsOf site.agents.requests a d = site.agents.are.each p b in
+      let fits : Fits d = (g units ready has start w h).mid.fits p b (not_eight p b) in
+      let open_there = listed p b orb kept (has_list (machine_at w p).phase) refl in
+      by_main p b a.main refl (is.main ∙ fits.main ∙ fed.sent p b open_there orb (sym (is.machine.ahead open_there) ∙ kept))
+
   -- and so they do as a line begins
   pub awaits_in : (ms : List Moment) → over (target_at start ms) ≡ T → (terms ms).sent ≡ (terms before).sent → (p : ℕ) → holds_read (agent_at (over (target_at start ms)) p).machine.phase ≡ true → Awaits start (initiator_in w) ms p
   awaits_in ms same sent p holds b =
@@ -166,6 +208,27 @@ module _ (units ready : ℕ) (has : 0 < units) (start : List Disk) {past : List 
         waits = ap (λ (t : Target). serial_of x.side (agent_at t p)) same ∙ x.waits;
         to = ap (λ (f : ℕ → Option Sending). receiver_in (f x.mine)) sent ∙ x.to;
       }
+
+  pub spares_in : (ms : List Moment) → over (target_at start ms) ≡ T → (terms ms).sent ≡ (terms before).sent → (p : ℕ) (orb : CommandOrb) → (agent_at (over (target_at start ms)) p).machine.ahead ≡ aheads.Kept orb → (offset : ℕ) → (agent_at (over (target_at start ms)) p).machine.orb.next ≡ At offset → Spares start (initiator_in w) ms p (aligned offset)
+  spares_in ms same sent p orb kept offset next b =
+      let x = spares_before p orb (ap (λ (t : Target). (agent_at t p).machine.ahead) (sym same) ∙ kept) b in
+      record {
+        awaited = record {
+          side = x.side;
+          mine = x.mine;
+          waits = ap (λ (t : Target). serial_of x.side (agent_at t p)) same ∙ x.waits;
+          to = ap (λ (f : ℕ → Option Sending). receiver_in (f x.mine)) sent ∙ x.to;
+        };
+        orb = orb;
+        kept = kept;
+        offset = offset;
+        next = next;
+        stands = refl;
+      }
+
+  -- ---- each is ready for an answer
+  pub ready_in : (ms : List Moment) → over (target_at start ms) ≡ T → (terms ms).sent ≡ (terms before).sent → (p : ℕ) → (holds_read (agent_at (over (target_at start ms)) p).machine.phase ≡ true → Awaits start (initiator_in w) ms p) × ((orb : CommandOrb) → (agent_at (over (target_at start ms)) p).machine.ahead ≡ aheads.Kept orb → (offset : ℕ) → (agent_at (over (target_at start ms)) p).machine.orb.next ≡ At offset → Spares start (initiator_in w) ms p (aligned offset))
+  ready_in ms same sent p = (awaits_in ms same sent p, spares_in ms same sent p)
 
   -- ---- what a packet brings
   module _ (ms : List Moment) (same : over (target_at start ms) ≡ T) (sent : (terms ms).sent ≡ (terms before).sent) (there : (i slot : ℕ) → prepared_in ms i slot ≡ prepared_in before i slot) (serial : ℕ) (front : List Moment) (is : front ++ said (notes.Got serial) ∷ ms ≡ now) where
@@ -194,7 +257,14 @@ module _ (units ready : ℕ) (has : 0 < units) (start : List Disk) {past : List 
     just_read : (p : ℕ) (at : ℕ) (orb : CommandOrb) → IsJustBrought start ms serial p at orb → R (said (notes.Got serial) ∷ ms) p at orb
     just_read p at orb x =
         let y = x.named.brought in
-        record { response = y.response; earlier = y.earlier; later = y.later; is = y.is; known = λ b. just_known p b at orb x }
+        record {
+          response = y.response;
+          earlier = y.earlier;
+          later = y.later;
+          is = y.is;
+          known = λ b. just_known p b at orb x;
+          ahead = λ b. subst (λ later. AllAhead start (initiator_in w p) p at later (said (notes.Got y.response) ∷ y.earlier)) (sym (none_since (said (notes.Got y.response)) (said (notes.Got serial)) y.earlier ms y.later y.is x.now)) tt;
+        }
 
     pub got_read : GotBrings (IsJustBrought start ms serial) (terms ms) serial (over (target_at start ms)) → GotBrings (R (said (notes.Got serial) ∷ ms)) (terms ms) serial (over (target_at start ms))
     got_read just own closed place which purpose =
