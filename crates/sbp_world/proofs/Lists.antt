@@ -423,6 +423,7 @@ pub mod ShortLines
 pub mod AnswerLengths
 pub mod LinedAppends
 pub mod AheadGots
+pub mod AheadOrbs
 pub mod AheadSince
 pub mod AheadWaits
 pub mod AnswerChecks

@@ -27,6 +27,10 @@ use Rattle.sbp_world.specs.Lists.OrbReads.{SentAsGot}
 use Rattle.sbp_world.specs.Lists.OwnGots.{OwnAsGot}
 use Rattle.sbp_world.specs.Lists.OwnSince.{AllAwaited, AllElsewhereBut}
 use Rattle.sbp_world.specs.Lists.ReadFeeds.{ReadAndFedAt, ReadAndFedLaw, RunWasReadAndFed}
+use Rattle.sbp_laws.specs.CarriedBytes.{address_of}
+use Rattle.sbp_world.specs.Lists.AheadGots.{AheadAsGot, AheadAsGotLaw}
+use Rattle.sbp_world.specs.Lists.AheadOrbs.{AllAhead}
+use Rattle.sbp_world.proofs.Lists.AheadOrbs.{others_ahead}
 use Rattle.sbp_world.proofs.Lists.Fair.{IsFair, fair_before, fair_of, told_everywhere}
 use Rattle.sbp_world.proofs.Lists.CarriedEnds.{run_read, run_read_by}
 use Rattle.sbp_world.proofs.Lists.Courses.{more_than_one}
@@ -37,12 +41,13 @@ use Rattle.sbp_world.proofs.Lists.ListsProved.{closing}
 use Rattle.sbp_world.proofs.Lists.OpenGots.{OpenAsGot, open_as_got}
 use Rattle.sbp_world.proofs.Lists.OwnGots.{own_as_got}
 use Rattle.sbp_world.proofs.Lists.OwnSince.{each_awaited, own_since_law}
+use Rattle.sbp_world.proofs.Lists.PlacedOps.{each_from}
 use Rattle.sbp_world.proofs.Lists.RunLaws.{order_run_law}
 use Rattle.sbp_world.proofs.Lists.RunNames.{RunNamedAt}
 use Rattle.sbp_world.proofs.Lists.SentGots.{sent_as_got}
 
 module _ (given : Type 0) (so : given) (wild : ℕ → Bool) (calm : (i : ℕ) → wild i ≡ false) (start : List Disk) where
-  module _ (past : List Moment) (f : IsFair past) (j : AreJudged past) (sent : EachMoment (SentAsGot start) past) (opens : OpenAsGot start past) (law : OrderLaw wild past) (gots : EachMoment (OwnAsGot start) past) where
+  module _ (past : List Moment) (f : IsFair past) (j : AreJudged past) (sent : EachMoment (SentAsGot start) past) (opens : OpenAsGot start past) (law : OrderLaw wild past) (gots : EachMoment (OwnAsGot start) past) (spared : EachMoment (AheadAsGot start) past) where
     -- the buffer and the data by what was read since a response
     abbrev Since : (i n k : ℕ) → List ℕ → ℕ → Type 0
     Since i n k bytes r =
@@ -68,6 +73,11 @@ module _ (given : Type 0) (so : given) (wild : ℕ → Bool) (calm : (i : ℕ) �
         λ o p.
         let x = subst (Since i n k bytes) same (since.whole o p) in
         record { read = read.read; not_dummy = read.not_dummy; as_appended = read.as_appended; size = x.0; payloads = x.1 } in
+        let behind = said (notes.Got since.fed.brought.response) ∷ since.fed.brought.earlier in
+        let ahead : AllAhead start i place (address_of past i n k) since.fed.between behind =
+        subst (λ (x : RunIsFed start past i n k bytes). AllAhead start i x.place (address_of past i n k) x.between (said (notes.Got x.brought.response) ∷ x.brought.earlier)) (sym same_fed) e.ahead in
+        let others : AllElsewhereBut start i slot since.fed.between behind → AreOthers i slot since.fed.between behind =
+        others_ahead start i place slot small since.fed.between behind (each_from (AheadAsGot start) later before (subst (EachMoment (AheadAsGot start)) (sym since.fed.is) spared)) ahead in
         record {
           read = read;
           since = since;
@@ -75,7 +85,8 @@ module _ (given : Type 0) (so : given) (wild : ℕ → Bool) (calm : (i : ℕ) �
           small = small;
           awaited = awaited;
           own = own;
-          carried = λ o b. carried_own o (own b);
+          others = others;
+          carried = λ o b. carried_own (others o) (own b);
           carried_own = carried_own;
         }
 
@@ -92,23 +103,23 @@ module _ (given : Type 0) (so : given) (wild : ℕ → Bool) (calm : (i : ℕ) �
     by_moment (asked line event) e = tt
     by_moment (said note) e = by_note note e
 
-  all_both : (past : List Moment) → IsFair past → AreJudged past → EachMoment (SentAsGot start) past → OpenAsGot start past → OrderLaw wild past → EachMoment (OwnAsGot start) past → EachMoment (RunNamedAt given wild start) past → EachMoment (ReadAndFedAt start) past
-  all_both [] f j sent opens law gots e = tt
-  all_both (m ∷ past) f j sent opens law gots e =
+  all_both : (past : List Moment) → IsFair past → AreJudged past → EachMoment (SentAsGot start) past → OpenAsGot start past → OrderLaw wild past → EachMoment (OwnAsGot start) past → EachMoment (AheadAsGot start) past → EachMoment (RunNamedAt given wild start) past → EachMoment (ReadAndFedAt start) past
+  all_both [] f j sent opens law gots spared e = tt
+  all_both (m ∷ past) f j sent opens law gots spared e =
       let g = fair_before m past f in
       let q = judged_before m past j in
-      (by_moment past g q sent.1 opens.1 law.1 gots.1 m e.0, all_both past g q sent.1 opens.1 law.1 gots.1 e.1)
+      (by_moment past g q sent.1 opens.1 law.1 gots.1 spared.1 m e.0, all_both past g q sent.1 opens.1 law.1 gots.1 spared.1 e.1)
 
-pub read_and_fed_law : OpenListsLaw → OneUpLaw → ReadAndFedLaw
-read_and_fed_law lists up = record {
+pub read_and_fed_law : OpenListsLaw → OneUpLaw → AheadAsGotLaw → ReadAndFedLaw
+read_and_fed_law lists up spared = record {
   after_lines = λ line run r has small size tame.
       let so_far = closing.before lists line run r has small size (inl tame) in
       let past = history_of line run in
       all_both (Tamely (injectors past)) (lists, λ i. tame i) (injectors past) (λ i. tame i) run.start.disks past (fair_of past (told_everywhere.after_lines line run r has small size so_far) tame)
-      (judged_everywhere.after_lines line run r has small size so_far) ((sent_as_got lists).after_lines line run r has small size so_far tame) ((open_as_got lists up).after_lines line run r has small size so_far tame) (order_run_law.after_lines line run r has small size so_far) ((own_as_got lists).after_lines line run r has small size so_far tame) (runs_named.after_lines line run r has small size so_far);
+      (judged_everywhere.after_lines line run r has small size so_far) ((sent_as_got lists).after_lines line run r has small size so_far tame) ((open_as_got lists up).after_lines line run r has small size so_far tame) (order_run_law.after_lines line run r has small size so_far) ((own_as_got lists).after_lines line run r has small size so_far tame) (spared.after_lines line run r has small size tame) (runs_named.after_lines line run r has small size so_far);
   between = λ line run r has small size next most told m tame.
       let now = map said (after_all told (begun (after (beginning run) run.entries))).world.fresh ++ asked next (more_deliveries most) ∷ history_of line run in
       let so_far = closing.between lists line run r has small size next (more_deliveries most) (more_than_one most) told m (inl tame) in
       all_both (Tamely (injectors now)) (lists, λ i. tame i) (injectors now) (λ i. tame i) run.start.disks now (fair_of now (told_everywhere.between line run r has small size next most told m so_far) tame)
-      (judged_everywhere.between line run r has small size next most told m so_far) ((sent_as_got lists).between line run r has small size next most told m so_far tame) ((open_as_got lists up).between line run r has small size next most told m so_far tame) (order_run_law.between line run r has small size next (more_deliveries most) (more_than_one most) told m so_far) ((own_as_got lists).between line run r has small size next most told m so_far tame) (runs_named.between line run r has small size next most told m so_far);
+      (judged_everywhere.between line run r has small size next most told m so_far) ((sent_as_got lists).between line run r has small size next most told m so_far tame) ((open_as_got lists up).between line run r has small size next most told m so_far tame) (order_run_law.between line run r has small size next (more_deliveries most) (more_than_one most) told m so_far) ((own_as_got lists).between line run r has small size next most told m so_far tame) (spared.between line run r has small size next most told m tame) (runs_named.between line run r has small size next most told m so_far);
 }
