@@ -211,6 +211,7 @@ pub mod ManageWire
 pub mod ManageWrites
 pub mod ManageYoung
 pub mod ManagedGots
+pub mod NobodyGots
 pub mod Named
 pub mod NamedWrites
 pub mod Naming

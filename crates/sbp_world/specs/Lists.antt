@@ -37,6 +37,7 @@ pub mod EndReads
 pub mod OrbNames
 pub mod ManagedFor
 pub mod ManagedGots
+pub mod NobodyGots
 pub mod Managing
 pub mod Names
 pub mod Needs

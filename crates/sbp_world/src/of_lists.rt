@@ -249,7 +249,7 @@ pub fn what_is_got_since_spares_the_orb_read_ahead()
 /// In every run in which no initiator injected packets the response that brought the ORB of each run, as the carried law has
 /// it, is the one behind which its agent turned to it, and as each packet was got since then the agent waited for an answer of the
 /// initiator: the buffer and the data of the command are those by all that the target got of the initiator since the response,
-/// where what answers no agent begins elsewhere than in the ORB's slot.
+/// where what answers nobody begins elsewhere than in the ORB's slot.
 #[tactic(auto, using(crate::proofs::Lists::Clauses::feeds_law))]
 pub fn orbs_that_run_were_read_and_fed()
     ensures { ReadAndFedLaw }

@@ -25,7 +25,10 @@ use Rattle.sbp_world.specs.Lists.FedRuns.{AreOthers, AreOwnOrOthers, RunIsFed}
 use Rattle.sbp_world.specs.Lists.OneUp.{OneUpLaw}
 use Rattle.sbp_world.specs.Lists.OrbReads.{SentAsGot}
 use Rattle.sbp_world.specs.Lists.OwnGots.{OwnAsGot}
-use Rattle.sbp_world.specs.Lists.OwnSince.{AllAwaited, AllElsewhereBut}
+use Rattle.sbp_world.specs.Lists.ManagedGots.{ManagedAsGot, ManagedAsGotLaw}
+use Rattle.sbp_world.specs.Lists.NobodyGots.{AllNobodyElsewhere}
+use Rattle.sbp_world.specs.Lists.OwnSince.{AllAwaited}
+use Rattle.sbp_world.proofs.Lists.NobodyGots.{but_nobody}
 use Rattle.sbp_world.specs.Lists.ReadFeeds.{ReadAndFedAt, ReadAndFedLaw, RunWasReadAndFed}
 use Rattle.sbp_laws.specs.CarriedBytes.{address_of}
 use Rattle.sbp_world.specs.Lists.AheadGots.{AheadAsGot, AheadAsGotLaw}
@@ -47,7 +50,7 @@ use Rattle.sbp_world.proofs.Lists.RunNames.{RunNamedAt}
 use Rattle.sbp_world.proofs.Lists.SentGots.{sent_as_got}
 
 module _ (given : Type 0) (so : given) (wild : ℕ → Bool) (calm : (i : ℕ) → wild i ≡ false) (start : List Disk) where
-  module _ (past : List Moment) (f : IsFair past) (j : AreJudged past) (sent : EachMoment (SentAsGot start) past) (opens : OpenAsGot start past) (law : OrderLaw wild past) (gots : EachMoment (OwnAsGot start) past) (spared : EachMoment (AheadAsGot start) past) where
+  module _ (past : List Moment) (f : IsFair past) (j : AreJudged past) (sent : EachMoment (SentAsGot start) past) (opens : OpenAsGot start past) (law : OrderLaw wild past) (gots : EachMoment (OwnAsGot start) past) (spared : EachMoment (AheadAsGot start) past) (managed : EachMoment (ManagedAsGot start) past) where
     -- the buffer and the data by what was read since a response
     abbrev Since : (i n k : ℕ) → List ℕ → ℕ → Type 0
     Since i n k bytes r =
@@ -67,8 +70,9 @@ module _ (given : Type 0) (so : given) (wild : ℕ → Bool) (calm : (i : ℕ) �
         let small : place < 8 = subst (λ p. p < 8) (sym (ap (λ (x : RunIsFed start past i n k bytes). x.place) same_fed ∙ e.place)) e.named.small in
         let awaited : AllAwaited start i place later before =
         subst (λ (x : RunIsFed start past i n k bytes). AllAwaited start i x.place x.later (x.between ++ said (notes.Got x.brought.response) ∷ x.brought.earlier)) (sym same_fed) e.awaited in
-        let own : AllElsewhereBut start i slot later before → AreOwnOrOthers start i place slot later before =
-        λ b. own_since_law start i place slot small later before (subst (EachMoment (OwnAsGot start)) (sym since.fed.is) gots) (each_awaited start i place slot later before awaited b) in
+        let managed_since : EachMoment (ManagedAsGot start) (later ++ before) = subst (EachMoment (ManagedAsGot start)) (sym since.fed.is) managed in
+        let own : AllNobodyElsewhere start i slot later before → AreOwnOrOthers start i place slot later before =
+        λ b. own_since_law start i place slot small later before (subst (EachMoment (OwnAsGot start)) (sym since.fed.is) gots) (each_awaited start i place slot later before awaited (but_nobody start i slot later before managed_since b)) in
         let carried_own : AreOthers i slot since.fed.between (said (notes.Got since.fed.brought.response) ∷ since.fed.brought.earlier) → AreOwnOrOthers start i place slot later before → RunIsCarried start past i n k bytes =
         λ o p.
         let x = subst (Since i n k bytes) same (since.whole o p) in
@@ -76,8 +80,8 @@ module _ (given : Type 0) (so : given) (wild : ℕ → Bool) (calm : (i : ℕ) �
         let behind = said (notes.Got since.fed.brought.response) ∷ since.fed.brought.earlier in
         let ahead : AllAhead start i place (address_of past i n k) since.fed.between behind =
         subst (λ (x : RunIsFed start past i n k bytes). AllAhead start i x.place (address_of past i n k) x.between (said (notes.Got x.brought.response) ∷ x.brought.earlier)) (sym same_fed) e.ahead in
-        let others : AllElsewhereBut start i slot since.fed.between behind → AreOthers i slot since.fed.between behind =
-        others_ahead start i place slot small since.fed.between behind (each_from (AheadAsGot start) later before (subst (EachMoment (AheadAsGot start)) (sym since.fed.is) spared)) ahead in
+        let others : AllNobodyElsewhere start i slot since.fed.between behind → AreOthers i slot since.fed.between behind =
+        λ b. others_ahead start i place slot small since.fed.between behind (each_from (AheadAsGot start) later before (subst (EachMoment (AheadAsGot start)) (sym since.fed.is) spared)) ahead (but_nobody start i slot since.fed.between behind (each_from (ManagedAsGot start) later before managed_since) b) in
         record {
           read = read;
           since = since;
@@ -103,23 +107,23 @@ module _ (given : Type 0) (so : given) (wild : ℕ → Bool) (calm : (i : ℕ) �
     by_moment (asked line event) e = tt
     by_moment (said note) e = by_note note e
 
-  all_both : (past : List Moment) → IsFair past → AreJudged past → EachMoment (SentAsGot start) past → OpenAsGot start past → OrderLaw wild past → EachMoment (OwnAsGot start) past → EachMoment (AheadAsGot start) past → EachMoment (RunNamedAt given wild start) past → EachMoment (ReadAndFedAt start) past
-  all_both [] f j sent opens law gots spared e = tt
-  all_both (m ∷ past) f j sent opens law gots spared e =
+  all_both : (past : List Moment) → IsFair past → AreJudged past → EachMoment (SentAsGot start) past → OpenAsGot start past → OrderLaw wild past → EachMoment (OwnAsGot start) past → EachMoment (AheadAsGot start) past → EachMoment (ManagedAsGot start) past → EachMoment (RunNamedAt given wild start) past → EachMoment (ReadAndFedAt start) past
+  all_both [] f j sent opens law gots spared managed e = tt
+  all_both (m ∷ past) f j sent opens law gots spared managed e =
       let g = fair_before m past f in
       let q = judged_before m past j in
-      (by_moment past g q sent.1 opens.1 law.1 gots.1 spared.1 m e.0, all_both past g q sent.1 opens.1 law.1 gots.1 spared.1 e.1)
+      (by_moment past g q sent.1 opens.1 law.1 gots.1 spared.1 managed.1 m e.0, all_both past g q sent.1 opens.1 law.1 gots.1 spared.1 managed.1 e.1)
 
-pub read_and_fed_law : OpenListsLaw → OneUpLaw → AheadAsGotLaw → ReadAndFedLaw
-read_and_fed_law lists up spared = record {
+pub read_and_fed_law : OpenListsLaw → OneUpLaw → AheadAsGotLaw → ManagedAsGotLaw → ReadAndFedLaw
+read_and_fed_law lists up spared managed = record {
   after_lines = λ line run r has small size tame.
       let so_far = closing.before lists line run r has small size (inl tame) in
       let past = history_of line run in
       all_both (Tamely (injectors past)) (lists, λ i. tame i) (injectors past) (λ i. tame i) run.start.disks past (fair_of past (told_everywhere.after_lines line run r has small size so_far) tame)
-      (judged_everywhere.after_lines line run r has small size so_far) ((sent_as_got lists).after_lines line run r has small size so_far tame) ((open_as_got lists up).after_lines line run r has small size so_far tame) (order_run_law.after_lines line run r has small size so_far) ((own_as_got lists).after_lines line run r has small size so_far tame) (spared.after_lines line run r has small size tame) (runs_named.after_lines line run r has small size so_far);
+      (judged_everywhere.after_lines line run r has small size so_far) ((sent_as_got lists).after_lines line run r has small size so_far tame) ((open_as_got lists up).after_lines line run r has small size so_far tame) (order_run_law.after_lines line run r has small size so_far) ((own_as_got lists).after_lines line run r has small size so_far tame) (spared.after_lines line run r has small size tame) (managed.after_lines line run r has small size tame) (runs_named.after_lines line run r has small size so_far);
   between = λ line run r has small size next most told m tame.
       let now = map said (after_all told (begun (after (beginning run) run.entries))).world.fresh ++ asked next (more_deliveries most) ∷ history_of line run in
       let so_far = closing.between lists line run r has small size next (more_deliveries most) (more_than_one most) told m (inl tame) in
       all_both (Tamely (injectors now)) (lists, λ i. tame i) (injectors now) (λ i. tame i) run.start.disks now (fair_of now (told_everywhere.between line run r has small size next most told m so_far) tame)
-      (judged_everywhere.between line run r has small size next most told m so_far) ((sent_as_got lists).between line run r has small size next most told m so_far tame) ((open_as_got lists up).between line run r has small size next most told m so_far tame) (order_run_law.between line run r has small size next (more_deliveries most) (more_than_one most) told m so_far) ((own_as_got lists).between line run r has small size next most told m so_far tame) (spared.between line run r has small size next most told m tame) (runs_named.between line run r has small size next most told m so_far);
+      (judged_everywhere.between line run r has small size next most told m so_far) ((sent_as_got lists).between line run r has small size next most told m so_far tame) ((open_as_got lists up).between line run r has small size next most told m so_far tame) (order_run_law.between line run r has small size next (more_deliveries most) (more_than_one most) told m so_far) ((own_as_got lists).between line run r has small size next most told m so_far tame) (spared.between line run r has small size next most told m tame) (managed.between line run r has small size next most told m tame) (runs_named.between line run r has small size next most told m so_far);
 }

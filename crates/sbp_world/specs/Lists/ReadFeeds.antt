@@ -16,7 +16,8 @@ use Rattle.sbp_world.specs.Hosts.Runs.{IsRun, more_deliveries}
 use Rattle.sbp_world.specs.Lists.CarriedEnds.{RunWasRead}
 use Rattle.sbp_world.specs.Lists.FedRuns.{AreOthers, AreOwnOrOthers, RunIsSince}
 use Rattle.sbp_world.specs.Lists.OwnLogins.{IsTame}
-use Rattle.sbp_world.specs.Lists.OwnSince.{AllAwaited, AllElsewhereBut}
+use Rattle.sbp_world.specs.Lists.NobodyGots.{AllNobodyElsewhere}
+use Rattle.sbp_world.specs.Lists.OwnSince.{AllAwaited}
 
 pub record RunWasReadAndFed (start : List Disk) (past : List Moment) (i n k : ℕ) (bytes : List ℕ) : Type 0 where
   pub read : RunWasRead start past i n k
@@ -25,12 +26,12 @@ pub record RunWasReadAndFed (start : List Disk) (past : List Moment) (i n k : �
   -- as each packet was got since, the agent waited for an answer of the initiator
   pub small : since.fed.place < 8
   pub awaited : AllAwaited start i since.fed.place since.fed.later (since.fed.between ++ said (notes.Got since.fed.brought.response) ∷ since.fed.brought.earlier)
-  -- so what the target got since of the initiator is its agent's or begins elsewhere than in the ORB's slot, where what answers no agent does
-  pub own : (let behind = said (notes.Got since.fed.brought.response) ∷ since.fed.brought.earlier in AllElsewhereBut start i (slot_at past i n k) since.fed.later (since.fed.between ++ behind) → AreOwnOrOthers start i since.fed.place (slot_at past i n k) since.fed.later (since.fed.between ++ behind))
-  -- and what it got of the initiator before the agent turned to the ORB begins elsewhere than in its slot, where what answers no agent does
-  pub others : (let behind = said (notes.Got since.fed.brought.response) ∷ since.fed.brought.earlier in AllElsewhereBut start i (slot_at past i n k) since.fed.between behind → AreOthers i (slot_at past i n k) since.fed.between behind)
-  -- and the carried law holds of it, where what answers no agent does so
-  pub carried : (let behind = said (notes.Got since.fed.brought.response) ∷ since.fed.brought.earlier in AllElsewhereBut start i (slot_at past i n k) since.fed.between behind → AllElsewhereBut start i (slot_at past i n k) since.fed.later (since.fed.between ++ behind) → RunIsCarried start past i n k bytes)
+  -- so what the target got since of the initiator is its agent's or begins elsewhere than in the ORB's slot, where what answers nobody does
+  pub own : (let behind = said (notes.Got since.fed.brought.response) ∷ since.fed.brought.earlier in AllNobodyElsewhere start i (slot_at past i n k) since.fed.later (since.fed.between ++ behind) → AreOwnOrOthers start i since.fed.place (slot_at past i n k) since.fed.later (since.fed.between ++ behind))
+  -- and what it got of the initiator before the agent turned to the ORB begins elsewhere than in its slot, where what answers nobody does
+  pub others : (let behind = said (notes.Got since.fed.brought.response) ∷ since.fed.brought.earlier in AllNobodyElsewhere start i (slot_at past i n k) since.fed.between behind → AreOthers i (slot_at past i n k) since.fed.between behind)
+  -- and the carried law holds of it, where what answers nobody does so
+  pub carried : (let behind = said (notes.Got since.fed.brought.response) ∷ since.fed.brought.earlier in AllNobodyElsewhere start i (slot_at past i n k) since.fed.between behind → AllNobodyElsewhere start i (slot_at past i n k) since.fed.later (since.fed.between ++ behind) → RunIsCarried start past i n k bytes)
   -- it holds wherever what was got since is the agent's or begins elsewhere
   pub carried_own : (let behind = said (notes.Got since.fed.brought.response) ∷ since.fed.brought.earlier in AreOthers i (slot_at past i n k) since.fed.between behind → AreOwnOrOthers start i since.fed.place (slot_at past i n k) since.fed.later (since.fed.between ++ behind) → RunIsCarried start past i n k bytes)
 
