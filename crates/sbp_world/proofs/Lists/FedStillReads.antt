@@ -176,7 +176,7 @@ module _ (units ready : ℕ) (has : 0 < units) (start : List Disk) {past : List 
   by_main p b None e f = untrue f
   by_main p b (Some mine) e f = record { side = Main; mine = mine; waits = e; to = (waiting units ready has start w h site p b Main mine e).to }
 
-  pub awaits_before : (p : ℕ) → holds_read (agent_at T p).machine.phase ≡ true → Awaits start (initiator_in w) before p
+  awaits_before : (p : ℕ) → holds_read (agent_at T p).machine.phase ≡ true → Awaits start (initiator_in w) before p
   awaits_before p holds b =
       let a = agent_at T p in
       let d = desk_at w.target p in
@@ -199,7 +199,7 @@ module _ (units ready : ℕ) (has : 0 < units) (start : List Disk) {past : List 
       by_main p b a.main refl (is.main ∙ fits.main ∙ fed.sent p b open_there orb (sym (is.machine.ahead open_there) ∙ kept))
 
   -- and so they do as a line begins
-  pub awaits_in : (ms : List Moment) → over (target_at start ms) ≡ T → (terms ms).sent ≡ (terms before).sent → (p : ℕ) → holds_read (agent_at (over (target_at start ms)) p).machine.phase ≡ true → Awaits start (initiator_in w) ms p
+  awaits_in : (ms : List Moment) → over (target_at start ms) ≡ T → (terms ms).sent ≡ (terms before).sent → (p : ℕ) → holds_read (agent_at (over (target_at start ms)) p).machine.phase ≡ true → Awaits start (initiator_in w) ms p
   awaits_in ms same sent p holds b =
       let x = awaits_before p (ap (λ (t : Target). holds_read (agent_at t p).machine.phase) (sym same) ∙ holds) b in
       record {
@@ -209,7 +209,7 @@ module _ (units ready : ℕ) (has : 0 < units) (start : List Disk) {past : List 
         to = ap (λ (f : ℕ → Option Sending). receiver_in (f x.mine)) sent ∙ x.to;
       }
 
-  pub spares_in : (ms : List Moment) → over (target_at start ms) ≡ T → (terms ms).sent ≡ (terms before).sent → (p : ℕ) (orb : CommandOrb) → (agent_at (over (target_at start ms)) p).machine.ahead ≡ aheads.Kept orb → (offset : ℕ) → (agent_at (over (target_at start ms)) p).machine.orb.next ≡ At offset → Spares start (initiator_in w) ms p (aligned offset)
+  spares_in : (ms : List Moment) → over (target_at start ms) ≡ T → (terms ms).sent ≡ (terms before).sent → (p : ℕ) (orb : CommandOrb) → (agent_at (over (target_at start ms)) p).machine.ahead ≡ aheads.Kept orb → (offset : ℕ) → (agent_at (over (target_at start ms)) p).machine.orb.next ≡ At offset → Spares start (initiator_in w) ms p (aligned offset)
   spares_in ms same sent p orb kept offset next b =
       let x = spares_before p orb (ap (λ (t : Target). (agent_at t p).machine.ahead) (sym same) ∙ kept) b in
       record {
