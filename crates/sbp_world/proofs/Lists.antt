@@ -109,6 +109,7 @@ pub mod Joins
 pub mod Judging
 pub mod Kept
 pub mod KeptBrings
+pub mod KeptPhases
 pub mod KeptReplies
 pub mod KeptRuns
 pub mod KeptTurns
@@ -210,6 +211,7 @@ pub mod ManageWire
 pub mod ManageWrites
 pub mod ManageYoung
 pub mod ManagedGots
+pub mod NobodyGots
 pub mod Named
 pub mod NamedWrites
 pub mod Naming
@@ -422,6 +424,7 @@ pub mod ShortLines
 pub mod AnswerLengths
 pub mod LinedAppends
 pub mod AheadGots
+pub mod AheadOrbs
 pub mod AheadSince
 pub mod AheadWaits
 pub mod AnswerChecks

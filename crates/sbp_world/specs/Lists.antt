@@ -1,4 +1,5 @@
 pub mod AheadGots
+pub mod AheadOrbs
 pub mod Along
 pub mod AtGots
 pub mod AnswersCarried
@@ -39,6 +40,7 @@ pub mod EndsWell
 pub mod OrbNames
 pub mod ManagedFor
 pub mod ManagedGots
+pub mod NobodyGots
 pub mod Managing
 pub mod Names
 pub mod Needs

@@ -253,7 +253,7 @@ pub fn what_is_got_since_spares_the_orb_read_ahead()
 /// each run of an initiator that injected none, as the carried law has it, is the one behind which its agent turned to it, and as each
 /// packet was got since then the agent waited for an answer of the initiator: the buffer and the data of the command are those by all
 /// that the target got of the initiator since the response, where what it got before the agent turned to the ORB, and what answers no
-/// agent, begins elsewhere than in the ORB's slot.
+/// agent, begins elsewhere than in the ORB's slot; and where no initiator injected packets, wherever what answers nobody does.
 #[tactic(auto, using(crate::proofs::Lists::Clauses::feeds_law))]
 pub fn orbs_that_run_were_read_and_fed()
     ensures { ReadAndFedLaw }

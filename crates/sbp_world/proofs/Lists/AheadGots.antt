@@ -276,7 +276,7 @@ module _ (units ready : ℕ) (has : 0 < units) (start : List Disk) {past : List 
           (subst (λ (p : Purpose). AllElsewhere slot (cond (is_main_of p place) (moved_by (access_at t own) (payload_at t serial)) [])) (sym f) (of_main which f)))
 
       agent_elsewhere : (which : Which) → purpose_of T own ≡ for_agent other which → AllElsewhere slot (read_by t j serial (Some own))
-      agent_elsewhere which f = subst (λ so. AllElsewhere slot (read_by t j serial so)) closed (by (are_own_gots units ready has start w h site (q.lists (inl tame)) q.along tame place b wait.is_open serial own other slot which closed f))
+      agent_elsewhere which f = subst (λ so. AllElsewhere slot (read_by t j serial so)) closed (by (are_own_gots units ready has start w h site (q.lists (inl tame)) q.along place b wait.is_open (tame j) serial own other slot which closed f))
         where
           by : IsOwnOrOther start ms j place slot serial → AllElsewhere slot (read_by t j serial (answered_at t serial))
           by (inl e) = subst (AllElsewhere slot) (sym e) (of_agent which f)

@@ -1,14 +1,8 @@
 -- As each packet is got in a run in which no initiator injected packets, an agent that has an ORB which it read ahead waits for an answer of the initiator of its place.
 use Rattle.std.proofs.Common.{inl, ◌≡◌, ◌∙◌, refl, sym, ap, subst, ◌<◌, ℕ, is_some, Bool, true, false, List, ◌∷◌, Option, Some, None}
-use Rattle.command_agent.specs.declared.phase.Phase.{Phase}
-use Rattle.command_agent.specs.declared.phase.Phase.TheVariants as phases
-use Rattle.command_agent.specs.declared.phase.ReadAhead.TheVariants as aheads
 use Rattle.command_agent.specs.declared.step.Which.TheVariants.{Main}
 use Rattle.command_agent.specs.Machine.{Machine, is_sent}
-use Rattle.agent_laws.specs.Along.Along.{KnowsAhead, Progress}
-use Rattle.agent_laws.specs.Along.Lists.{OrbList}
-use Rattle.orb_layout.specs.declared.command.CommandOrb.{CommandOrb}
-use Rattle.orb_layout.specs.declared.pointer.OrbPointer.{OrbPointer}
+use Rattle.agent_laws.specs.Along.Along.{KnowsAhead}
 use Rattle.rbc_disk.specs.Disk.{Disk}
 use Rattle.sbp_journal.specs.Run.{Moment, asked}
 use Rattle.sbp_journal.specs.Transactions.{Sending}
@@ -41,6 +35,7 @@ use Rattle.sbp_world.proofs.Lists.Brought.{list}
 use Rattle.sbp_world.proofs.Lists.Courses.{EveryPlace, Keeps, at_between, at_lines, more_than_one}
 use Rattle.sbp_world.proofs.Lists.GotTurns.{got_turn}
 use Rattle.sbp_world.proofs.Lists.Judging.{goes_next}
+use Rattle.sbp_world.proofs.Lists.KeptPhases.{kept_idle, kept_sent}
 use Rattle.sbp_world.proofs.Lists.ListsProved.{closing}
 use Rattle.sbp_world.proofs.Lists.LiveRuns.{goes_tame}
 use Rattle.sbp_world.proofs.Lists.ManageSends.{opened_terms}
@@ -51,23 +46,6 @@ use Rattle.sbp_world.proofs.Lists.OrbWaits.{over_twice}
 use Rattle.sbp_world.proofs.Lists.Sites.{Site, waiting}
 use Rattle.sbp_world.proofs.Lists.StillRuns.{ground_everywhere}
 use Rattle.sbp_world.proofs.Lists.StillTurns.{Ground, site_at, unlisted_reads}
-
--- ---- phases
-kept_idle : {A : Type 0} (orb : CommandOrb) → aheads.Kept orb ≡ aheads.Idle → A
-kept_idle orb e = absurd (let no : aheads.Kept orb ≡ aheads.Idle = e in cc)
-
--- an ORB is read ahead while a main transaction is under way
-kept_sent : (phase : Phase) (l : OrbList) (p : Progress) (next : OrbPointer) (orb : CommandOrb) → KnowsAhead l p phase next (aheads.Kept orb) → is_sent phase ≡ true
-kept_sent phases.ReadingTable l p next orb k = refl
-kept_sent (phases.ReadingData wanted) l p next orb k = refl
-kept_sent phases.Answering l p next orb k = refl
-kept_sent phases.WritingStatus l p next orb k = refl
-kept_sent phases.Fetching l p next orb k = kept_idle orb k
-kept_sent phases.ReadingNext l p next orb k = kept_idle orb k
-kept_sent phases.WritingLastStatus l p next orb k = kept_idle orb k
-kept_sent phases.Reset l p next orb k = kept_idle orb k
-kept_sent phases.Suspended l p next orb k = kept_idle orb k
-kept_sent phases.Dead l p next orb k = kept_idle orb k
 
 record IsThere (x : Option ℕ) : Type 0 where
   pub serial : ℕ

@@ -115,7 +115,7 @@ pub since_law : RunsSinceLaw
 since_law = runs_since_law open_lists_law
 
 pub feeds_law : ReadAndFedLaw
-feeds_law = read_and_fed_law open_lists_law one_up
+feeds_law = read_and_fed_law open_lists_law one_up ahead_gots managed_gots
 
 -- how ORBs and their data were read
 pub brought_law : (line : ℕ) (run : Run) → IsRun run → 0 < run.units → run.units ≤ 4 → length run.start.disks ≡ run.units → IsTameOrFew (history_of line run) → AreBrought (injectors (history_of line run)) run.start.disks (history_of line run)

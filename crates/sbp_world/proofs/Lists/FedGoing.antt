@@ -36,7 +36,6 @@ use Rattle.sbp_world.proofs.Lists.FedFolds.{AreSo, AreStill, IsKept, Pends, over
 use Rattle.sbp_world.proofs.Lists.FedNotes.{managed_kept, note_kept, request_kept}
 use Rattle.sbp_world.proofs.Lists.FedPieces.{IsPiece, all_bytes, all_more, turn_more}
 use Rattle.sbp_world.proofs.Lists.FedSteps.{Feeding, Hears, IsFed, abort_feeds, ahead_steps, bell_feeds, late_feeds, lost_feeds, main_steps, new_feeds, point_feeds, reset_feeds, unheard_feeds}
-use Rattle.sbp_world.proofs.Lists.OrbReading.{ahead_more}
 use Rattle.sbp_bus.specs.Packets.{judged_note}
 use Rattle.sbp_journal.specs.declared.cause.Judged.{Judged}
 use Rattle.sbp_journal.specs.declared.cause.Judged.TheVariants as judgements
@@ -48,12 +47,13 @@ use Rattle.sbp_world.proofs.Lists.TurnReads.{Course, as_it_was, by_asked, by_jud
 use Rattle.sbp_world.proofs.Lists.WasReads.{each_at}
 
 -- ---- what is known of an agent, otherwise
-module _ (R S : ℕ → CommandOrb → Type 0) (T U : ℕ → CommandOrb → List Moved → Type 0) (m : Machine) (main : holds_read m.phase ≡ true → (reads : List Moved) → T m.present m.orb reads → U m.present m.orb reads) (ahead : (orb : CommandOrb) → m.ahead ≡ aheads.Kept orb → (offset : ℕ) → m.orb.next ≡ At offset → R (aligned offset) orb → S (aligned offset) orb) where
+module _ (R S : ℕ → CommandOrb → Type 0) (m : Machine) (ahead : (orb : CommandOrb) → m.ahead ≡ aheads.Kept orb → (offset : ℕ) → m.orb.next ≡ At offset → R (aligned offset) orb → S (aligned offset) orb) where
   ahead_so : (a : ReadAhead) → m.ahead ≡ a → ReadAheadOf R m.orb.next a → ReadAheadOf S m.orb.next a
   ahead_so aheads.Idle e r = tt
   ahead_so (aheads.UnderWay rung) e r = record { offset = r.offset; is = r.is }
   ahead_so (aheads.Kept orb) e r = record { offset = r.offset; is = r.is; read = ahead orb e r.offset r.is r.read }
 
+module _ (R S : ℕ → CommandOrb → Type 0) (T U : ℕ → CommandOrb → List Moved → Type 0) (m : Machine) (main : holds_read m.phase ≡ true → (reads : List Moved) → T m.present m.orb reads → U m.present m.orb reads) (ahead : (orb : CommandOrb) → m.ahead ≡ aheads.Kept orb → (offset : ℕ) → m.orb.next ≡ At offset → R (aligned offset) orb → S (aligned offset) orb) where
   pub fed_so : IsFed R T m → IsFed S U m
   fed_so h = record {
     main = record {
@@ -61,7 +61,7 @@ module _ (R S : ℕ → CommandOrb → Type 0) (T U : ℕ → CommandOrb → Lis
       tabling = λ e. let d = h.main.tabling e in record { turned = main (ap holds_read e) [] d.turned; empty = d.empty; reads = d.reads };
       filling = λ wanted e. let d = h.main.filling wanted e in record { tables = d.tables; pieces = d.pieces; turned = main (ap holds_read e) (d.tables ++ d.pieces) d.turned; table = d.table; bytes = d.bytes; turn = d.turn };
     };
-    ahead = ahead_so m.ahead refl h.ahead;
+    ahead = ahead_so R S m ahead m.ahead refl h.ahead;
     idle = h.idle;
   }
 
@@ -78,7 +78,7 @@ same_reads start (said note) n q later before = by note n
     by (notes.Got serial) n = absurd n
     by note n = refl
 
-module _ (start : List Disk) (Read : List Moment → ℕ → ℕ → CommandOrb → Type 0) (Turned : List Moment → ℕ → ℕ → CommandOrb → List Moved → Type 0) (Ready : List Moment → ℕ → Type 0) (turns : (past : List Moment) (q at : ℕ) (orb : CommandOrb) → Read past q at orb → Turned past q at orb []) (read_more : (m : Moment) (past : List Moment) (q at : ℕ) (orb : CommandOrb) → Read past q at orb → Read (m ∷ past) q at orb) (turned_more : (m : Moment) → IsNoGot m → (past : List Moment) (q at : ℕ) (orb : CommandOrb) (reads : List Moved) → Turned past q at orb reads → Turned (m ∷ past) q at orb reads) (turned_got : (serial : ℕ) (past : List Moment) (q at : ℕ) (orb : CommandOrb) (reads more : List Moved) → Ready past q → main_read start past q serial ≡ more → Turned past q at orb reads → Turned (said (notes.Got serial) ∷ past) q at orb (reads ++ more)) where
+module _ (start : List Disk) (Read : List Moment → ℕ → ℕ → CommandOrb → Type 0) (Turned : List Moment → ℕ → ℕ → CommandOrb → List Moved → Type 0) (Ready : List Moment → ℕ → Type 0) (Spare : List Moment → ℕ → ℕ → Type 0) (turns : (past : List Moment) (q at : ℕ) (orb : CommandOrb) → Read past q at orb → Turned past q at orb []) (read_more : (m : Moment) → IsNoGot m → (past : List Moment) (q at : ℕ) (orb : CommandOrb) → Read past q at orb → Read (m ∷ past) q at orb) (read_got : (serial : ℕ) (past : List Moment) (q at : ℕ) (orb : CommandOrb) → Spare past q at → Read past q at orb → Read (said (notes.Got serial) ∷ past) q at orb) (turned_more : (m : Moment) → IsNoGot m → (past : List Moment) (q at : ℕ) (orb : CommandOrb) (reads : List Moved) → Turned past q at orb reads → Turned (m ∷ past) q at orb reads) (turned_got : (serial : ℕ) (past : List Moment) (q at : ℕ) (orb : CommandOrb) (reads more : List Moved) → Ready past q → main_read start past q serial ≡ more → Turned past q at orb reads → Turned (said (notes.Got serial) ∷ past) q at orb (reads ++ more)) where
   abbrev pub Fed : List Moment → ℕ → Machine → Type 0
   Fed past q m = IsFed (Read past q) (Turned past q) m
 
@@ -101,17 +101,20 @@ module _ (start : List Disk) (Read : List Moment → ℕ → ℕ → CommandOrb 
   fed_more : (m : Moment) → IsNoGot m → (past : List Moment) (q : ℕ) (machine : Machine) → Fed past q machine → Fed (m ∷ past) q machine
   fed_more m n past q machine h =
       fed_so (Read past q) (Read (m ∷ past) q) (Turned past q) (Turned (m ∷ past) q) machine (λ holds reads. turned_more m n past q machine.present machine.orb reads)
-      (λ orb kept offset next. read_more m past q (aligned offset) orb) h
+      (λ orb kept offset next. read_more m n past q (aligned offset) orb) h
 
-  fed_same : (serial : ℕ) (past : List Moment) (q : ℕ) → main_read start past q serial ≡ [] → (machine : Machine) → (holds_read machine.phase ≡ true → Ready past q) → Fed past q machine → Fed (said (notes.Got serial) ∷ past) q machine
+  abbrev pub IsReady : List Moment → ℕ → Machine → Type 0
+  IsReady past q machine = (holds_read machine.phase ≡ true → Ready past q) × ((orb : CommandOrb) → machine.ahead ≡ aheads.Kept orb → (offset : ℕ) → machine.orb.next ≡ At offset → Spare past q (aligned offset))
+
+  fed_same : (serial : ℕ) (past : List Moment) (q : ℕ) → main_read start past q serial ≡ [] → (machine : Machine) → IsReady past q machine → Fed past q machine → Fed (said (notes.Got serial) ∷ past) q machine
   fed_same serial past q e machine ready h =
       let now = said (notes.Got serial) ∷ past in
-      fed_so (Read past q) (Read now q) (Turned past q) (Turned now q) machine (λ holds reads. turned_same serial past q (ready holds) e machine.present machine.orb reads)
-      (λ orb kept offset next. read_more (said (notes.Got serial)) past q (aligned offset) orb) h
+      fed_so (Read past q) (Read now q) (Turned past q) (Turned now q) machine (λ holds reads. turned_same serial past q (ready.0 holds) e machine.present machine.orb reads)
+      (λ orb kept offset next. read_got serial past q (aligned offset) orb (ready.1 orb kept offset next)) h
 
-  -- each agent that has its ORB and has not ended it is ready for an answer
+  -- each agent that has its ORB and has not ended it is ready for an answer, and so is one that has an ORB read ahead
   abbrev pub AreReady : List Moment → Type 0
-  AreReady past = (q : ℕ) → holds_read (agent_at (over (target_at start past)) q).machine.phase ≡ true → Ready past q
+  AreReady past = (q : ℕ) → IsReady past q (agent_at (over (target_at start past)) q).machine
 
   -- ---- a packet is got
   module _ (past : List Moment) (serial : ℕ) (waits : AreAskedAt start past) (brings : is_serial (receiver_in ((terms past).sent serial)) 0 ≡ true → GotBrings (Read (said (notes.Got serial) ∷ past)) (terms past) serial (over (target_at start past))) (ready : AreReady past) where
@@ -158,7 +161,7 @@ module _ (start : List Disk) (Read : List Moment → ℕ → ℕ → CommandOrb 
 
           tabled : (e : m.phase ≡ phases.ReadingTable) (bytes : List ℕ) → payload_of answer (8 * m.orb.data_size) ≡ Ok bytes → Turned now place m.present m.orb (record { offset = m.orb.descriptor; bytes = bytes } ∷ [])
           tabled e bytes f =
-              turned_got serial past place m.present m.orb [] (record { offset = m.orb.descriptor; bytes = bytes } ∷ []) (ready place (ap holds_read e)) (moved_is m.orb.descriptor (8 * m.orb.data_size) (ap (λ phase. main_ask phase m) e) bytes f)
+              turned_got serial past place m.present m.orb [] (record { offset = m.orb.descriptor; bytes = bytes } ∷ []) ((ready place).0 (ap holds_read e)) (moved_is m.orb.descriptor (8 * m.orb.data_size) (ap (λ phase. main_ask phase m) e) bytes f)
               ((h.agents place).main.tabling e).turned
 
           filled : (wanted : ℕ) (e : m.phase ≡ phases.ReadingData wanted) (bytes : List ℕ) → payload_of answer (chunk_of m (length m.payload) wanted).length ≡ Ok bytes → Feeding (Turned now place) m.present m.orb m.segments (m.payload ++ bytes) wanted
@@ -166,7 +169,7 @@ module _ (start : List Disk) (Read : List Moment → ℕ → ℕ → CommandOrb 
               let d = (h.agents place).main.filling wanted e in
               let taken = chunk_of m (length m.payload) wanted in
               let one : Moved = record { offset = taken.offset; bytes = bytes } in
-              let got = turned_got serial past place m.present m.orb (d.tables ++ d.pieces) (one ∷ []) (ready place (ap holds_read e)) (moved_is taken.offset taken.length (ap (λ phase. main_ask phase m) e) bytes f) d.turned in
+              let got = turned_got serial past place m.present m.orb (d.tables ++ d.pieces) (one ∷ []) ((ready place).0 (ap holds_read e)) (moved_is taken.offset taken.length (ap (λ phase. main_ask phase m) e) bytes f) d.turned in
               let piece : IsPiece m.segments (limit_of m.orb) wanted (length m.payload) one = record { offset = refl; size = (paid answer taken.length bytes f).size_is } in
               let at : length m.payload ≡ 0 + length (all_bytes d.pieces) = (let z = ap (λ (xs : List ℕ). length xs) d.bytes in omega (arith, z)) in
               record {
@@ -185,7 +188,7 @@ module _ (start : List Disk) (Read : List Moment → ℕ → ℕ → CommandOrb 
                 fetched = λ e. (x.main.fetching e, λ bytes f. (brings by_target own closed place Main purpose).main refl e bytes f);
                 tabled = λ e. let t = x.main.tabling e in (t.empty, (t.reads, tabled e));
                 filled = filled;
-                ahead = ahead_more (Read past place) (Read now place) (λ at orb b. read_more (said (notes.Got serial)) past place at orb b) m.orb.next m.ahead x.ahead;
+                ahead = ahead_so (Read past place) (Read now place) m (λ orb kept offset next. read_got serial past place (aligned offset) orb ((ready place).1 orb kept offset next)) m.ahead refl x.ahead;
                 idle = x.idle;
               }
 

@@ -67,11 +67,17 @@ module _ (start : List Disk) where
         reads_are = ap (λ xs. xs ++ more) t.reads_are ∙ ap (λ xs. own_reads start q t.later (t.between ++ said (notes.Got t.brought.response) ∷ t.brought.earlier) ++ xs) (sym e ∙ ap (λ ms. main_read start ms q serial) (sym t.is));
       }
 
-  more : (m : Moment) (past : List Moment) (q at : ℕ) (orb : CommandOrb) → IsBrought start past q at orb → IsBrought start (m ∷ past) q at orb
-  more m past q at orb b = brought_more start m past q at orb b
+  abbrev Spare : List Moment → ℕ → ℕ → Type 0
+  Spare past q at = Unit {0}
+
+  more : (m : Moment) → IsNoGot m → (past : List Moment) (q at : ℕ) (orb : CommandOrb) → IsBrought start past q at orb → IsBrought start (m ∷ past) q at orb
+  more m n past q at orb b = brought_more start m past q at orb b
+
+  more_got : (serial : ℕ) (past : List Moment) (q at : ℕ) (orb : CommandOrb) → Unit {0} → IsBrought start past q at orb → IsBrought start (said (notes.Got serial) ∷ past) q at orb
+  more_got serial past q at orb spare b = brought_more start (said (notes.Got serial)) past q at orb b
 
   pub kept : (past : List Moment) → IsKept (Fed past)
-  kept past = going.kept start (IsBrought start) (IsTurned start) Ready turns_to more turned_more turned_got past
+  kept past = going.kept start (IsBrought start) (IsTurned start) Ready Spare turns_to more more_got turned_more turned_got past
 
   -- ---- a packet is got, the answer to a main request
   module _ (past : List Moment) (serial : ℕ) (waits : AreAskedAt start past) (by_target : is_serial (receiver_in ((terms past).sent serial)) 0 ≡ true) (own : ℕ) (closed : answered_at (terms past) serial ≡ Some own) (place : ℕ) (h : AreStill (Fed past) (over (target_at start past))) (purpose : purpose_of (over (target_at start past)) own ≡ for_agent place Main) where
@@ -79,15 +85,15 @@ module _ (start : List Disk) where
     now = said (notes.Got serial) ∷ past
 
     pub hears : Hears (IsBrought start now place) (IsTurned start now place) (turns_to now place) (agent_at (over (target_at start past)) place).machine (answer_in (packet_at (terms past) serial))
-    hears = going.hears start (IsBrought start) (IsTurned start) Ready turns_to more turned_more turned_got past serial waits (got_brings start past serial waits) (λ q holds. tt) by_target own closed place h purpose
+    hears = going.hears start (IsBrought start) (IsTurned start) Ready Spare turns_to more more_got turned_more turned_got past serial waits (got_brings start past serial waits) (λ q. ((λ holds. tt), (λ orb kept offset next. tt))) by_target own closed place h purpose
 
   -- ---- at each moment
-  if_brings : (note : Note) (past : List Moment) → AskedAsGot start (said note) past → going.IfBrings start (IsBrought start) (IsTurned start) Ready turns_to more turned_more turned_got note past
+  if_brings : (note : Note) (past : List Moment) → AskedAsGot start (said note) past → going.IfBrings start (IsBrought start) (IsTurned start) Ready Spare turns_to more more_got turned_more turned_got note past
   if_brings (notes.Got serial) past waits = got_brings start past serial waits
   if_brings note past waits = tt
 
-  if_ready : (note : Note) (past : List Moment) → going.IfReady start (IsBrought start) (IsTurned start) Ready turns_to more turned_more turned_got note past
-  if_ready (notes.Got serial) past = λ q holds. tt
+  if_ready : (note : Note) (past : List Moment) → going.IfReady start (IsBrought start) (IsTurned start) Ready Spare turns_to more more_got turned_more turned_got note past
+  if_ready (notes.Got serial) past = λ q. ((λ holds. tt), (λ orb kept offset next. tt))
   if_ready note past = tt
 
   pub feeding : (past : List Moment) → EachMoment (AskedAsGot start) past → AreSo (Fed past) (target_at start past)
@@ -96,6 +102,6 @@ module _ (start : List Disk) where
     pending = λ reply e. none_is reply e;
   }
   feeding (asked line event ∷ past) h =
-      going.on_asked start (IsBrought start) (IsTurned start) Ready turns_to more turned_more turned_got line event past
-      (going.over_now start (IsBrought start) (IsTurned start) Ready turns_to more turned_more turned_got past (feeding past h.1))
-  feeding (said note ∷ past) h = going.on_note start (IsBrought start) (IsTurned start) Ready turns_to more turned_more turned_got note past h.0 (if_brings note past h.0) (if_ready note past) (feeding past h.1)
+      going.on_asked start (IsBrought start) (IsTurned start) Ready Spare turns_to more more_got turned_more turned_got line event past
+      (going.over_now start (IsBrought start) (IsTurned start) Ready Spare turns_to more more_got turned_more turned_got past (feeding past h.1))
+  feeding (said note ∷ past) h = going.on_note start (IsBrought start) (IsTurned start) Ready Spare turns_to more more_got turned_more turned_got note past h.0 (if_brings note past h.0) (if_ready note past) (feeding past h.1)

@@ -14,6 +14,7 @@ use Rattle.sbp_journal.specs.declared.note.Note.{Note}
 use Rattle.sbp_journal.specs.declared.note.Note.TheVariants as notes
 use Rattle.sbp_laws.specs.CarriedBytes.{Moved}
 use Rattle.sbp_world.specs.Agents.Alike.{has_list, moves_data}
+use Rattle.sbp_world.specs.Lists.AheadOrbs.{AllAhead, HasOrbAhead}
 use Rattle.sbp_world.specs.Lists.FedRuns.{main_read, own_reads}
 use Rattle.sbp_world.specs.Lists.OwnSince.{AllAwaited, IsAwaited}
 use Rattle.sbp_world.proofs.Lists.FedGoing.{IsNoGot, same_reads}
@@ -21,19 +22,6 @@ use Rattle.sbp_world.proofs.Lists.FedSteps.{Feeding, Hears, IsFed, Tabling, none
 use Rattle.sbp_world.proofs.Lists.ManageTerms.{untrue}
 use Rattle.sbp_world.proofs.Lists.OrbReading.{ahead_more}
 use Rattle.sbp_world.proofs.Lists.OrbSteps.{ReadAheadOf, has_read}
-
--- ---- a response brought an ORB
--- `Known` of it, as it was got
-module _ (start : List Disk) (Known : ℕ → ℕ → CommandOrb → ℕ → List Moment → Type 0) where
-  pub record ReadBy (past : List Moment) (place at : ℕ) (orb : CommandOrb) : Type 0 where
-    pub response : ℕ
-    pub earlier : List Moment
-    pub later : List Moment
-    pub is : later ++ said (notes.Got response) ∷ earlier ≡ past
-    pub known : Known place at orb response earlier
-
-  pub read_on : (m : Moment) (past : List Moment) (place at : ℕ) (orb : CommandOrb) → ReadBy past place at orb → ReadBy (m ∷ past) place at orb
-  read_on m past place at orb r = record { response = r.response; earlier = r.earlier; later = m ∷ r.later; is = ap (λ ms. m ∷ ms) r.is; known = r.known }
 
 -- ---- the agent of a place waits for an answer of the initiator that has the place
 abbrev pub Awaits : List Disk → (ℕ → ℕ → Type 0) → List Moment → ℕ → Type 0
@@ -47,6 +35,39 @@ same_awaited start (said note) n i place later before a = by note n
     by (notes.Got serial) n = absurd n
     by note n = a
 
+-- and it has an ORB read ahead
+abbrev pub Spares : List Disk → (ℕ → ℕ → Type 0) → List Moment → ℕ → ℕ → Type 0
+Spares start Owner past place at = (i : ℕ) → Owner place i → HasOrbAhead start past i place at
+
+same_ahead : (start : List Disk) (m : Moment) → IsNoGot m → (i place at : ℕ) (later before : List Moment) → AllAhead start i place at later before → AllAhead start i place at (m ∷ later) before
+same_ahead start (asked line event) n i place at later before a = a
+same_ahead start (said note) n i place at later before a = by note n
+  where
+    by : (note : Note) → IsNoGot (said note) → AllAhead start i place at (said note ∷ later) before
+    by (notes.Got serial) n = absurd n
+    by note n = a
+
+-- ---- a response brought an ORB
+-- `Known` of it, as it was got
+module _ (start : List Disk) (Known : ℕ → ℕ → CommandOrb → ℕ → List Moment → Type 0) (Owner : ℕ → ℕ → Type 0) where
+  -- and the agent had it read ahead as each packet was got since
+  pub record ReadBy (past : List Moment) (place at : ℕ) (orb : CommandOrb) : Type 0 where
+    pub response : ℕ
+    pub earlier : List Moment
+    pub later : List Moment
+    pub is : later ++ said (notes.Got response) ∷ earlier ≡ past
+    pub known : Known place at orb response earlier
+    pub ahead : (i : ℕ) → Owner place i → AllAhead start i place at later (said (notes.Got response) ∷ earlier)
+
+  pub read_on : (m : Moment) → IsNoGot m → (past : List Moment) (place at : ℕ) (orb : CommandOrb) → ReadBy past place at orb → ReadBy (m ∷ past) place at orb
+  read_on m n past place at orb r =
+      record { response = r.response; earlier = r.earlier; later = m ∷ r.later; is = ap (λ ms. m ∷ ms) r.is; known = r.known; ahead = λ i own. same_ahead start m n i place at r.later _ (r.ahead i own) }
+
+  pub read_by_got : (serial : ℕ) (past : List Moment) (place at : ℕ) (orb : CommandOrb) → Spares start Owner past place at → ReadBy past place at orb → ReadBy (said (notes.Got serial) ∷ past) place at orb
+  read_by_got serial past place at orb spares r =
+      let m = said (notes.Got serial) in
+      record { response = r.response; earlier = r.earlier; later = m ∷ r.later; is = ap (λ ms. m ∷ ms) r.is; known = r.known; ahead = λ i own. (subst (λ ms. HasOrbAhead start ms i place at) (sym r.is) (spares i own), r.ahead i own) }
+
 module _ (start : List Disk) (Known : ℕ → ℕ → CommandOrb → ℕ → List Moment → Type 0) (Owner : ℕ → ℕ → Type 0) where
   -- the agent turned to an ORB that a response brought, and its reads brought these since; and it waited for its initiator as each packet was got
   pub record TurnedBy (past : List Moment) (place at : ℕ) (orb : CommandOrb) (reads : List Moved) : Type 0 where
@@ -58,9 +79,10 @@ module _ (start : List Disk) (Known : ℕ → ℕ → CommandOrb → ℕ → Lis
     pub reads_are : reads ≡ own_reads start place later (between ++ said (notes.Got response) ∷ earlier)
     pub known : Known place at orb response earlier
     pub awaited : (i : ℕ) → Owner place i → AllAwaited start i place later (between ++ said (notes.Got response) ∷ earlier)
+    pub ahead : (i : ℕ) → Owner place i → AllAhead start i place at between (said (notes.Got response) ∷ earlier)
 
-  pub turns_by : (past : List Moment) (place at : ℕ) (orb : CommandOrb) → ReadBy start Known past place at orb → TurnedBy past place at orb []
-  turns_by past place at orb r = record { response = r.response; earlier = r.earlier; later = []; between = r.later; is = r.is; reads_are = refl; known = r.known; awaited = λ i own. tt }
+  pub turns_by : (past : List Moment) (place at : ℕ) (orb : CommandOrb) → ReadBy start Known Owner past place at orb → TurnedBy past place at orb []
+  turns_by past place at orb r = record { response = r.response; earlier = r.earlier; later = []; between = r.later; is = r.is; reads_are = refl; known = r.known; awaited = λ i own. tt; ahead = r.ahead }
 
   pub turned_on : (m : Moment) → IsNoGot m → (past : List Moment) (place at : ℕ) (orb : CommandOrb) (reads : List Moved) → TurnedBy past place at orb reads → TurnedBy (m ∷ past) place at orb reads
   turned_on m n past place at orb reads t = record {
@@ -72,6 +94,7 @@ module _ (start : List Disk) (Known : ℕ → ℕ → CommandOrb → ℕ → Lis
     reads_are = t.reads_are ∙ sym (same_reads start m n place t.later _);
     known = t.known;
     awaited = λ i own. same_awaited start m n i place t.later _ (t.awaited i own);
+    ahead = t.ahead;
   }
 
   pub turned_by_got : (serial : ℕ) (past : List Moment) (place at : ℕ) (orb : CommandOrb) (reads more : List Moved) → Awaits start Owner past place → main_read start past place serial ≡ more → TurnedBy past place at orb reads → TurnedBy (said (notes.Got serial) ∷ past) place at orb (reads ++ more)
@@ -86,6 +109,7 @@ module _ (start : List Disk) (Known : ℕ → ℕ → CommandOrb → ℕ → Lis
         reads_are = ap (λ xs. xs ++ more) t.reads_are ∙ ap (λ xs. own_reads start place t.later (t.between ++ said (notes.Got t.response) ∷ t.earlier) ++ xs) (sym e ∙ ap (λ ms. main_read start ms place serial) (sym t.is));
         known = t.known;
         awaited = λ i own. (subst (λ ms. IsAwaited start ms i place) (sym t.is) (waits i own), t.awaited i own);
+        ahead = t.ahead;
       }
 
 -- ---- agents that are alike
@@ -107,7 +131,7 @@ module _ (R : ℕ → CommandOrb → Type 0) (T : ℕ → CommandOrb → List Mo
   }
 
 -- without a list it waits for no data, and has none
-unlisted : (phase : Phase) → has_list phase ≡ false → (awaits_run phase ≡ false) × (has_read phase ≡ false)
+pub unlisted : (phase : Phase) → has_list phase ≡ false → (awaits_run phase ≡ false) × (has_read phase ≡ false)
 unlisted phases.Reset e = (refl, refl)
 unlisted phases.Dead e = (refl, refl)
 unlisted phases.Fetching e = untrue (sym e)

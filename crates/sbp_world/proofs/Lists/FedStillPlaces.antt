@@ -38,8 +38,8 @@ use Rattle.sbp_world.specs.Lists.OrbNames.{AreLed}
 use Rattle.sbp_laws.specs.Lists.{prepared_in}
 use Rattle.sbp_world.proofs.Lists.FedGoing as going
 use Rattle.sbp_world.proofs.Lists.FedPlaces.{alike_hears}
-use Rattle.sbp_world.proofs.Lists.FedStill.{Awaits, ReadBy, TurnedBy, hears_so, read_on, turned_by_got, turned_on, turns_by}
-use Rattle.sbp_world.proofs.Lists.FedStillReads.{AreFedStill, Fed as FedHad, IsOwner, K, KnownHad, awaits_in, fed_before, got_read, read_known, turned_known}
+use Rattle.sbp_world.proofs.Lists.FedStill.{Awaits, ReadBy, Spares, TurnedBy, hears_so, read_by_got, read_on, turned_by_got, turned_on, turns_by}
+use Rattle.sbp_world.proofs.Lists.FedStillReads.{AreFedStill, Fed as FedHad, IsOwner, K, KnownHad, fed_before, got_read, read_known, ready_in, turned_known}
 use Rattle.sbp_world.proofs.Lists.FedFolds as folds
 use Rattle.sbp_world.proofs.Lists.LedRuns.{got_just, led_asked}
 use Rattle.sbp_world.proofs.Lists.OrbPlaces.{by_target, calm_from, closes, request}
@@ -47,7 +47,7 @@ use Rattle.sbp_world.proofs.Lists.Sites.{Site}
 
 -- of the answer to the main transaction of an agent, as it is got
 pub record HasFed (start : List Disk) (past : List Moment) (w : WorldState) : Type 0 where
-  pub hears : (serial : ℕ) (sent : Sent) → found_sent serial w.store.kept ≡ Some sent → sent.to ≡ 0 → (packet : Packet) (label : LabelParts) (place : ℕ) → (judging_step w.target.layer sent.generation sent.bytes).0 ≡ of_response packet label (Some (purposes.Agent place)) → which_in (desk_at w.target place) (header_in packet).source label ≡ Some Main → place < 8 → IsCalm past (initiator_in w place) → has_list (machine_at w place).phase ≡ true → (let now = said (notes.Got serial) ∷ past in Hears (ReadBy start (KnownHad start now past w) now place) (TurnedBy start (KnownHad start now past w) (IsOwner past w) now place) (turns_by start (KnownHad start now past w) (IsOwner past w) now place) (machine_at w place) (answer_in packet))
+  pub hears : (serial : ℕ) (sent : Sent) → found_sent serial w.store.kept ≡ Some sent → sent.to ≡ 0 → (packet : Packet) (label : LabelParts) (place : ℕ) → (judging_step w.target.layer sent.generation sent.bytes).0 ≡ of_response packet label (Some (purposes.Agent place)) → which_in (desk_at w.target place) (header_in packet).source label ≡ Some Main → place < 8 → IsCalm past (initiator_in w place) → has_list (machine_at w place).phase ≡ true → (let now = said (notes.Got serial) ∷ past in Hears (ReadBy start (KnownHad start now past w) (IsOwner past w) now place) (TurnedBy start (KnownHad start now past w) (IsOwner past w) now place) (turns_by start (KnownHad start now past w) (IsOwner past w) now place) (machine_at w place) (answer_in packet))
 
 module _ (units ready : ℕ) (has : 0 < units) (start : List Disk) {past : List Moment} {lines : ℕ} (w : WorldState) (h : Holding units ready start past lines w) (s : Site start past w) (each : EachMoment (AskedAsGot start) (hist past w)) (led : AreLed start (hist past w)) (fed : AreFedStill start (hist past w) w) where
   abbrev ms : List Moment
@@ -58,7 +58,7 @@ module _ (units ready : ℕ) (has : 0 < units) (start : List Disk) {past : List 
 
   -- there, or as a line begins there
   module _ (here : List Moment) (front : List Moment) (is : front ++ ms ≡ here) (v : WorldState) (owners : (p : ℕ) → initiator_in w p ≡ initiator_in v p) (known : (now : List Moment) (place at : ℕ) (orb : CommandOrb) (response : ℕ) (earlier : List Moment) → KnownHad start now ms w place at orb response earlier → KnownHad start now here v place at orb response earlier) (waits : AreAskedAt start here) (led_here : AreLed start here) (over_here : (now : List Moment) (back : List Moment) (behind : back ++ ms ≡ now) → folds.AreStill (FedHad units ready has start w h s each fed now back behind here) (over (target_at start here))) (same_target : over (target_at start here) ≡ T) (same_sent : (terms here).sent ≡ (terms ms).sent) (same_answered : (serial : ℕ) → laws.answered_at (terms here) serial ≡ laws.answered_at (terms ms) serial) (same_prepared : (i slot : ℕ) → prepared_in here i slot ≡ prepared_in ms i slot) (calm_there : (i : ℕ) → IsCalm here i → IsCalm ms i) (calm_here : (i : ℕ) → IsCalm ms i → IsCalm here i) where
-    heard : (serial : ℕ) (sent : Sent) → found_sent serial w.store.kept ≡ Some sent → sent.to ≡ 0 → (packet : Packet) (label : LabelParts) (place : ℕ) → (judging_step w.target.layer sent.generation sent.bytes).0 ≡ of_response packet label (Some (purposes.Agent place)) → which_in (desk_at w.target place) (header_in packet).source label ≡ Some Main → place < 8 → IsCalm here (initiator_in w place) → has_list (machine_at w place).phase ≡ true → (let now = said (notes.Got serial) ∷ here in Hears (ReadBy start (KnownHad start now here v) now place) (TurnedBy start (KnownHad start now here v) (IsOwner here v) now place) (turns_by start (KnownHad start now here v) (IsOwner here v) now place) (machine_at w place) (answer_in packet))
+    heard : (serial : ℕ) (sent : Sent) → found_sent serial w.store.kept ≡ Some sent → sent.to ≡ 0 → (packet : Packet) (label : LabelParts) (place : ℕ) → (judging_step w.target.layer sent.generation sent.bytes).0 ≡ of_response packet label (Some (purposes.Agent place)) → which_in (desk_at w.target place) (header_in packet).source label ≡ Some Main → place < 8 → IsCalm here (initiator_in w place) → has_list (machine_at w place).phase ≡ true → (let now = said (notes.Got serial) ∷ here in Hears (ReadBy start (KnownHad start now here v) (IsOwner here v) now place) (TurnedBy start (KnownHad start now here v) (IsOwner here v) now place) (turns_by start (KnownHad start now here v) (IsOwner here v) now place) (machine_at w place) (answer_in packet))
     heard serial sent found zero_to packet label place e is_which b calm open_there =
         let now = said (notes.Got serial) ∷ here in
         let back = said (notes.Got serial) ∷ front in
@@ -74,13 +74,13 @@ module _ (units ready : ℕ) (has : 0 < units) (start : List Disk) {past : List 
         let by_target = ap (λ (f : ℕ → Option Sending). is_serial (receiver_in (f serial)) 0) same_sent ∙ by_target units ready has start w h s serial sent found zero_to packet label place Main e is_which b quiet in
         let told = ap (λ (f : ℕ → Option Sending). laws.answer_in (laws.packet_in (f serial))) same_sent
         ∙ tells units ready has start w h s.agents.requests s.agents.are s.agents.known s.asked serial sent found zero_to packet label place e from in
-        alike_hears (ReadBy start N now place) (TurnedBy start N (IsOwner here v) now place) (turns_by start N (IsOwner here v) now place) a.untold a.machine (machine_at w place) alike open_there (laws.answer_in (laws.packet_at (terms here) serial)) (answer_in packet) told
-        (hears_so (ReadBy start J now place) (ReadBy start N now place) (TurnedBy start J (IsOwner ms w) now place) (TurnedBy start N (IsOwner here v) now place) (turns_by start J (IsOwner ms w) now place) (turns_by start N (IsOwner here v) now place) a.machine (laws.answer_in (laws.packet_at (terms here) serial))
-        (λ at orb. read_known start now place J N at orb (λ response earlier k. known now place at orb response earlier (k b quiet)))
+        alike_hears (ReadBy start N (IsOwner here v) now place) (TurnedBy start N (IsOwner here v) now place) (turns_by start N (IsOwner here v) now place) a.untold a.machine (machine_at w place) alike open_there (laws.answer_in (laws.packet_at (terms here) serial)) (answer_in packet) told
+        (hears_so (ReadBy start J (IsOwner ms w) now place) (ReadBy start N (IsOwner here v) now place) (TurnedBy start J (IsOwner ms w) now place) (TurnedBy start N (IsOwner here v) now place) (turns_by start J (IsOwner ms w) now place) (turns_by start N (IsOwner here v) now place) a.machine (laws.answer_in (laws.packet_at (terms here) serial))
+        (λ at orb. read_known start now place J N (IsOwner ms w) (IsOwner here v) (λ i own. record { small = own.small; calm = calm_there i own.calm; is = owners place ∙ own.is }) at orb (λ response earlier k. known now place at orb response earlier (k b quiet)))
         (λ at orb reads. turned_known start now place J N (IsOwner ms w) (IsOwner here v) (λ i own. record { small = own.small; calm = calm_there i own.calm; is = owners place ∙ own.is }) at orb reads (λ response earlier k. known now place at orb response earlier (k b quiet)))
-        (going.hears start (ReadBy start J) (TurnedBy start J (IsOwner ms w)) (Awaits start (IsOwner ms w)) (turns_by start J (IsOwner ms w)) (read_on start J) (turned_on start J (IsOwner ms w)) (turned_by_got start J (IsOwner ms w)) here serial waits
+        (going.hears start (ReadBy start J (IsOwner ms w)) (TurnedBy start J (IsOwner ms w)) (Awaits start (IsOwner ms w)) (Spares start (IsOwner ms w)) (turns_by start J (IsOwner ms w)) (read_on start J (IsOwner ms w)) (read_by_got start J (IsOwner ms w)) (turned_on start J (IsOwner ms w)) (turned_by_got start J (IsOwner ms w)) here serial waits
         (λ f. got_read units ready has start w h s each fed now back behind here same_target same_sent same_prepared calm_here serial [] refl (got_just start here serial waits led_here f))
-        (awaits_in units ready has start w h s each fed now back behind here same_target same_sent)
+        (ready_in units ready has start w h s each fed now back behind here same_target same_sent)
         by_target own (same_answered serial ∙ closes units ready has start w h s serial sent found zero_to packet label place Main e is_which b quiet) place (over_here now back behind)
         (subst (λ (x : Target). purpose_of x own ≡ for_agent place Main) (sym same_target) (purpose_so units ready has start w h s.agents.requests s.agents.are s.agents.known s.asked serial sent found zero_to packet label place e Main is_which))))
 
@@ -99,8 +99,8 @@ module _ (units ready : ℕ) (has : 0 < units) (start : List Disk) {past : List 
       waits (led_asked start line event ms led)
       (λ now back behind.
       let J = K units ready has start w h s each fed now back behind in
-      going.over_now start (ReadBy start J) (TurnedBy start J (IsOwner ms w)) (Awaits start (IsOwner ms w)) (turns_by start J (IsOwner ms w)) (read_on start J) (turned_on start J (IsOwner ms w)) (turned_by_got start J (IsOwner ms w)) here
-      (going.on_asked start (ReadBy start J) (TurnedBy start J (IsOwner ms w)) (Awaits start (IsOwner ms w)) (turns_by start J (IsOwner ms w)) (read_on start J) (turned_on start J (IsOwner ms w)) (turned_by_got start J (IsOwner ms w)) line event ms (fed_before units ready has start w h s each fed now back behind)))
+      going.over_now start (ReadBy start J (IsOwner ms w)) (TurnedBy start J (IsOwner ms w)) (Awaits start (IsOwner ms w)) (Spares start (IsOwner ms w)) (turns_by start J (IsOwner ms w)) (read_on start J (IsOwner ms w)) (read_by_got start J (IsOwner ms w)) (turned_on start J (IsOwner ms w)) (turned_by_got start J (IsOwner ms w)) here
+      (going.on_asked start (ReadBy start J (IsOwner ms w)) (TurnedBy start J (IsOwner ms w)) (Awaits start (IsOwner ms w)) (Spares start (IsOwner ms w)) (turns_by start J (IsOwner ms w)) (read_on start J (IsOwner ms w)) (read_by_got start J (IsOwner ms w)) (turned_on start J (IsOwner ms w)) (turned_by_got start J (IsOwner ms w)) line event ms (fed_before units ready has start w h s each fed now back behind)))
       (over_twice (target_at start ms)) (ap (λ (y : Terms). y.sent) same)
       (λ serial. ap (λ (y : Terms). laws.answered_at y serial) same ∙ answered_same (terms ms) r ((terms ms).sent serial)) (λ i slot. refl) (λ i c. asked_calm line event ms i c) (λ i c. calm_asked line event ms i c) in
       record { hears = f }

@@ -1,11 +1,13 @@
 -- What is known of the response that brought an ORB which an agent has: it is the one prepared last in its slot still; so it is as a turn begins, and of what a packet brings in it.
-use Rattle.std.proofs.Common.{arith, ◌≡◌, ◌∙◌, refl, sym, ap, subst, ◌<◌, ◌≤◌, ℕ, suc, nat_lt, is_some, Bool, true, false, List, ◌∷◌, ◌++◌, Option, Some, None}
+use Rattle.std.proofs.Common.{arith, ◌≡◌, ◌∙◌, refl, sym, ap, subst, ◌<◌, ◌≤◌, ℕ, suc, nat_lt, is_some, Bool, true, false, length, length-append, List, [], ◌∷◌, ◌++◌, Option, Some, None}
 use Rattle.std.proofs.lemmas.Bool.Decides.{nat_tests}
 use Rattle.command_agent.specs.declared.phase.Phase.{Phase}
 use Rattle.command_agent.specs.declared.phase.Phase.TheVariants as phases
+use Rattle.command_agent.specs.declared.phase.ReadAhead.TheVariants as aheads
 use Rattle.command_agent.specs.declared.step.Which.TheVariants.{Main}
 use Rattle.command_agent.specs.Machine.{Machine, aligned, is_sent}
 use Rattle.orb_layout.specs.declared.command.CommandOrb.{CommandOrb}
+use Rattle.orb_layout.specs.declared.pointer.OrbPointer.TheVariants.{At}
 use Rattle.rbc_disk.specs.Disk.{Disk}
 use Rattle.sbp_journal.specs.Run.{Moment, said}
 use Rattle.sbp_journal.specs.Transactions.{Sending}
@@ -27,6 +29,7 @@ use Rattle.sbp_world.specs.Agents.Crews.{IsOf}
 use Rattle.sbp_world.proofs.Agents.Purposes.{g}
 use Rattle.sbp_world.proofs.Agents.Management.Holding.{Holding}
 use Rattle.sbp_world.proofs.Agents.Management.Still.{hist}
+use Rattle.sbp_world.specs.Lists.AheadOrbs.{AllAhead}
 use Rattle.sbp_world.specs.Lists.Needs.{IsCalm, initiator_in, is_open_at, machine_at}
 use Rattle.sbp_world.specs.Lists.OrbNames.{IsJustBrought, IsStillBrought}
 use Rattle.sbp_world.specs.Lists.OwnSince.{IsAwaited}
@@ -36,7 +39,8 @@ use Rattle.sbp_world.proofs.Lists.FedReads as reads
 use Rattle.sbp_world.proofs.Lists.FedReads.{IsTurned, feeding}
 use Rattle.sbp_world.proofs.Lists.FedSteps.{IsFed}
 use Rattle.sbp_world.proofs.Lists.FedGoing.{fed_so}
-use Rattle.sbp_world.proofs.Lists.FedStill.{Awaits, ReadBy, TurnedBy, closed_feeds, fed_alike}
+use Rattle.sbp_world.proofs.Lists.FedStill.{Awaits, ReadBy, Spares, TurnedBy, closed_feeds, fed_alike, unlisted}
+use Rattle.sbp_world.proofs.Lists.KeptPhases.{kept_idle}
 use Rattle.sbp_world.proofs.Lists.ManageTerms.{untrue}
 use Rattle.sbp_world.proofs.Lists.OrbNotes.{GotBrings}
 use Rattle.sbp_world.proofs.Lists.OrbSteps.{holds_read}
@@ -65,15 +69,30 @@ pub record IsOwner (past : List Moment) (w : WorldState) (place i : ℕ) : Type 
 
 -- of each agent that has a list open of an initiator that injected no packets
 abbrev pub FedStill : List Disk → List Moment → WorldState → ℕ → Machine → Type 0
-FedStill start past w place m = IsFed (ReadBy start (KnownStill start past w) past place) (TurnedBy start (KnownStill start past w) (IsOwner past w) past place) m
+FedStill start past w place m = IsFed (ReadBy start (KnownStill start past w) (IsOwner past w) past place) (TurnedBy start (KnownStill start past w) (IsOwner past w) past place) m
 
-abbrev pub AreFedStill : List Disk → List Moment → WorldState → Type 0
-AreFedStill start past w = (place : ℕ) → place < 8 → is_open_at w place ≡ true → IsCalm past (initiator_in w place) → FedStill start past w place (machine_at w place)
+abbrev pub AllFedStill : List Disk → List Moment → WorldState → Type 0
+AllFedStill start past w = (place : ℕ) → place < 8 → is_open_at w place ≡ true → IsCalm past (initiator_in w place) → FedStill start past w place (machine_at w place)
+
+-- a main transaction of one that has an ORB read ahead is under way
+abbrev pub AreSentAhead : List Moment → WorldState → Type 0
+AreSentAhead past w = (place : ℕ) → place < 8 → is_open_at w place ≡ true → IsCalm past (initiator_in w place) → (orb : CommandOrb) → (machine_at w place).ahead ≡ aheads.Kept orb → is_sent (machine_at w place).phase ≡ true
+
+pub record AreFedStill (start : List Disk) (past : List Moment) (w : WorldState) : Type 0 where
+  pub fed : AllFedStill start past w
+  pub sent : AreSentAhead past w
 
 -- what is known of it otherwise
 module _ (start : List Disk) (past : List Moment) (place : ℕ) (J K : ℕ → ℕ → CommandOrb → ℕ → List Moment → Type 0) where
-  pub read_known : (at : ℕ) (orb : CommandOrb) → ((response : ℕ) (earlier : List Moment) → J place at orb response earlier → K place at orb response earlier) → ReadBy start J past place at orb → ReadBy start K past place at orb
-  read_known at orb f r = record { response = r.response; earlier = r.earlier; later = r.later; is = r.is; known = f r.response r.earlier r.known }
+  pub read_known : (Owner OwnerNow : ℕ → ℕ → Type 0) → ((i : ℕ) → OwnerNow place i → Owner place i) → (at : ℕ) (orb : CommandOrb) → ((response : ℕ) (earlier : List Moment) → J place at orb response earlier → K place at orb response earlier) → ReadBy start J Owner past place at orb → ReadBy start K OwnerNow past place at orb
+  read_known Owner OwnerNow owns at orb f r = record {
+    response = r.response;
+    earlier = r.earlier;
+    later = r.later;
+    is = r.is;
+    known = f r.response r.earlier r.known;
+    ahead = λ i own. r.ahead i (owns i own);
+  }
 
   pub turned_known : (Owner OwnerNow : ℕ → ℕ → Type 0) → ((i : ℕ) → OwnerNow place i → Owner place i) → (at : ℕ) (orb : CommandOrb) (reads : List Moved) → ((response : ℕ) (earlier : List Moment) → J place at orb response earlier → K place at orb response earlier) → TurnedBy start J Owner past place at orb reads → TurnedBy start K OwnerNow past place at orb reads
   turned_known Owner OwnerNow owns at orb reads known t = record {
@@ -85,6 +104,7 @@ module _ (start : List Disk) (past : List Moment) (place : ℕ) (J K : ℕ → �
     reads_are = t.reads_are;
     known = known t.response t.earlier t.known;
     awaited = λ i own. t.awaited i (owns i own);
+    ahead = λ i own. t.ahead i (owns i own);
   }
 
 holds_sent : (phase : Phase) → holds_read phase ≡ true → is_sent phase ≡ true
@@ -92,6 +112,14 @@ holds_sent phases.ReadingTable e = refl
 holds_sent (phases.ReadingData wanted) e = refl
 holds_sent phases.Answering e = refl
 holds_sent _ e = untrue e
+
+none_since : (x y : Moment) (earlier past later : List Moment) → later ++ x ∷ earlier ≡ y ∷ past → earlier ≡ past → later ≡ []
+none_since x y earlier past [] e same = refl
+none_since x y earlier past (m ∷ later) e same =
+    let tail : later ++ x ∷ earlier ≡ past = (let both : m ∷ (later ++ x ∷ earlier) ≡ y ∷ past = e in cc) in
+    let size = ap (λ (xs : List Moment). length xs) (tail ∙ sym same) in
+    let sum = length-append later (x ∷ earlier) in
+    absurd (omega (arith, size, sum))
 
 -- ---- as a turn begins, and what a packet brings in it
 module _ (units ready : ℕ) (has : 0 < units) (start : List Disk) {past : List Moment} {lines : ℕ} (w : WorldState) (h : Holding units ready start past lines w) (site : Site start past w) (asked_so : EachMoment (AskedAsGot start) (hist past w)) (fed : AreFedStill start (hist past w) w) (now : List Moment) (back : List Moment) (behind : back ++ hist past w ≡ now) where
@@ -105,7 +133,7 @@ module _ (units ready : ℕ) (has : 0 < units) (start : List Disk) {past : List 
   K p at orb response earlier = p < 8 → IsCalm before (initiator_in w p) → KnownHad start now before w p at orb response earlier
 
   abbrev pub R : List Moment → ℕ → ℕ → CommandOrb → Type 0
-  R ms p at orb = ReadBy start K ms p at orb
+  R ms p at orb = ReadBy start K (IsOwner before w) ms p at orb
 
   abbrev pub U : List Moment → ℕ → ℕ → CommandOrb → List Moved → Type 0
   U ms p at orb reads = TurnedBy start K (IsOwner before w) ms p at orb reads
@@ -126,14 +154,17 @@ module _ (units ready : ℕ) (has : 0 < units) (start : List Disk) {past : List 
       let a = (agent_at T p).machine in
       let m = machine_at w p in
       let alike = (site.agents.are.each p b).machine in
-      let here = fed_so (ReadBy start (KnownStill start before w) before p) (R before p) (TurnedBy start (KnownStill start before w) (IsOwner before w) before p) (U before p) m
+      let here = fed_so (ReadBy start (KnownStill start before w) (IsOwner before w) before p) (R before p) (TurnedBy start (KnownStill start before w) (IsOwner before w) before p) (U before p) m
       (λ holds reads. turned_known start before p (KnownStill start before w) K (IsOwner before w) (IsOwner before w) (λ i own. own) m.present m.orb reads (had_before p m.present m.orb))
-      (λ orb kept offset next. read_known start before p (KnownStill start before w) K (aligned offset) orb (had_before p (aligned offset) orb)) (fed p b e calm) in
+      (λ orb kept offset next. read_known start before p (KnownStill start before w) K (IsOwner before w) (IsOwner before w) (λ i own. own) (aligned offset) orb (had_before p (aligned offset) orb)) (fed.fed p b e calm) in
       fed_alike (R before p) (U before p) m a (sym alike.phase) (sym (alike.present e)) (sym (alike.orb e)) (sym (alike.payload e)) (λ f. sym (alike.segments (ap moves_data (sym alike.phase) ∙ f))) (sym (alike.ahead e)) here
 
   -- nothing is said of a place that there is not, or of an initiator that injected packets
+  none_owns : (p : ℕ) → (p < 8 → IsCalm before (initiator_in w p) → ⊥) → (i : ℕ) → IsOwner before w p i → ⊥
+  none_owns p none i own = none own.small (subst (IsCalm before) (sym own.is) own.calm)
+
   none_read : (p : ℕ) → (p < 8 → IsCalm before (initiator_in w p) → ⊥) → (at : ℕ) (orb : CommandOrb) → IsBrought start before p at orb → R before p at orb
-  none_read p none at orb b = record { response = b.response; earlier = b.earlier; later = b.later; is = b.is; known = λ small calm. absurd (none small calm) }
+  none_read p none at orb b = record { response = b.response; earlier = b.earlier; later = b.later; is = b.is; known = λ small calm. absurd (none small calm); ahead = λ i own. absurd (none_owns p none i own) }
 
   none_turned : (p : ℕ) → (p < 8 → IsCalm before (initiator_in w p) → ⊥) → (at : ℕ) (orb : CommandOrb) (reads : List Moved) → IsTurned start before p at orb reads → U before p at orb reads
   none_turned p none at orb reads t =
@@ -145,7 +176,8 @@ module _ (units ready : ℕ) (has : 0 < units) (start : List Disk) {past : List 
         is = t.is;
         reads_are = t.reads_are;
         known = λ small calm. absurd (none small calm);
-        awaited = λ i own. absurd (none own.small (subst (IsCalm before) (sym own.is) own.calm));
+        awaited = λ i own. absurd (none_owns p none i own);
+        ahead = λ i own. absurd (none_owns p none i own);
       }
 
   none_said : (p : ℕ) → (p < 8 → IsCalm before (initiator_in w p) → ⊥) → Fed before p (agent_at T p).machine
@@ -175,7 +207,7 @@ module _ (units ready : ℕ) (has : 0 < units) (start : List Disk) {past : List 
   by_main p b None e f = untrue f
   by_main p b (Some mine) e f = record { side = Main; mine = mine; waits = e; to = (waiting units ready has start w h site p b Main mine e).to }
 
-  pub awaits_before : (p : ℕ) → holds_read (agent_at T p).machine.phase ≡ true → Awaits start (IsOwner before w) before p
+  awaits_before : (p : ℕ) → holds_read (agent_at T p).machine.phase ≡ true → Awaits start (IsOwner before w) before p
   awaits_before p holds i own =
       let b = own.small in
       let a = agent_at T p in
@@ -184,8 +216,24 @@ module _ (units ready : ℕ) (has : 0 < units) (start : List Disk) {past : List 
       let fits : Fits d = (g units ready has start w h).mid.fits p b (not_eight p b) in
       subst (λ j. IsAwaited start before j p) own.is (by_main p b a.main refl (is.main ∙ fits.main ∙ holds_sent d.agent.phase (ap holds_read (sym is.machine.phase) ∙ holds)))
 
+  listed : (p : ℕ) → p < 8 → (orb : CommandOrb) → (agent_at T p).machine.ahead ≡ aheads.Kept orb → (x : Bool) → has_list (machine_at w p).phase ≡ x → x ≡ true
+  listed p b orb kept true e = refl
+  listed p b orb kept false e =
+      kept_idle orb (sym kept ∙ (all_before.agents p).idle ((unlisted (agent_at T p).machine.phase (ap has_list (site.agents.are.each p b).machine.phase ∙ e)).1))
+
+  spares_before : (p : ℕ) (orb : CommandOrb) → (agent_at T p).machine.ahead ≡ aheads.Kept orb → Awaits start (IsOwner before w) before p
+  spares_before p orb kept i own =
+      let b = own.small in
+      let calm : IsCalm before (initiator_in w p) = subst (IsCalm before) (sym own.is) own.calm in
+      let a = agent_at T p in
+      let d = desk_at w.target p in
+      let is : IsOf site.agents.requests a d = site.agents.are.each p b in
+      let fits : Fits d = (g units ready has start w h).mid.fits p b (not_eight p b) in
+      let open_there = listed p b orb kept (has_list (machine_at w p).phase) refl in
+      subst (λ j. IsAwaited start before j p) own.is (by_main p b a.main refl (is.main ∙ fits.main ∙ fed.sent p b open_there calm orb (sym (is.machine.ahead open_there) ∙ kept)))
+
   -- and so they do as a line begins
-  pub awaits_in : (ms : List Moment) → over (target_at start ms) ≡ T → (terms ms).sent ≡ (terms before).sent → (p : ℕ) → holds_read (agent_at (over (target_at start ms)) p).machine.phase ≡ true → Awaits start (IsOwner before w) ms p
+  awaits_in : (ms : List Moment) → over (target_at start ms) ≡ T → (terms ms).sent ≡ (terms before).sent → (p : ℕ) → holds_read (agent_at (over (target_at start ms)) p).machine.phase ≡ true → Awaits start (IsOwner before w) ms p
   awaits_in ms same sent p holds i own =
       let x = awaits_before p (ap (λ (t : Target). holds_read (agent_at t p).machine.phase) (sym same) ∙ holds) i own in
       record {
@@ -194,6 +242,27 @@ module _ (units ready : ℕ) (has : 0 < units) (start : List Disk) {past : List 
         waits = ap (λ (t : Target). serial_of x.side (agent_at t p)) same ∙ x.waits;
         to = ap (λ (f : ℕ → Option Sending). receiver_in (f x.mine)) sent ∙ x.to;
       }
+
+  spares_in : (ms : List Moment) → over (target_at start ms) ≡ T → (terms ms).sent ≡ (terms before).sent → (p : ℕ) (orb : CommandOrb) → (agent_at (over (target_at start ms)) p).machine.ahead ≡ aheads.Kept orb → (offset : ℕ) → (agent_at (over (target_at start ms)) p).machine.orb.next ≡ At offset → Spares start (IsOwner before w) ms p (aligned offset)
+  spares_in ms same sent p orb kept offset next i own =
+      let x = spares_before p orb (ap (λ (t : Target). (agent_at t p).machine.ahead) (sym same) ∙ kept) i own in
+      record {
+        awaited = record {
+          side = x.side;
+          mine = x.mine;
+          waits = ap (λ (t : Target). serial_of x.side (agent_at t p)) same ∙ x.waits;
+          to = ap (λ (f : ℕ → Option Sending). receiver_in (f x.mine)) sent ∙ x.to;
+        };
+        orb = orb;
+        kept = kept;
+        offset = offset;
+        next = next;
+        stands = refl;
+      }
+
+  -- ---- each is ready for an answer
+  pub ready_in : (ms : List Moment) → over (target_at start ms) ≡ T → (terms ms).sent ≡ (terms before).sent → (p : ℕ) → (holds_read (agent_at (over (target_at start ms)) p).machine.phase ≡ true → Awaits start (IsOwner before w) ms p) × ((orb : CommandOrb) → (agent_at (over (target_at start ms)) p).machine.ahead ≡ aheads.Kept orb → (offset : ℕ) → (agent_at (over (target_at start ms)) p).machine.orb.next ≡ At offset → Spares start (IsOwner before w) ms p (aligned offset))
+  ready_in ms same sent p = (awaits_in ms same sent p, spares_in ms same sent p)
 
   -- ---- what a packet brings
   module _ (ms : List Moment) (same : over (target_at start ms) ≡ T) (sent : (terms ms).sent ≡ (terms before).sent) (there : (i slot : ℕ) → prepared_in ms i slot ≡ prepared_in before i slot) (quiet : (i : ℕ) → IsCalm before i → IsCalm ms i) (serial : ℕ) (front : List Moment) (is : front ++ said (notes.Got serial) ∷ ms ≡ now) where
@@ -224,7 +293,14 @@ module _ (units ready : ℕ) (has : 0 < units) (start : List Disk) {past : List 
     just_read : (p : ℕ) (at : ℕ) (orb : CommandOrb) → IsJustBrought start ms serial p at orb → R (said (notes.Got serial) ∷ ms) p at orb
     just_read p at orb x =
         let y = x.from.brought in
-        record { response = y.response; earlier = y.earlier; later = y.later; is = y.is; known = λ b calm. just_known p b calm at orb x }
+        record {
+          response = y.response;
+          earlier = y.earlier;
+          later = y.later;
+          is = y.is;
+          known = λ b calm. just_known p b calm at orb x;
+          ahead = λ i own. subst (λ later. AllAhead start i p at later (said (notes.Got y.response) ∷ y.earlier)) (sym (none_since (said (notes.Got y.response)) (said (notes.Got serial)) y.earlier ms y.later y.is x.now)) tt;
+        }
 
     pub got_read : GotBrings (IsJustBrought start ms serial) (terms ms) serial (over (target_at start ms)) → GotBrings (R (said (notes.Got serial) ∷ ms)) (terms ms) serial (over (target_at start ms))
     got_read just own closed place which purpose =

@@ -39,7 +39,7 @@ all_fed units ready has start past s later t lines more g h h_now q q_now fed be
 
 -- in a new world no agent has a list
 first_fed : (start : List Disk) (run : Run) (ms : List Moment) → FedStillSo start ms (beginning run).world
-first_fed start run ms beside place small open_there calm = untrue (sym (first_closed run place) ∙ open_there)
+first_fed start run ms beside = record { fed = λ place small open_there calm. untrue (sym (first_closed run place) ∙ open_there); sent = λ place small open_there calm orb kept. untrue (sym (first_closed run place) ∙ open_there) }
 
 pub fed_everywhere : OpenListsLaw → EveryPlace FedStillSo
 fed_everywhere lists = record {

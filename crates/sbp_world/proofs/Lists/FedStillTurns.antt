@@ -28,7 +28,11 @@ use Rattle.sbp_world.proofs.Agents.Management.Holding.{Holding}
 use Rattle.sbp_world.proofs.Agents.Management.Still.{hist}
 use Rattle.sbp_world.proofs.Hosts.Carries.{IsNoAct}
 use Rattle.sbp_world.proofs.Hosts.StepLaws.{step_law}
-use Rattle.sbp_world.specs.Lists.Needs.{IsCalm, initiator_in, is_open_at, machine_at}
+use Rattle.agent_laws.specs.Along.Along.{KnowsAhead}
+use Rattle.sbp_world.specs.Lists.Along.{GoesAlong}
+use Rattle.sbp_world.specs.Lists.Needs.{IsCalm, IsOpenAt, initiator_in, is_open_at, machine_at}
+use Rattle.sbp_world.proofs.Lists.Brought.{list}
+use Rattle.sbp_world.proofs.Lists.KeptPhases.{kept_sent}
 use Rattle.sbp_world.specs.Lists.OrbNames.{AreLed, LedAsGot}
 use Rattle.sbp_world.specs.Lists.FewLogins.{IsTameOrFew}
 use Rattle.sbp_world.proofs.Lists.Calm.{calm_asked}
@@ -41,7 +45,7 @@ use Rattle.sbp_world.specs.Hosts.Runs.{more_deliveries}
 use Rattle.sbp_world.proofs.Lists.Judging.{goes_next, grown as grown_by}
 use Rattle.sbp_world.proofs.Lists.LiveRuns.{goes_size, goes_tame_or_few}
 use Rattle.sbp_world.proofs.Lists.FedSteps.{IsFed}
-use Rattle.sbp_world.proofs.Lists.FedStill.{Awaits, ReadBy, TurnedBy, fed_alike, read_on, turned_by_got, turned_on, turns_by}
+use Rattle.sbp_world.proofs.Lists.FedStill.{Awaits, ReadBy, Spares, TurnedBy, fed_alike, read_by_got, read_on, turned_by_got, turned_on, turns_by}
 use Rattle.sbp_world.proofs.Lists.LedRuns.{got_just}
 use Rattle.sbp_world.proofs.Lists.Lines.{acts}
 use Rattle.sbp_world.proofs.Lists.ManageSends.{opened_terms}
@@ -55,7 +59,7 @@ use Rattle.sbp_world.proofs.Lists.StillTurns.{Ground, none_acts, none_prepared, 
 use Rattle.sbp_world.proofs.Lists.TurnReads.{Course, delivery_course, line_course}
 use Rattle.sbp_world.proofs.Lists.Turned.{IsOne}
 use Rattle.sbp_world.proofs.Lists.WasReads.{each_at}
-use Rattle.sbp_world.proofs.Lists.FedStillReads.{AreFedStill, FedStill, IsOwner, KnownHad, KnownStill, awaits_before, awaits_in, fed_before, got_read, read_known, turned_known}
+use Rattle.sbp_world.proofs.Lists.FedStillReads.{AllFedStill, AreFedStill, AreSentAhead, FedStill, IsOwner, KnownHad, KnownStill, fed_before, got_read, read_known, ready_in, turned_known}
 
 -- ---- a turn
 module _ (units ready : ℕ) (has : 0 < units) (start : List Disk) (past : List Moment) (s : Scene) (later : List Moment) (t : Scene) {lines more : ℕ} (h : Holding units ready start past lines s.world) (h_now : Holding units ready start later more t.world) (q : Ground start (hist past s.world) s.world) (q_now : Ground start (hist later t.world) t.world) (beside : IsTameOrFew (hist past s.world)) (beside_now : IsTameOrFew (hist later t.world)) (owns : Owns s.world t.world) (count : length t.world.initiators ≡ length s.world.initiators) (have : AreStill start (hist past s.world) s.world) (fed : AreFedStill start (hist past s.world) s.world) (back : List Moment) (behind : back ++ hist past s.world ≡ hist later t.world) where
@@ -97,7 +101,7 @@ module _ (units ready : ℕ) (has : 0 < units) (start : List Disk) (past : List 
   K p at orb response earlier = p < 8 → IsCalm before (initiator_in w p) → KnownHad start now before w p at orb response earlier
 
   abbrev R : List Moment → ℕ → ℕ → CommandOrb → Type 0
-  R ms p at orb = ReadBy start K ms p at orb
+  R ms p at orb = ReadBy start K (IsOwner before w) ms p at orb
 
   abbrev U : List Moment → ℕ → ℕ → CommandOrb → List Moved → Type 0
   U ms p at orb reads = TurnedBy start K (IsOwner before w) ms p at orb reads
@@ -111,8 +115,11 @@ module _ (units ready : ℕ) (has : 0 < units) (start : List Disk) (past : List 
   abbrev Waits : List Moment → ℕ → Type 0
   Waits = Awaits start (IsOwner before w)
 
+  abbrev Spare : List Moment → ℕ → ℕ → Type 0
+  Spare = Spares start (IsOwner before w)
+
   abbrev Gets : List Moment → Type 0
-  Gets ms = going.Gets start R U Waits (turns_by start K (IsOwner before w)) (read_on start K) (turned_on start K (IsOwner before w)) (turned_by_got start K (IsOwner before w)) now ms
+  Gets ms = going.Gets start R U Waits Spare (turns_by start K (IsOwner before w)) (read_on start K (IsOwner before w)) (read_by_got start K (IsOwner before w)) (turned_on start K (IsOwner before w)) (turned_by_got start K (IsOwner before w)) now ms
 
   gets : Gets before
   gets serial front is a e = got_read units ready has start w h site q.asked_so fed now back behind before refl refl (λ i slot. refl) (λ i c. c) serial front is (got_just start before serial a (led_then serial front before is) e)
@@ -124,9 +131,9 @@ module _ (units ready : ℕ) (has : 0 < units) (start : List Disk) (past : List 
   -- ---- behind it
   fed_now : Course before now → (p : ℕ) (b : p < 8) → is_open_at v p ≡ true → Fed now p (machine_at v p)
   fed_now course p b e =
-      let all = going.fed_over start R U Waits (turns_by start K (IsOwner before w)) (read_on start K) (turned_on start K (IsOwner before w)) (turned_by_got start K (IsOwner before w)) now before course q_now.asked_so gets gets_line
-      (awaits_before units ready has start w h site q.asked_so fed now back behind)
-      (λ line event. awaits_in units ready has start w h site q.asked_so fed now back behind (asked line event ∷ before) (over_twice (target_at start before)) (opened_terms event (terms before)).sent) (fed_before units ready has start w h site q.asked_so fed now back behind) in
+      let all = going.fed_over start R U Waits Spare (turns_by start K (IsOwner before w)) (read_on start K (IsOwner before w)) (read_by_got start K (IsOwner before w)) (turned_on start K (IsOwner before w)) (turned_by_got start K (IsOwner before w)) now before course q_now.asked_so gets gets_line
+      (ready_in units ready has start w h site q.asked_so fed now back behind before refl refl)
+      (λ line event. ready_in units ready has start w h site q.asked_so fed now back behind (asked line event ∷ before) (over_twice (target_at start before)) (opened_terms event (terms before)).sent) (fed_before units ready has start w h site q.asked_so fed now back behind) in
       let alike = (site_now.agents.are.each p b).machine in
       fed_alike (R now p) (U now p) (agent_at (over (target_at start now)) p).machine (machine_at v p) alike.phase (alike.present e) (alike.orb e) (alike.payload e) alike.segments (alike.ahead e) (all.agents p)
 
@@ -136,16 +143,16 @@ module _ (units ready : ℕ) (has : 0 < units) (start : List Disk) (past : List 
       let x = k b (calm_then p b e calm) in
       record { had = record { named = x.had.named; initiator = x.had.initiator ∙ sym (owner p b e); there = same x.had ∙ x.had.there }; response_is = x.response_is; earlier_is = x.earlier_is }
 
-  still_by : Course before now → ((p : ℕ) (b : p < 8) (e : is_open_at v p ≡ true) → IsCalm now (initiator_in v p) → holds_read (machine_at v p).phase ≡ true → (x : IsHad start now before w p (machine_at v p).present (machine_at v p).orb) → prepared_in now x.named.i x.named.led.slot ≡ prepared_in before x.named.i x.named.led.slot) → ((p : ℕ) (b : p < 8) (e : is_open_at v p ≡ true) → IsCalm now (initiator_in v p) → (orb : CommandOrb) → (machine_at v p).ahead ≡ aheads.Kept orb → (offset : ℕ) → (machine_at v p).orb.next ≡ At offset → (x : IsHad start now before w p (aligned offset) orb) → prepared_in now x.named.i x.named.led.slot ≡ prepared_in before x.named.i x.named.led.slot) → AreFedStill start now v
+  still_by : Course before now → ((p : ℕ) (b : p < 8) (e : is_open_at v p ≡ true) → IsCalm now (initiator_in v p) → holds_read (machine_at v p).phase ≡ true → (x : IsHad start now before w p (machine_at v p).present (machine_at v p).orb) → prepared_in now x.named.i x.named.led.slot ≡ prepared_in before x.named.i x.named.led.slot) → ((p : ℕ) (b : p < 8) (e : is_open_at v p ≡ true) → IsCalm now (initiator_in v p) → (orb : CommandOrb) → (machine_at v p).ahead ≡ aheads.Kept orb → (offset : ℕ) → (machine_at v p).orb.next ≡ At offset → (x : IsHad start now before w p (aligned offset) orb) → prepared_in now x.named.i x.named.led.slot ≡ prepared_in before x.named.i x.named.led.slot) → AllFedStill start now v
   still_by course main ahead p b e calm =
       let m = machine_at v p in
-      fed_so (R now p) (ReadBy start (KnownStill start now v) now p) (U now p) (TurnedBy start (KnownStill start now v) (IsOwner now v) now p) m
+      fed_so (R now p) (ReadBy start (KnownStill start now v) (IsOwner now v) now p) (U now p) (TurnedBy start (KnownStill start now v) (IsOwner now v) now p) m
       (λ holds reads. turned_known start now p K (KnownStill start now v) (IsOwner before w) (IsOwner now v) (owner_then p b e calm) m.present m.orb reads (known_now p b e calm m.present m.orb (main p b e calm holds)))
-      (λ orb kept offset next. read_known start now p K (KnownStill start now v) (aligned offset) orb (known_now p b e calm (aligned offset) orb (ahead p b e calm orb kept offset next)))
+      (λ orb kept offset next. read_known start now p K (KnownStill start now v) (IsOwner before w) (IsOwner now v) (owner_then p b e calm) (aligned offset) orb (known_now p b e calm (aligned offset) orb (ahead p b e calm orb kept offset next)))
       (fed_now course p b e)
 
   -- where nothing is prepared
-  pub quiet_still : Course before now → ((i slot : ℕ) → i < length w.initiators → prepared_in now i slot ≡ prepared_in before i slot) → AreFedStill start now v
+  pub quiet_still : Course before now → ((i slot : ℕ) → i < length w.initiators → prepared_in now i slot ≡ prepared_in before i slot) → AllFedStill start now v
   quiet_still course prepared =
       still_by course (λ p b e calm holds x. prepared x.named.i x.named.led.slot (subst (λ i. i < length w.initiators) (sym x.initiator) (inside p b e calm)))
       (λ p b e calm orb kept offset next x. prepared x.named.i x.named.led.slot (subst (λ i. i < length w.initiators) (sym x.initiator) (inside p b e calm)))
@@ -194,7 +201,7 @@ module _ (units ready : ℕ) (has : 0 < units) (start : List Disk) (past : List 
           (ahead_name units ready has start v h_now site_now (q_now.lists beside_now) q_now.along p b e calm orb kept offset next slot at)
           (ahead_name units ready has start w h site (q.lists beside) q.along p b f was_calm orb (ap (λ (m : Machine). m.ahead) (sym same_machine) ∙ kept) offset (ap (λ (m : Machine). m.orb.next) (sym same_machine) ∙ next) slot at))
 
-    pub acting_still : Course before now → AreFedStill start now v
+    pub acting_still : Course before now → AllFedStill start now v
     acting_still course = still_by course main_same ahead_same
 
   -- where the target stands and nothing is got or prepared
@@ -206,7 +213,7 @@ module _ (units ready : ℕ) (has : 0 < units) (start : List Disk) (past : List 
       earlier_is = x.earlier_is;
     }
 
-    pub resting_still : AreFedStill start now v
+    pub resting_still : AllFedStill start now v
     resting_still p b e calm =
         let same = still.machine_same units ready has start past s later t h h_now q q_now beside beside_now owns count have back behind target p in
         let f = still.open_before units ready has start past s later t h h_now q q_now beside beside_now owns count have back behind target p e in
@@ -214,16 +221,26 @@ module _ (units ready : ℕ) (has : 0 < units) (start : List Disk) (past : List 
         let J = KnownStill start before w in
         let N = KnownStill start now v in
         subst (FedStill start now v p) (sym same)
-        (fed_so (ReadBy start J before p) (ReadBy start N now p) (TurnedBy start J (IsOwner before w) before p) (TurnedBy start N (IsOwner now v) now p) M
+        (fed_so (ReadBy start J (IsOwner before w) before p) (ReadBy start N (IsOwner now v) now p) (TurnedBy start J (IsOwner before w) before p) (TurnedBy start N (IsOwner now v) now p) M
         (λ holds reads x. subst (λ ms. TurnedBy start N (IsOwner now v) ms p M.present M.orb reads) is (turned_known start (m ∷ before) p J N (IsOwner before w) (IsOwner now v) (owner_then p b e calm) M.present M.orb reads (known_on p b e M.present M.orb) (turned_on start J (IsOwner before w) m none before p M.present M.orb reads x)))
-        (λ orb kept offset next x. subst (λ ms. ReadBy start N ms p (aligned offset) orb) is (read_known start (m ∷ before) p J N (aligned offset) orb (known_on p b e (aligned offset) orb) (read_on start J m before p (aligned offset) orb x)))
-        (fed p b f (calm_then p b e calm)))
+        (λ orb kept offset next x. subst (λ ms. ReadBy start N (IsOwner now v) ms p (aligned offset) orb) is (read_known start (m ∷ before) p J N (IsOwner before w) (IsOwner now v) (owner_then p b e calm) (aligned offset) orb (known_on p b e (aligned offset) orb) (read_on start J (IsOwner before w) m none before p (aligned offset) orb x)))
+        (fed.fed p b f (calm_then p b e calm)))
+
+-- ---- a main transaction of an agent that has an ORB read ahead is under way
+sent_ahead : (start : List Disk) (past : List Moment) (w : WorldState) → Ground start (hist past w) w → IsTameOrFew (hist past w) → AreSentAhead (hist past w) w
+sent_ahead start past w q beside place b open_there calm orb kept =
+    let ms = hist past w in
+    let j = initiator_in w place in
+    let o : IsOpenAt ms w place = (q.lists beside).listed place b open_there calm in
+    let m = machine_at w place in
+    let goes : GoesAlong ms j o.n m = q.along.all place b open_there calm o.n o.list in
+    kept_sent m.phase (list ms j o.n) goes.progress m.orb.next orb (subst (KnowsAhead (list ms j o.n) goes.progress m.phase m.orb.next) kept goes.along.ahead)
 
 -- ---- by what the turn is
 module _ (units ready : ℕ) (has : 0 < units) (start : List Disk) where
   Turns : (past : List Moment) (s : Scene) (later : List Moment) (t : Scene) → Type 0
   Turns past s later t =
-      (lines more : ℕ) → Holding units ready start past lines s.world → Holding units ready start later more t.world → Ground start (hist past s.world) s.world → Ground start (hist later t.world) t.world → IsTameOrFew (hist past s.world) → IsTameOrFew (hist later t.world) → Owns s.world t.world → length t.world.initiators ≡ length s.world.initiators → (back : List Moment) → back ++ hist past s.world ≡ hist later t.world → AreStill start (hist past s.world) s.world → AreFedStill start (hist past s.world) s.world → AreFedStill start (hist later t.world) t.world
+      (lines more : ℕ) → Holding units ready start past lines s.world → Holding units ready start later more t.world → Ground start (hist past s.world) s.world → Ground start (hist later t.world) t.world → IsTameOrFew (hist past s.world) → IsTameOrFew (hist later t.world) → Owns s.world t.world → length t.world.initiators ≡ length s.world.initiators → (back : List Moment) → back ++ hist past s.world ≡ hist later t.world → AreStill start (hist past s.world) s.world → AreFedStill start (hist past s.world) s.world → AllFedStill start (hist later t.world) t.world
 
   -- a line in which no initiator acts
   quiet_line : (past : List Moment) (s : Scene) (line : ℕ) (event : Event) (told : List (Option Told)) → IsOne event → MayHappen event told s → cmd_of (Some event) ≡ None → Turns past s (asked line event ∷ hist past s.world) (happens line event told s)
@@ -280,7 +297,10 @@ module _ (units ready : ℕ) (has : 0 < units) (start : List Disk) where
   unfolding Turns
   turn_fed past s later t g lines more h h_now q q_now beside_now have fed =
       let grown = grown_by (hist past s.world) (hist later t.world) (goes_next past s later t g) in
-      by past s later t g lines more h h_now q q_now (goes_tame_or_few past s later t g beside_now) beside_now (turn_owns units ready has start s h (site_at start past s.world q).held later t g) (goes_size past s later t g) grown.new grown.is have fed
+      record {
+        fed = by past s later t g lines more h h_now q q_now (goes_tame_or_few past s later t g beside_now) beside_now (turn_owns units ready has start s h (site_at start past s.world q).held later t g) (goes_size past s later t g) grown.new grown.is have fed;
+        sent = sent_ahead start later t.world q_now beside_now;
+      }
     where
       by : (past : List Moment) (s : Scene) (later : List Moment) (t : Scene) → Goes past s later t → Turns past s later t
       by _ _ _ _ (by_line past s line event told one fit may) = line_turn past s line event told one fit may

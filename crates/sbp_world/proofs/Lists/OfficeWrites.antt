@@ -31,7 +31,7 @@ use Rattle.sbp_world.specs.Lists.OrbReads.{AnswersAt}
 use Rattle.sbp_world.specs.Lists.OwnLogins.{IsAside, IsGoodOrb, IsItsFifo, in_front, of_login, of_place, of_response, IsTame}
 use Rattle.sbp_world.specs.Lists.ReadOrbs.{IsAnswered}
 use Rattle.sbp_world.proofs.Lists.BufferClears.{Ground, Tamely, few, place_window, ground_everywhere}
-use Rattle.sbp_world.proofs.Lists.FedGots.{IsHeld, held_by}
+use Rattle.sbp_world.proofs.Lists.BegunBy.{IsHeld, held_by}
 use Rattle.sbp_world.proofs.Lists.FedOnce.{IsReply, reply_by}
 use Rattle.sbp_world.proofs.Lists.Heard.{awaited_to}
 use Rattle.sbp_world.proofs.Lists.KeptReplies.{payload_is}

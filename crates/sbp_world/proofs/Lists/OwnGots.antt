@@ -59,7 +59,7 @@ held_same (events.Reset physical) t = refl
 held_same (events.Repeat serial) t = refl
 held_same _ t = refl
 
-module _ (wild : ℕ → Bool) (start : List Disk) (line : ℕ) (event : Event) (past : List Moment) where
+module _ (start : List Disk) (line : ℕ) (event : Event) (past : List Moment) where
   abbrev here : List Moment
   here = asked line event ∷ past
 
@@ -108,8 +108,8 @@ module _ (wild : ℕ → Bool) (start : List Disk) (line : ℕ) (event : Event) 
       ∙ (ap (λ own. cond (is_serial (receiver_in (t.sent serial)) 0) (main_moved u (over (target_at start past)) place serial own) []) (answered_same serial)
       ∙ ap (λ xs. cond (is_serial (receiver_in (t.sent serial)) 0) xs []) (main_so (over (target_at start past)) place serial (answered_at t serial))))
 
-  own_asked : ((serial : ℕ) → AreOwnAsGot wild start past serial) → (serial : ℕ) → AreOwnAsGot wild start here serial
-  own_asked own serial place b side mine i calm waits to r other slot which closed purpose =
+  own_asked : (wild : ℕ → Bool) → ((serial : ℕ) → AreOwnAsGot wild start past serial) → (serial : ℕ) → AreOwnAsGot wild start here serial
+  own_asked wild own serial place b side mine i calm waits to r other slot which closed purpose =
       let twice = over_twice (target_at start past) in
       let x = own serial place b side mine i calm
       (subst (λ (T : Target). serial_of side (agent_at T place) ≡ Some mine) twice waits) (ap (λ (f : ℕ → Option Sending). receiver_in (f mine)) (sym sent_same) ∙ to) r other slot which
@@ -140,7 +140,7 @@ module _ (wild : ℕ → Bool) (start : List Disk) where
   own_turn before now (next front q moment is) a g = subst (EachMoment (OwnAsGot wild start)) is (own_more front (moment ∷ before) q (own_moment moment before a, g))
   own_turn before now (next_line front q note line event is) a g =
       subst (EachMoment (OwnAsGot wild start)) is
-      (own_more front (said note ∷ asked line event ∷ before) q (own_note note (asked line event ∷ before) (own_asked wild start line event before a), (tt, g)))
+      (own_more front (said note ∷ asked line event ∷ before) q (own_note note (asked line event ∷ before) (own_asked start line event before wild a), (tt, g)))
 
 -- of more initiators that injected packets
 module _ (wild more : ℕ → Bool) (calm : (i : ℕ) → more i ≡ false → wild i ≡ false) (start : List Disk) where

@@ -26,10 +26,17 @@ use Rattle.sbp_world.specs.Lists.Needs.{IsCalm}
 use Rattle.sbp_world.specs.Lists.OneUp.{OneUpLaw}
 use Rattle.sbp_world.specs.Lists.OrbReads.{SentAsGot}
 use Rattle.sbp_world.specs.Lists.OwnGots.{OwnAsGot}
+use Rattle.sbp_world.specs.Lists.ManagedGots.{ManagedAsGot, ManagedAsGotLaw}
+use Rattle.sbp_world.specs.Lists.NobodyGots.{AllNobodyElsewhere}
 use Rattle.sbp_world.specs.Lists.OwnSince.{AllAwaited, AllElsewhereBut}
-use Rattle.sbp_world.specs.Lists.ReadFeeds.{ReadAndFedAt, ReadAndFedLaw, RunWasReadAndFed}
+use Rattle.sbp_world.proofs.Lists.NobodyGots.{but_nobody}
+use Rattle.sbp_world.specs.Lists.ReadFeeds.{AreNone, ReadAndFedAt, ReadAndFedLaw, RunWasReadAndFed}
 use Rattle.sbp_world.proofs.Lists.Fair.{Told, told_before, told_everywhere}
 use Rattle.sbp_world.proofs.Lists.Calm.{calm_before}
+use Rattle.sbp_laws.specs.CarriedBytes.{address_of}
+use Rattle.sbp_world.specs.Lists.AheadGots.{AheadAsGot, AheadAsGotLaw}
+use Rattle.sbp_world.specs.Lists.AheadOrbs.{AllAhead}
+use Rattle.sbp_world.proofs.Lists.AheadOrbs.{others_ahead}
 use Rattle.sbp_world.proofs.Lists.CarriedEnds.{run_read, run_read_by}
 use Rattle.sbp_world.proofs.Lists.Courses.{more_than_one}
 use Rattle.sbp_world.proofs.Lists.Executes.{NamedRun, OpensBeside, opens_before, runs_named}
@@ -39,17 +46,26 @@ use Rattle.sbp_world.proofs.Lists.ListsProved.{closing}
 use Rattle.sbp_world.proofs.Lists.OpenGots.{OpenAsGot, open_as_got}
 use Rattle.sbp_world.proofs.Lists.OwnGots.{own_as_got}
 use Rattle.sbp_world.proofs.Lists.OwnSince.{each_awaited, own_since_law}
+use Rattle.sbp_world.proofs.Lists.PlacedOps.{each_from}
 use Rattle.sbp_world.proofs.Lists.RunLaws.{order_run_law}
 use Rattle.sbp_world.proofs.Lists.SentGots.{sent_as_got}
 
 module _ (wild : ℕ → Bool) (start : List Disk) where
-  module _ (past : List Moment) (so : OpensBeside past) (calm : (i : ℕ) → wild i ≡ false → IsCalm past i) (f : Told past) (j : AreJudged past) (sent : EachMoment (SentAsGot start) past) (opens : OpenAsGot start past) (law : OrderLaw wild past) (gots : EachMoment (OwnAsGot wild start) past) where
+  -- what was got as an ORB was read ahead, and what answers the management operation, where no initiator injected packets
+  record Elsewhere (past : List Moment) : Type 0 where
+    spared : AreNone wild → EachMoment (AheadAsGot start) past
+    managed : AreNone wild → EachMoment (ManagedAsGot start) past
+
+  elsewhere_before : (m : Moment) (past : List Moment) → Elsewhere (m ∷ past) → Elsewhere past
+  elsewhere_before m past e = record { spared = λ quiet. (e.spared quiet).1; managed = λ quiet. (e.managed quiet).1 }
+
+  module _ (past : List Moment) (so : OpensBeside past) (calm : (i : ℕ) → wild i ≡ false → IsCalm past i) (f : Told past) (j : AreJudged past) (sent : EachMoment (SentAsGot start) past) (opens : OpenAsGot start past) (law : OrderLaw wild past) (gots : EachMoment (OwnAsGot wild start) past) (elsewhere : Elsewhere past) where
     -- the buffer and the data by what was read since a response
     abbrev Since : (i n k : ℕ) → List ℕ → ℕ → Type 0
     Since i n k bytes r =
         IsSomeAnd (request_at past i n k) (λ request. bytes_of (buffer_in (orb_read past r) (reads_since past i r)) ≡ (plan_of request.buffer).bytes) × (bytes ≡ joined (chunks (limit_of (orb_read past r)) (buffer_in (orb_read past r) (reads_since past i r))) (reads_since past i r))
 
-    both : (i n k : ℕ) (bytes : List ℕ) → wild i ≡ false → RunIsNamedFed start past i n k bytes → RunWasReadAndFed start past i n k bytes
+    both : (i n k : ℕ) (bytes : List ℕ) → wild i ≡ false → RunIsNamedFed start past i n k bytes → RunWasReadAndFed wild start past i n k bytes
     both i n k bytes own e =
         let read = run_read wild start past f sent opens law i n k (calm i own) e.named in
         let asked_it = fed_asked start past i n k bytes e in
@@ -64,20 +80,31 @@ module _ (wild : ℕ → Bool) (start : List Disk) where
         let small : place < 8 = subst (λ p. p < 8) (sym (ap (λ (x : RunIsFed start past i n k bytes). x.place) same_fed ∙ e.place)) e.named.small in
         let awaited : AllAwaited start i place later before =
         subst (λ (x : RunIsFed start past i n k bytes). AllAwaited start i x.place x.later (x.between ++ said (notes.Got x.brought.response) ∷ x.brought.earlier)) (sym same_fed) e.awaited in
-        let own_or_others : AllElsewhereBut start i slot later before → AreOwnOrOthers start i place slot later before =
+        let own_but : AllElsewhereBut start i slot later before → AreOwnOrOthers start i place slot later before =
         λ b. own_since_law wild start i place slot own small later before (subst (EachMoment (OwnAsGot wild start)) (sym since.fed.is) gots) (each_awaited start i place slot later before awaited b) in
+        let managed_since : AreNone wild → EachMoment (ManagedAsGot start) (later ++ before) = λ quiet. subst (EachMoment (ManagedAsGot start)) (sym since.fed.is) (elsewhere.managed quiet) in
+        let own_nobody : AreNone wild → AllNobodyElsewhere start i slot later before → AreOwnOrOthers start i place slot later before =
+        λ quiet b. own_but (but_nobody start i slot later before (managed_since quiet) b) in
         let carried_own : AreOthers i slot since.fed.between (said (notes.Got since.fed.brought.response) ∷ since.fed.brought.earlier) → AreOwnOrOthers start i place slot later before → RunIsCarried start past i n k bytes =
         λ o p.
         let x = subst (Since i n k bytes) same (since.whole o p) in
         record { read = read.read; not_dummy = read.not_dummy; as_appended = read.as_appended; size = x.0; payloads = x.1 } in
+        let behind = said (notes.Got since.fed.brought.response) ∷ since.fed.brought.earlier in
+        let ahead : AllAhead start i place (address_of past i n k) since.fed.between behind =
+        subst (λ (x : RunIsFed start past i n k bytes). AllAhead start i x.place (address_of past i n k) x.between (said (notes.Got x.brought.response) ∷ x.brought.earlier)) (sym same_fed) e.ahead in
+        let others : AreNone wild → AllNobodyElsewhere start i slot since.fed.between behind → AreOthers i slot since.fed.between behind =
+        λ quiet b. others_ahead start i place slot small since.fed.between behind (each_from (AheadAsGot start) later before (subst (EachMoment (AheadAsGot start)) (sym since.fed.is) (elsewhere.spared quiet))) ahead (but_nobody start i slot since.fed.between behind (each_from (ManagedAsGot start) later before (managed_since quiet)) b) in
         record {
           read = read;
           since = since;
           response = same;
           small = small;
           awaited = awaited;
-          own = own_or_others;
-          carried = λ o b. carried_own o (own_or_others b);
+          own_but = own_but;
+          own = own_nobody;
+          others = others;
+          carried = λ quiet o b. carried_own (others quiet o) (own_nobody quiet b);
+          carried_but = λ o b. carried_own o (own_but b);
           carried_own = carried_own;
         }
 
@@ -94,28 +121,31 @@ module _ (wild : ℕ → Bool) (start : List Disk) where
     by_moment (asked line event) e = tt
     by_moment (said note) e = by_note note e
 
-  all_both : (past : List Moment) → OpensBeside past → ((i : ℕ) → wild i ≡ false → IsCalm past i) → Told past → AreJudged past → EachMoment (SentAsGot start) past → OpenAsGot start past → OrderLaw wild past → EachMoment (OwnAsGot wild start) past → EachMoment (NamedRun wild start) past → EachMoment (ReadAndFedAt wild start) past
-  all_both [] so calm f j sent opens law gots e = tt
-  all_both (m ∷ past) so calm f j sent opens law gots e =
+  all_both : (past : List Moment) → OpensBeside past → ((i : ℕ) → wild i ≡ false → IsCalm past i) → Told past → AreJudged past → EachMoment (SentAsGot start) past → OpenAsGot start past → OrderLaw wild past → EachMoment (OwnAsGot wild start) past → Elsewhere past → EachMoment (NamedRun wild start) past → EachMoment (ReadAndFedAt wild start) past
+  all_both [] so calm f j sent opens law gots elsewhere e = tt
+  all_both (m ∷ past) so calm f j sent opens law gots elsewhere e =
       let g = told_before m past f in
       let q = judged_before m past j in
       let before = opens_before (m ∷ []) past so in
       let quiet : (i : ℕ) → wild i ≡ false → IsCalm past i = λ i own. calm_before (m ∷ []) past i (calm i own) in
-      (by_moment past before quiet g q sent.1 opens.1 law.1 gots.1 m e.0, all_both past before quiet g q sent.1 opens.1 law.1 gots.1 e.1)
+      let gone = elsewhere_before m past elsewhere in
+      (by_moment past before quiet g q sent.1 opens.1 law.1 gots.1 gone m e.0, all_both past before quiet g q sent.1 opens.1 law.1 gots.1 gone e.1)
 
-pub read_and_fed_law : OpenListsLaw → OneUpLaw → ReadAndFedLaw
-read_and_fed_law lists up = record {
+pub read_and_fed_law : OpenListsLaw → OneUpLaw → AheadAsGotLaw → ManagedAsGotLaw → ReadAndFedLaw
+read_and_fed_law lists up spared managed = record {
   after_lines = λ line run r has small size beside.
       let so_far = closing.before lists line run r has small size beside in
       let past = history_of line run in
       all_both (injectors past) run.start.disks past (closing, lists, beside) (λ i own. own) (told_everywhere.after_lines line run r has small size so_far) (judged_everywhere.after_lines line run r has small size so_far)
       ((sent_as_got lists).after_lines line run r has small size so_far beside) ((open_as_got lists up).after_lines line run r has small size so_far beside) (order_run_law.after_lines line run r has small size so_far)
-      ((own_as_got lists).after_lines line run r has small size so_far beside) (runs_named.after_lines line run r has small size so_far);
+      ((own_as_got lists).after_lines line run r has small size so_far beside)
+      (record { spared = λ quiet. spared.after_lines line run r has small size quiet; managed = λ quiet. managed.after_lines line run r has small size quiet }) (runs_named.after_lines line run r has small size so_far);
   between = λ line run r has small size next most told m beside.
       let now = map said (after_all told (begun (after (beginning run) run.entries))).world.fresh ++ asked next (more_deliveries most) ∷ history_of line run in
       let so_far = closing.between lists line run r has small size next (more_deliveries most) (more_than_one most) told m beside in
       all_both (injectors now) run.start.disks now (closing, lists, beside) (λ i own. own) (told_everywhere.between line run r has small size next most told m so_far)
       (judged_everywhere.between line run r has small size next most told m so_far) ((sent_as_got lists).between line run r has small size next most told m so_far beside)
       ((open_as_got lists up).between line run r has small size next most told m so_far beside) (order_run_law.between line run r has small size next (more_deliveries most) (more_than_one most) told m so_far)
-      ((own_as_got lists).between line run r has small size next most told m so_far beside) (runs_named.between line run r has small size next most told m so_far);
+      ((own_as_got lists).between line run r has small size next most told m so_far beside)
+      (record { spared = λ quiet. spared.between line run r has small size next most told m quiet; managed = λ quiet. managed.between line run r has small size next most told m quiet }) (runs_named.between line run r has small size next most told m so_far);
 }

@@ -22,6 +22,7 @@ use Rattle.command_agent.specs.declared.step.Which.{Which}
 use Rattle.sbp_laws.specs.CarriedBytes.{Moved}
 use Rattle.sbp_world.specs.Lists.FedNames.{RunIsNamedFed}
 use Rattle.sbp_world.specs.Lists.FedRuns.{RunIsFed, own_reads}
+use Rattle.sbp_world.specs.Lists.AheadOrbs.{AllAhead}
 use Rattle.sbp_world.specs.Lists.OwnSince.{AllAwaited}
 use Rattle.sbp_world.proofs.Lists.FedReads.{IsTurned}
 use Rattle.sbp_world.proofs.Lists.FedRuns.{reads as reads_of, run_fed, turned, which_is}
@@ -81,7 +82,7 @@ module _ (given : Type 0) (wild : ℕ → Bool) (start : List Disk) (past : List
     abbrev J : ℕ → ℕ → CommandOrb → ℕ → List Moment → Type 0
     J = KnownHad start now ms w
 
-    hears : Hears (ReadBy start J now p) (TurnedBy start J (IsOwner ms w) now p) (turns_by start J (IsOwner ms w) now p) m (answer_in r.by.packet)
+    hears : Hears (ReadBy start J (IsOwner ms w) now p) (TurnedBy start J (IsOwner ms w) now p) (turns_by start J (IsOwner ms w) now p) m (answer_in r.by.packet)
     hears =
         known.fed.hears serial r.sent r.found r.to r.by.packet r.by.label p r.by.found (r.by.is_which ∙ ap (λ (x : Which). Some x) (which_is wild start past s set run ran serial r)) small (set.ready.calm i own) open_there
 
@@ -98,11 +99,20 @@ module _ (given : Type 0) (wild : ℕ → Bool) (start : List Disk) (past : List
               ∙ sym (ap (λ x. own_reads start p t.later (t.between ++ said (notes.Got x) ∷ b.earlier)) t.known.response_is ∙ ap (λ xs. own_reads start p t.later (t.between ++ said (notes.Got t.response) ∷ xs)) t.known.earlier_is);
         }
 
+    owns : IsOwner ms w p i
+    owns = record { small = small; calm = set.ready.calm i own; is = refl }
+
     -- and it waited as each packet was got
     awaited_turned : (at : ℕ) (orb : CommandOrb) (reads : List Moved) (t : TurnedBy start J (IsOwner ms w) now p at orb reads) → AllAwaited start i p t.later (t.between ++ said (notes.Got t.known.had.named.brought.response) ∷ t.known.had.named.brought.earlier)
     awaited_turned at orb reads t =
         subst (λ x. AllAwaited start i p t.later (t.between ++ said (notes.Got x) ∷ t.known.had.named.brought.earlier)) (sym t.known.response_is)
-        (subst (λ xs. AllAwaited start i p t.later (t.between ++ said (notes.Got t.response) ∷ xs)) (sym t.known.earlier_is) (t.awaited i (record { small = small; calm = set.ready.calm i own; is = refl })))
+        (subst (λ xs. AllAwaited start i p t.later (t.between ++ said (notes.Got t.response) ∷ xs)) (sym t.known.earlier_is) (t.awaited i owns))
+
+    -- and had it read ahead as each packet was got before it turned to it
+    ahead_turned : (at : ℕ) (orb : CommandOrb) (reads : List Moved) (t : TurnedBy start J (IsOwner ms w) now p at orb reads) → AllAhead start i p at t.between (said (notes.Got t.known.had.named.brought.response) ∷ t.known.had.named.brought.earlier)
+    ahead_turned at orb reads t =
+        subst (λ x. AllAhead start i p at t.between (said (notes.Got x) ∷ t.known.had.named.brought.earlier)) (sym t.known.response_is)
+        (subst (λ xs. AllAhead start i p at t.between (said (notes.Got t.response) ∷ xs)) (sym t.known.earlier_is) (t.ahead i owns))
 
     abbrev o : IsOpenAt ms w p
     o = opened wild start past s set run ran serial r own
@@ -126,13 +136,13 @@ module _ (given : Type 0) (wild : ℕ → Bool) (start : List Disk) (past : List
       orb = stepped.1.orb
 
       abbrev fed : RunIsFed start now i n k r.payload
-      fed = run_fed wild start past s set run ran serial r own (ReadBy start J now p) (TurnedBy start J (IsOwner ms w) now p) (turns_by start J (IsOwner ms w) now p) of_turned hears n k next
+      fed = run_fed wild start past s set run ran serial r own (ReadBy start J (IsOwner ms w) now p) (TurnedBy start J (IsOwner ms w) now p) (turns_by start J (IsOwner ms w) now p) of_turned hears n k next
 
       abbrev reads : List Moved
-      reads = reads_of wild start past s set run ran serial r own (ReadBy start J now p) (TurnedBy start J (IsOwner ms w) now p) (turns_by start J (IsOwner ms w) now p) of_turned hears n k next
+      reads = reads_of wild start past s set run ran serial r own (ReadBy start J (IsOwner ms w) now p) (TurnedBy start J (IsOwner ms w) now p) (turns_by start J (IsOwner ms w) now p) of_turned hears n k next
 
       abbrev t : TurnedBy start J (IsOwner ms w) now p (address_of now i n k) orb reads
-      t = turned wild start past s set run ran serial r own (ReadBy start J now p) (TurnedBy start J (IsOwner ms w) now p) (turns_by start J (IsOwner ms w) now p) of_turned hears n k next
+      t = turned wild start past s set run ran serial r own (ReadBy start J (IsOwner ms w) now p) (TurnedBy start J (IsOwner ms w) now p) (turns_by start J (IsOwner ms w) now p) of_turned hears n k next
 
       abbrev x : IsHad start now ms w p (address_of now i n k) orb
       x = t.known.had
@@ -156,7 +166,7 @@ module _ (given : Type 0) (wild : ℕ → Bool) (start : List Disk) (past : List
       }
 
       run_fed_so : RunIsNamedFed start now i n k r.payload
-      run_fed_so = record { named = run_named; fed = fed; place = refl; response = refl; earlier = refl; awaited = awaited_turned (address_of now i n k) orb reads t }
+      run_fed_so = record { named = run_named; fed = fed; place = refl; response = refl; earlier = refl; awaited = awaited_turned (address_of now i n k) orb reads t; ahead = ahead_turned (address_of now i n k) orb reads t }
 
   abbrev note_of : Option ℕ → Option ℕ → Note
   note_of list number = notes.Ran i list number (holder w p).unit r.cdb r.payload (check_of r.outcome)

@@ -16,7 +16,7 @@ use Rattle.sbp_world.specs.Worlds.{WorldState}
 use Rattle.sbp_world.specs.Wire.Wires.{Stands}
 use Rattle.sbp_world.proofs.Agents.Management.Holding.{past_terms}
 use Rattle.sbp_world.proofs.Agents.Management.Still.{hist}
-use Rattle.sbp_world.proofs.Lists.FedGots.{IsHeld, held_by}
+use Rattle.sbp_world.proofs.Lists.BegunBy.{IsHeld, held_by}
 use Rattle.sbp_world.proofs.Lists.FedOnce.{IsReply, reply_by}
 use Rattle.sbp_world.proofs.Lists.ManageGot.{IsWriting, writing_in}
 use Rattle.sbp_world.proofs.Lists.ManageTerms.{none_is, untrue}

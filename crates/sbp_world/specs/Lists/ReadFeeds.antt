@@ -18,9 +18,15 @@ use Rattle.sbp_world.specs.Hosts.Runs.{IsRun, more_deliveries}
 use Rattle.sbp_world.specs.Lists.CarriedEnds.{RunWasRead}
 use Rattle.sbp_world.specs.Lists.FedRuns.{AreOthers, AreOwnOrOthers, RunIsSince}
 use Rattle.sbp_world.specs.Lists.FewLogins.{IsTameOrFew}
+use Rattle.sbp_world.specs.Lists.NobodyGots.{AllNobodyElsewhere}
 use Rattle.sbp_world.specs.Lists.OwnSince.{AllAwaited, AllElsewhereBut}
 
-pub record RunWasReadAndFed (start : List Disk) (past : List Moment) (i n k : ℕ) (bytes : List ℕ) : Type 0 where
+-- no initiator is among these
+abbrev pub AreNone : (ℕ → Bool) → Type 0
+AreNone wild = (i : ℕ) → wild i ≡ false
+
+-- beside these initiators that injected packets
+pub record RunWasReadAndFed (wild : ℕ → Bool) (start : List Disk) (past : List Moment) (i n k : ℕ) (bytes : List ℕ) : Type 0 where
   pub read : RunWasRead start past i n k
   pub since : RunIsSince start past i n k bytes
   pub response : since.fed.brought.response ≡ read.read.response
@@ -28,15 +34,21 @@ pub record RunWasReadAndFed (start : List Disk) (past : List Moment) (i n k : �
   pub small : since.fed.place < 8
   pub awaited : AllAwaited start i since.fed.place since.fed.later (since.fed.between ++ said (notes.Got since.fed.brought.response) ∷ since.fed.brought.earlier)
   -- so what the target got since of the initiator is its agent's or begins elsewhere than in the ORB's slot, where what answers no agent does
-  pub own : (let behind = said (notes.Got since.fed.brought.response) ∷ since.fed.brought.earlier in AllElsewhereBut start i (slot_at past i n k) since.fed.later (since.fed.between ++ behind) → AreOwnOrOthers start i since.fed.place (slot_at past i n k) since.fed.later (since.fed.between ++ behind))
-  -- and the carried law holds of it, where so does what the target got of the initiator before the agent turned to the ORB
-  pub carried : (let behind = said (notes.Got since.fed.brought.response) ∷ since.fed.brought.earlier in AreOthers i (slot_at past i n k) since.fed.between behind → AllElsewhereBut start i (slot_at past i n k) since.fed.later (since.fed.between ++ behind) → RunIsCarried start past i n k bytes)
+  pub own_but : (let behind = said (notes.Got since.fed.brought.response) ∷ since.fed.brought.earlier in AllElsewhereBut start i (slot_at past i n k) since.fed.later (since.fed.between ++ behind) → AreOwnOrOthers start i since.fed.place (slot_at past i n k) since.fed.later (since.fed.between ++ behind))
+  -- and where no initiator injected packets, it is so where what answers nobody begins elsewhere
+  pub own : AreNone wild → (let behind = said (notes.Got since.fed.brought.response) ∷ since.fed.brought.earlier in AllNobodyElsewhere start i (slot_at past i n k) since.fed.later (since.fed.between ++ behind) → AreOwnOrOthers start i since.fed.place (slot_at past i n k) since.fed.later (since.fed.between ++ behind))
+  -- and what it got of the initiator before the agent turned to the ORB begins elsewhere than in its slot, where what answers nobody does
+  pub others : AreNone wild → (let behind = said (notes.Got since.fed.brought.response) ∷ since.fed.brought.earlier in AllNobodyElsewhere start i (slot_at past i n k) since.fed.between behind → AreOthers i (slot_at past i n k) since.fed.between behind)
+  -- and the carried law holds of it, where what answers nobody does so
+  pub carried : AreNone wild → (let behind = said (notes.Got since.fed.brought.response) ∷ since.fed.brought.earlier in AllNobodyElsewhere start i (slot_at past i n k) since.fed.between behind → AllNobodyElsewhere start i (slot_at past i n k) since.fed.later (since.fed.between ++ behind) → RunIsCarried start past i n k bytes)
+  -- whoever injected packets, it holds where what was got before, and what answers no agent, begins elsewhere
+  pub carried_but : (let behind = said (notes.Got since.fed.brought.response) ∷ since.fed.brought.earlier in AreOthers i (slot_at past i n k) since.fed.between behind → AllElsewhereBut start i (slot_at past i n k) since.fed.later (since.fed.between ++ behind) → RunIsCarried start past i n k bytes)
   -- it holds wherever what was got since is the agent's or begins elsewhere
   pub carried_own : (let behind = said (notes.Got since.fed.brought.response) ∷ since.fed.brought.earlier in AreOthers i (slot_at past i n k) since.fed.between behind → AreOwnOrOthers start i since.fed.place (slot_at past i n k) since.fed.later (since.fed.between ++ behind) → RunIsCarried start past i n k bytes)
 
 -- of each initiator that is not among these
 abbrev pub ReadAndFedAt : (ℕ → Bool) → List Disk → Moment → List Moment → Type 0
-ReadAndFedAt wild start (said (notes.Ran i (Some n) (Some k) unit cdb bytes check)) past = wild i ≡ false → RunWasReadAndFed start past i n k bytes
+ReadAndFedAt wild start (said (notes.Ran i (Some n) (Some k) unit cdb bytes check)) past = wild i ≡ false → RunWasReadAndFed wild start past i n k bytes
 ReadAndFedAt wild start moment past = Unit {0}
 
 -- After every line of every run, and behind each delivery of a line that delivers one packet after the other.
