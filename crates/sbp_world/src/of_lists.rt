@@ -226,9 +226,9 @@ pub fn answers_to_the_management_begin_elsewhere()
     ensures { ManagedAsGotLaw }
 {}
 
-/// In every run in which no initiator injected packets, as each packet is got: while the agent of a place waits for an answer of an initiator
-/// and has an ORB that it read ahead, what is got of the initiator begins elsewhere than in the slot of that ORB, where what answers
-/// no agent does.
+/// In every run in which no initiator injected packets, or few logins were given (`IsTameOrFew`), as each packet is got: while the agent of
+/// a place waits for an answer of an initiator that injected none and has an ORB that it read ahead, what is got of the initiator begins
+/// elsewhere than in the slot of that ORB, where what answers no agent does.
 #[tactic(auto, using(crate::proofs::Lists::Clauses::ahead_gots))]
 pub fn orbs_read_ahead_are_spared_as_packets_are_got()
     ensures { AheadAsGotLaw }
@@ -252,8 +252,8 @@ pub fn what_is_got_since_spares_the_orb_read_ahead()
 /// In every run in which no initiator injected packets, or few logins were given (`IsTameOrFew`), the response that brought the ORB of
 /// each run of an initiator that injected none, as the carried law has it, is the one behind which its agent turned to it, and as each
 /// packet was got since then the agent waited for an answer of the initiator: the buffer and the data of the command are those by all
-/// that the target got of the initiator since the response, where what it got before the agent turned to the ORB, and what answers no
-/// agent, begins elsewhere than in the ORB's slot; and where no initiator injected packets, wherever what answers nobody does.
+/// that the target got of the initiator since the response, where what answers no agent begins elsewhere than in the ORB's slot; and
+/// where no initiator injected packets, wherever what answers nobody does.
 #[tactic(auto, using(crate::proofs::Lists::Clauses::feeds_law))]
 pub fn orbs_that_run_were_read_and_fed()
     ensures { ReadAndFedLaw }

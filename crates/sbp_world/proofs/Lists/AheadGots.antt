@@ -1,4 +1,4 @@
--- As each packet is got in a run in which no initiator injected packets: while an agent has an ORB that it read ahead, what it waits for begins not in the slot of that ORB, and so what is got of its initiator does
+-- As each packet is got in a run in which no initiator injected packets, or few logins were given: while an agent of an initiator that injected none has an ORB that it read ahead, what it waits for begins not in the slot of that ORB, and so what is got of its initiator does
 -- not, where what answers no agent does not.
 use Rattle.std.proofs.Common.{◌+◌, arith, inl, inr, ◌≡◌, ◌∙◌, refl, sym, ap, subst, ◌<◌, ◌≤◌, ◌-◌, ◌==◌, nat_lt, ℕ, suc, Bool, true, false, cond, List, [], ◌∷◌, length, Option, Some, None}
 use Rattle.std.proofs.lemmas.Bool.Decides.{nat_tests}
@@ -13,7 +13,6 @@ use Rattle.command_agent.specs.Machine.{Machine, chunk_of, cut_to, limit_of}
 use Rattle.agent_laws.specs.Along.Along.{Knows, KnowsAhead, Progress}
 use Rattle.agent_laws.specs.Along.Requests.{main_ask}
 use Rattle.agent_laws.specs.Along.Steps.{number_behind}
-use Rattle.login_table.specs.declared.login.Login.{Login}
 use Rattle.login_table.specs.Table.{Table, place_at}
 use Rattle.orb_layout.specs.declared.command.CommandOrb.{CommandOrb}
 use Rattle.orb_layout.specs.declared.pointer.OrbPointer.TheVariants.{At}
@@ -24,7 +23,7 @@ use Rattle.rbc_disk.specs.Disk.{Disk}
 use Rattle.sbp_journal.specs.Addresses.{Access}
 use Rattle.sbp_journal.specs.declared.event.Cmd.{Cmd}
 use Rattle.sbp_journal.specs.declared.event.Event.{Event}
-use Rattle.sbp_journal.specs.Run.{Moment, asked}
+use Rattle.sbp_journal.specs.Run.{Moment, asked, said}
 use Rattle.sbp_journal.specs.Transactions.{Sending}
 use Rattle.sbp_journal.specs.Wire.{Terms, terms}
 use Rattle.sbp_laws.specs.Agents.{fifo_in}
@@ -48,8 +47,10 @@ use Rattle.sbp_world.specs.Lists.Along.{GoesAlong}
 use Rattle.sbp_world.specs.Lists.Closes.{OpenListsLaw}
 use Rattle.sbp_world.specs.Lists.FedRuns.{AllElsewhere, IsOwnOrOther, is_main_of, main_moved, main_read}
 use Rattle.sbp_world.specs.Lists.Lists.{IsBufferOf}
-use Rattle.sbp_world.specs.Lists.Needs.{IsOpenAt, initiator_in, machine_at}
-use Rattle.sbp_world.specs.Lists.OwnLogins.{AreOwn, IsTame}
+use Rattle.sbp_world.specs.Lists.Needs.{IsCalm, IsOpenAt, initiator_in, is_open_at, machine_at}
+use Rattle.sbp_world.specs.Lists.FewLogins.{IsTameOrFew}
+use Rattle.sbp_world.specs.Lists.Opens.{AreOpened, IsOpened}
+use Rattle.sbp_world.specs.Lists.OwnLogins.{IsLoginFifo}
 use Rattle.sbp_world.specs.Lists.OwnReads.{data_slot}
 use Rattle.sbp_world.specs.Lists.OwnSince.{IsAwaited, IsElsewhereBut, by_purpose}
 use Rattle.sbp_world.proofs.Lists.Brought.{has_a_table, list}
@@ -58,18 +59,24 @@ use Rattle.sbp_world.proofs.Lists.DataSteps.{chunk_window}
 use Rattle.sbp_world.proofs.Lists.FedGots.{are_own_gots}
 use Rattle.sbp_world.proofs.Lists.FedOwners.{one_slot}
 use Rattle.sbp_world.proofs.Lists.GotTurns.{got_turn}
-use Rattle.sbp_world.proofs.Lists.Judging.{goes_next}
+use Rattle.sbp_world.proofs.Lists.Judging.{goes_next, grown as grown_by}
 use Rattle.sbp_world.proofs.Lists.ListsProved.{closing}
-use Rattle.sbp_world.proofs.Lists.LiveGiven.{ShortLaw, shorts_everywhere}
-use Rattle.sbp_world.proofs.Lists.LiveLogins.{logins_based}
-use Rattle.sbp_world.proofs.Lists.LiveRuns.{goes_tame}
+use Rattle.sbp_world.proofs.Lists.LiveGiven.{ShortLaw}
+use Rattle.sbp_world.proofs.Lists.LiveShort.{placed_beside}
+use Rattle.sbp_world.proofs.Lists.StatusPlaces.{AllPlacedFor}
+use Rattle.sbp_world.proofs.Lists.Calm.{calm_before}
+use Rattle.sbp_laws.specs.Lawful.{injectors}
+use Rattle.sbp_journal.specs.declared.note.Note.{Note}
+use Rattle.sbp_journal.specs.declared.note.Note.TheVariants as notes
+use Rattle.sbp_world.proofs.Lists.LiveRuns.{goes_tame_or_few}
 use Rattle.sbp_world.proofs.Lists.ManageSends.{opened_terms}
 use Rattle.sbp_world.proofs.Lists.ManageTerms.{none_is, same_some}
 use Rattle.sbp_world.proofs.Lists.ManagedGots.{NoData}
 use Rattle.sbp_world.proofs.Lists.OrbWaits.{over_twice}
 use Rattle.sbp_world.proofs.Lists.OwnFifos.{fifo_no_window}
 use Rattle.sbp_world.proofs.Lists.OwnGots.{answered_same, read_same, read_so}
-use Rattle.sbp_world.proofs.Lists.OwnLogins.{own_everywhere}
+use Rattle.sbp_world.proofs.Lists.OpenProved.{opens_law}
+use Rattle.sbp_world.proofs.Lists.OpenTurns.{listing_up, up_state}
 use Rattle.sbp_world.proofs.Lists.Sites.{IsPrepared, Site, Waiting, named_prepared, waiting as agent_waiting}
 use Rattle.sbp_world.proofs.Lists.Slots.{IsFilled, table_slot}
 use Rattle.sbp_world.proofs.Lists.StillReads.{ahead_name}
@@ -159,7 +166,7 @@ module _ (past : List Moment) (i n : ℕ) where
   main_data phases.Dead p m is_status fifo access orb k a r none small filled s d = kept_not orb a
 
 -- ---- at a place
-module _ (units ready : ℕ) (has : 0 < units) (start : List Disk) {past : List Moment} {lines : ℕ} (w : WorldState) (h : Holding units ready start past lines w) (q : Ground start (hist past w) w) (tame : IsTame (hist past w)) (owns : 0 < length w.initiators → AreOwn w) where
+module _ (units ready : ℕ) (has : 0 < units) (start : List Disk) {past : List Moment} {lines : ℕ} (w : WorldState) (h : Holding units ready start past lines w) (q : Ground start (hist past w) w) (beside : IsTameOrFew (hist past w)) (placed : AllPlacedFor (hist past w) w) (opens : AreOpened (hist past w) w) where
   abbrev ms : List Moment
   ms = hist past w
 
@@ -175,15 +182,17 @@ module _ (units ready : ℕ) (has : 0 < units) (start : List Disk) {past : List 
   same_initiator : (a b : ℕ) → Some (suc a) ≡ Some (suc b) → a ≡ b
   same_initiator a b e = cc
 
-  -- the FIFO of a login is in no slot
-  fifo_data : AreOwn w → (place : ℕ) (login : Option Login) → term_login T place ≡ login → NoData (fifo_in login)
-  fifo_data own place None e slot d = no_start slot d
-  fifo_data own place (Some login) e slot d =
+  -- the FIFO of a live login of an initiator that injected none is in no slot
+  fifo_data : (place : ℕ) → place < 8 → is_open_at w place ≡ true → IsCalm ms (initiator_in w place) → NoData (fifo_in (term_login T place))
+  fifo_data place b is_open calm slot d =
+      let x : IsOpened ms w place = opens place b (up_state _ (listing_up (machine_at w place).phase is_open)) in
       let tables : T.table ≡ w.target.logins = ap (λ (o : Office). o.table) (over_keeps (target_at start ms)) ∙ h.at.agrees.table in
-      let there : place_at w.target.logins.places place ≡ Some login = sym (ap (λ (x : Table). place_at x.places place) tables) ∙ e in
-      none_is slot (sym (ap data_slot (fifo_no_window login.fifo (own place login there))) ∙ d)
+      let there : term_login T place ≡ Some x.login = ap (λ (y : Table). place_at y.places place) tables ∙ x.is in
+      let named : fifo_in (term_login T place) ≡ x.login.fifo = ap fifo_in there in
+      let own : IsLoginFifo x.login.fifo = (placed (initiator_in w place) x.inside calm).1 place x.login x.is x.live refl in
+      none_is slot (sym (ap data_slot (fifo_no_window x.login.fifo own)) ∙ (ap (λ at. data_slot (window_at at)) (sym named) ∙ d))
 
-  module _ (serial place : ℕ) (b : place < 8) (side : Which) (mine : ℕ) (waits : serial_of side (agent_at T place) ≡ Some mine) (slot : ℕ) (x : HasAhead start ms place slot) where
+  module _ (serial place : ℕ) (b : place < 8) (calm : IsCalm ms (initiator_in w place)) (side : Which) (mine : ℕ) (waits : serial_of side (agent_at T place) ≡ Some mine) (slot : ℕ) (x : HasAhead start ms place slot) where
     wait : Waiting units ready has start w h site place b side mine
     wait = agent_waiting units ready has start w h site place b side mine waits
 
@@ -194,10 +203,10 @@ module _ (units ready : ℕ) (has : 0 < units) (start : List Disk) {past : List 
     m = machine_at w place
 
     abbrev o : IsOpenAt ms w place
-    o = (q.lists (inl tame)).listed place b wait.is_open (tame j)
+    o = (q.lists beside).listed place b wait.is_open calm
 
     abbrev goes : GoesAlong ms j o.n m
-    goes = q.along.all place b wait.is_open (tame j) o.n o.list
+    goes = q.along.all place b wait.is_open calm o.n o.list
 
     abbrev ended : ℕ
     ended = ends ms j o.n
@@ -212,7 +221,7 @@ module _ (units ready : ℕ) (has : 0 < units) (start : List Disk) {past : List 
     next_is = ap (λ (y : CommandOrb). y.next) (sym (alike.orb wait.is_open)) ∙ x.next
 
     ahead_there : prepared_in ms j slot ≡ Some (named_orb o.n (number_behind m.phase ended))
-    ahead_there = ahead_name units ready has start w h site (q.lists (inl tame)) q.along place b wait.is_open (tame j) x.orb kept x.offset next_is slot x.stands
+    ahead_there = ahead_name units ready has start w h site (q.lists beside) q.along place b wait.is_open calm x.orb kept x.offset next_is slot x.stands
 
     stored : (k : ℕ) → ended ≤ k → k < (list ms j o.n).linked → IsPrepared ms j (slot_at ms j o.n k) o.n k
     stored k from linked = named_prepared units ready has start w h site place o.n k o.inside (o.named k from linked)
@@ -231,12 +240,9 @@ module _ (units ready : ℕ) (has : 0 < units) (start : List Disk) {past : List 
       main_is : (s : ℕ) → data_slot (window_at asks.access.offset) ≡ Some s → IsPresent ms j o.n m.phase goes.progress.ended s
       main_is s d =
           main_data ms j o.n m.phase goes.progress m asks.status (fifo_in (term_login T place)) asks.access x.orb goes.along.main (subst (KnowsAhead (list ms j o.n) goes.progress m.phase m.orb.next) kept goes.along.ahead) asks.asks
-          (fifo_data (owns (some_initiator o.inside)) place (term_login T place) refl)
+          (fifo_data place b wait.is_open calm)
           (λ linked. (stored goes.progress.ended from_ended linked).small)
           (λ linked cmd command. let p = stored goes.progress.ended from_ended linked in site.filled j o.inside (slot_at ms j o.n goes.progress.ended) o.n goes.progress.ended cmd p.small p.there command) s d
-        where
-          some_initiator : j < length w.initiators → 0 < length w.initiators
-          some_initiator l = omega (arith, l)
 
       apart : data_slot (window_at asks.access.offset) ≡ Some slot → ⊥
       apart d =
@@ -276,7 +282,7 @@ module _ (units ready : ℕ) (has : 0 < units) (start : List Disk) {past : List 
           (subst (λ (p : Purpose). AllElsewhere slot (cond (is_main_of p place) (moved_by (access_at t own) (payload_at t serial)) [])) (sym f) (of_main which f)))
 
       agent_elsewhere : (which : Which) → purpose_of T own ≡ for_agent other which → AllElsewhere slot (read_by t j serial (Some own))
-      agent_elsewhere which f = subst (λ so. AllElsewhere slot (read_by t j serial so)) closed (by (are_own_gots units ready has start w h site (q.lists (inl tame)) q.along place b wait.is_open (tame j) serial own other slot which closed f))
+      agent_elsewhere which f = subst (λ so. AllElsewhere slot (read_by t j serial so)) closed (by (are_own_gots units ready has start w h site (q.lists beside) q.along place b wait.is_open calm serial own other slot which closed f))
         where
           by : IsOwnOrOther start ms j place slot serial → AllElsewhere slot (read_by t j serial (answered_at t serial))
           by (inl e) = subst (AllElsewhere slot) (sym e) (of_agent which f)
@@ -294,12 +300,12 @@ module _ (units ready : ℕ) (has : 0 < units) (start : List Disk) {past : List 
     of_initiator : IsElsewhereBut start ms j slot serial (answered_at t serial) → AllElsewhere slot (read_by t j serial (answered_at t serial))
     of_initiator but = by_answer (answered_at t serial) refl but
 
-  pub ahead_here : (serial : ℕ) → IsAheadElsewhere start ms serial
-  ahead_here serial place b i slot a x but =
+  pub ahead_here : (serial : ℕ) → IsAheadElsewhere (injectors ms) start ms serial
+  ahead_here serial place b i slot own a x but =
       let wait = agent_waiting units ready has start w h site place b a.side a.mine a.waits in
       let same : initiator_in w place ≡ i = same_initiator (initiator_in w place) i (sym wait.to ∙ a.to) in
       subst (λ k. AllElsewhere slot (read_by t k serial (answered_at t serial))) same
-      (of_initiator serial place b a.side a.mine a.waits slot x (subst (λ k. IsElsewhereBut start ms k slot serial (answered_at t serial)) (sym same) but))
+      (of_initiator serial place b (subst (IsCalm ms) (sym same) own) a.side a.mine a.waits slot x (subst (λ k. IsElsewhereBut start ms k slot serial (answered_at t serial)) (sym same) but))
 
 -- ---- as a line begins
 module _ (start : List Disk) (line : ℕ) (event : Event) (past : List Moment) where
@@ -332,54 +338,74 @@ module _ (start : List Disk) (line : ℕ) (event : Event) (past : List Moment) w
       subst (λ (y : Target). by_purpose (purpose_of y own) (AllElsewhere slot (read_by (terms past) i serial (Some own)))) twice
       (subst (λ (xs : List Moved). by_purpose (purpose_of (over (target_at start here)) own) (AllElsewhere slot xs)) (read_so start line event past i serial (Some own)) c)
 
-  ahead_asked : ((serial : ℕ) → IsAheadElsewhere start past serial) → (serial : ℕ) → IsAheadElsewhere start here serial
-  ahead_asked e serial place b i slot a x but =
+  ahead_asked : (wild : ℕ → Bool) → ((serial : ℕ) → IsAheadElsewhere wild start past serial) → (serial : ℕ) → IsAheadElsewhere wild start here serial
+  ahead_asked wild e serial place b i slot own a x but =
       subst (AllElsewhere slot) (sym (read_same start line event past i serial))
-      (e serial place b i slot (awaited_before i place a) (ahead_before place slot x)
+      (e serial place b i slot own (awaited_before i place a) (ahead_before place slot x)
       (but_before i slot serial (answered_at (terms past) serial) (subst (IsElsewhereBut start here i slot serial) (answered_same start line event past serial) but)))
+
+-- of more initiators that injected packets
+module _ (wild more : ℕ → Bool) (calm : (i : ℕ) → more i ≡ false → wild i ≡ false) (start : List Disk) where
+  ahead_but : (past : List Moment) (serial : ℕ) → IsAheadElsewhere wild start past serial → IsAheadElsewhere more start past serial
+  ahead_but past serial e place b i slot quiet = e place b i slot (calm i quiet)
+
+  note_but : (note : Note) (past : List Moment) → AheadAsGot wild start (said note) past → AheadAsGot more start (said note) past
+  note_but (notes.Got serial) past e = ahead_but past serial e
+  note_but note past e = tt
+
+  all_but : (past : List Moment) → EachMoment (AheadAsGot wild start) past → EachMoment (AheadAsGot more start) past
+  all_but [] e = tt
+  all_but (asked line event ∷ past) e = (tt, all_but past e.1)
+  all_but (said note ∷ past) e = (note_but note past e.0, all_but past e.1)
 
 -- ---- at each place of a run
 record Kit (start : List Disk) (past : List Moment) (w : WorldState) : Type 0 where
   ground : Ground start past w
-  owns : IsTame past → 0 < length w.initiators → AreOwn w
+  placed : IsTameOrFew past → AllPlacedFor past w
+  opens : AreOpened past w
 
 abbrev AheadSo : List Disk → List Moment → WorldState → Type 0
-AheadSo start past w = IsTame past → EachMoment (AheadAsGot start) past
+AheadSo start past w = IsTameOrFew past → EachMoment (AheadAsGot (injectors past) start) past
 
 module _ (short : ShortLaw) (lists : OpenListsLaw) where
   kit_everywhere : EveryPlace Kit
   kit_everywhere =
       let grounds = ground_everywhere lists in
-      let shorts = shorts_everywhere short in
-      let based = logins_based short in
+      let placed = placed_beside short in
       record {
         after_lines = λ line run r has small size so_far. record {
           ground = grounds.after_lines line run r has small size so_far;
-          owns = λ tame some. own_everywhere.after_lines line run r has small size so_far tame (shorts.after_lines line run r has small size so_far) (based.after_lines line run r has small size so_far tame) some;
+          placed = placed.after_lines line run r has small size so_far;
+          opens = opens_law.after_lines line run r has small size;
         };
         between = λ line run r has small size next most told m so_far. record {
           ground = grounds.between line run r has small size next most told m so_far;
-          owns = λ tame some. own_everywhere.between line run r has small size next most told m so_far tame (shorts.between line run r has small size next most told m so_far) (based.between line run r has small size next most told m so_far tame) some;
+          placed = placed.between line run r has small size next most told m so_far;
+          opens = opens_law.between line run r has small size next (more_deliveries most) (more_than_one most) told m;
         };
       }
 
   all_ahead : (units ready : ℕ) → 0 < units → (start : List Disk) → Keeps units ready start (Kit start) (AheadSo start)
-  all_ahead units ready has start past s later t lines more g h h_now q q_now e tame =
-      let tame_old = goes_tame past s later t g tame in
-      got_turn (IsAheadElsewhere start) (ahead_asked start) (hist past s.world) (hist later t.world) (goes_next past s later t g)
-      (ahead_here units ready has start s.world h q.ground tame_old (q.owns tame_old)) (e tame_old)
+  all_ahead units ready has start past s later t lines more g h h_now q q_now e beside =
+      let before = hist past s.world in
+      let now = hist later t.world in
+      let then = goes_tame_or_few past s later t g beside in
+      let grown = grown_by before now (goes_next past s later t g) in
+      let calm : (i : ℕ) → injectors now i ≡ false → injectors before i ≡ false = λ i quiet. calm_before grown.new before i (subst (λ ms. IsCalm ms i) (sym grown.is) quiet) in
+      got_turn (IsAheadElsewhere (injectors now) start) (λ line event past. ahead_asked start line event past (injectors now)) before now (goes_next past s later t g)
+      (λ serial. ahead_but (injectors before) (injectors now) calm start before serial (ahead_here units ready has start s.world h q.ground then (q.placed then) q.opens serial)) (all_but (injectors before) (injectors now) calm start before (e then))
 
   ahead_as_got : EveryPlace AheadSo
   ahead_as_got = record {
     after_lines = λ line run r has small size so_far.
-        at_lines Kit (AheadSo run.start.disks) kit_everywhere line run r.few has small size (all_ahead run.units (ready_logins run.initiators run.ready) has run.start.disks) (λ tame. (tt, (tt, tt))) r so_far;
+        at_lines Kit (AheadSo run.start.disks) kit_everywhere line run r.few has small size (all_ahead run.units (ready_logins run.initiators run.ready) has run.start.disks) (λ beside. (tt, (tt, tt))) r so_far;
     between = λ line run r has small size next most told m so_far.
-        at_between Kit (AheadSo run.start.disks) kit_everywhere line run r.few has small size (all_ahead run.units (ready_logins run.initiators run.ready) has run.start.disks) (λ tame. (tt, (tt, tt))) r next most told m so_far;
+        at_between Kit (AheadSo run.start.disks) kit_everywhere line run r.few has small size (all_ahead run.units (ready_logins run.initiators run.ready) has run.start.disks) (λ beside. (tt, (tt, tt))) r next most told m so_far;
   }
 
   pub ahead_as_got_law : AheadAsGotLaw
   ahead_as_got_law = record {
-    after_lines = λ line run r has small size tame. ahead_as_got.after_lines line run r has small size (closing.before lists line run r has small size (inl tame)) tame;
-    between = λ line run r has small size next most told m tame.
-        ahead_as_got.between line run r has small size next most told m (closing.between lists line run r has small size next (more_deliveries most) (more_than_one most) told m (inl tame)) tame;
+    after_lines = λ line run r has small size beside. ahead_as_got.after_lines line run r has small size (closing.before lists line run r has small size beside) beside;
+    between = λ line run r has small size next most told m beside.
+        ahead_as_got.between line run r has small size next most told m (closing.between lists line run r has small size next (more_deliveries most) (more_than_one most) told m beside) beside;
   }

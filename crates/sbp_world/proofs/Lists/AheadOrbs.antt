@@ -1,5 +1,5 @@
 -- While an agent had an ORB read ahead, what was got of its initiator begins elsewhere than in the slot of the ORB, by every history.
-use Rattle.std.proofs.Common.{◌<◌, ℕ, List, [], ◌∷◌, ◌++◌}
+use Rattle.std.proofs.Common.{◌≡◌, ◌<◌, ℕ, Bool, false, List, [], ◌∷◌, ◌++◌}
 use Rattle.bus_memory.specs.declared.window.Window.TheVariants as windows
 use Rattle.bus_memory.specs.Windows.{start as start_of}
 use Rattle.rbc_disk.specs.Disk.{Disk}
@@ -26,5 +26,5 @@ module _ (start : List Disk) (i place slot : ℕ) where
       by_note (notes.Got serial) a e more = ((a.0.awaited, (has_ahead (between ++ before) a.0, e.0)), more a.1 e.1)
       by_note note a e more = more a e
 
-  pub others_ahead : place < 8 → (between before : List Moment) → EachMoment (AheadAsGot start) (between ++ before) → AllAhead start i place (start_of (windows.Orb slot)) between before → AllElsewhereBut start i slot between before → AreOthers i slot between before
-  others_ahead small between before g a e = ahead_since_law start i place slot small between before g (kept_ahead between before a e)
+  pub others_ahead : (wild : ℕ → Bool) → wild i ≡ false → place < 8 → (between before : List Moment) → EachMoment (AheadAsGot wild start) (between ++ before) → AllAhead start i place (start_of (windows.Orb slot)) between before → AllElsewhereBut start i slot between before → AreOthers i slot between before
+  others_ahead wild own small between before g a e = ahead_since_law wild start i place slot own small between before g (kept_ahead between before a e)

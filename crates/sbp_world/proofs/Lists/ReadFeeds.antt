@@ -51,13 +51,13 @@ use Rattle.sbp_world.proofs.Lists.RunLaws.{order_run_law}
 use Rattle.sbp_world.proofs.Lists.SentGots.{sent_as_got}
 
 module _ (wild : ℕ → Bool) (start : List Disk) where
-  -- what was got as an ORB was read ahead, and what answers the management operation, where no initiator injected packets
+  -- what was got as an ORB was read ahead; and what answers the management operation, where no initiator injected packets
   record Elsewhere (past : List Moment) : Type 0 where
-    spared : AreNone wild → EachMoment (AheadAsGot start) past
+    spared : EachMoment (AheadAsGot wild start) past
     managed : AreNone wild → EachMoment (ManagedAsGot start) past
 
   elsewhere_before : (m : Moment) (past : List Moment) → Elsewhere (m ∷ past) → Elsewhere past
-  elsewhere_before m past e = record { spared = λ quiet. (e.spared quiet).1; managed = λ quiet. (e.managed quiet).1 }
+  elsewhere_before m past e = record { spared = e.spared.1; managed = λ quiet. (e.managed quiet).1 }
 
   module _ (past : List Moment) (so : OpensBeside past) (calm : (i : ℕ) → wild i ≡ false → IsCalm past i) (f : Told past) (j : AreJudged past) (sent : EachMoment (SentAsGot start) past) (opens : OpenAsGot start past) (law : OrderLaw wild past) (gots : EachMoment (OwnAsGot wild start) past) (elsewhere : Elsewhere past) where
     -- the buffer and the data by what was read since a response
@@ -92,8 +92,10 @@ module _ (wild : ℕ → Bool) (start : List Disk) where
         let behind = said (notes.Got since.fed.brought.response) ∷ since.fed.brought.earlier in
         let ahead : AllAhead start i place (address_of past i n k) since.fed.between behind =
         subst (λ (x : RunIsFed start past i n k bytes). AllAhead start i x.place (address_of past i n k) x.between (said (notes.Got x.brought.response) ∷ x.brought.earlier)) (sym same_fed) e.ahead in
+        let others_but : AllElsewhereBut start i slot since.fed.between behind → AreOthers i slot since.fed.between behind =
+        λ b. others_ahead start i place slot wild own small since.fed.between behind (each_from (AheadAsGot wild start) later before (subst (EachMoment (AheadAsGot wild start)) (sym since.fed.is) elsewhere.spared)) ahead b in
         let others : AreNone wild → AllNobodyElsewhere start i slot since.fed.between behind → AreOthers i slot since.fed.between behind =
-        λ quiet b. others_ahead start i place slot small since.fed.between behind (each_from (AheadAsGot start) later before (subst (EachMoment (AheadAsGot start)) (sym since.fed.is) (elsewhere.spared quiet))) ahead (but_nobody start i slot since.fed.between behind (each_from (ManagedAsGot start) later before (managed_since quiet)) b) in
+        λ quiet b. others_but (but_nobody start i slot since.fed.between behind (each_from (ManagedAsGot start) later before (managed_since quiet)) b) in
         record {
           read = read;
           since = since;
@@ -101,10 +103,11 @@ module _ (wild : ℕ → Bool) (start : List Disk) where
           small = small;
           awaited = awaited;
           own_but = own_but;
+          others_but = others_but;
+          carried_but = λ o b. carried_own (others_but o) (own_but b);
           own = own_nobody;
           others = others;
           carried = λ quiet o b. carried_own (others quiet o) (own_nobody quiet b);
-          carried_but = λ o b. carried_own o (own_but b);
           carried_own = carried_own;
         }
 
@@ -139,7 +142,7 @@ read_and_fed_law lists up spared managed = record {
       all_both (injectors past) run.start.disks past (closing, lists, beside) (λ i own. own) (told_everywhere.after_lines line run r has small size so_far) (judged_everywhere.after_lines line run r has small size so_far)
       ((sent_as_got lists).after_lines line run r has small size so_far beside) ((open_as_got lists up).after_lines line run r has small size so_far beside) (order_run_law.after_lines line run r has small size so_far)
       ((own_as_got lists).after_lines line run r has small size so_far beside)
-      (record { spared = λ quiet. spared.after_lines line run r has small size quiet; managed = λ quiet. managed.after_lines line run r has small size quiet }) (runs_named.after_lines line run r has small size so_far);
+      (record { spared = spared.after_lines line run r has small size beside; managed = λ quiet. managed.after_lines line run r has small size quiet }) (runs_named.after_lines line run r has small size so_far);
   between = λ line run r has small size next most told m beside.
       let now = map said (after_all told (begun (after (beginning run) run.entries))).world.fresh ++ asked next (more_deliveries most) ∷ history_of line run in
       let so_far = closing.between lists line run r has small size next (more_deliveries most) (more_than_one most) told m beside in
@@ -147,5 +150,5 @@ read_and_fed_law lists up spared managed = record {
       (judged_everywhere.between line run r has small size next most told m so_far) ((sent_as_got lists).between line run r has small size next most told m so_far beside)
       ((open_as_got lists up).between line run r has small size next most told m so_far beside) (order_run_law.between line run r has small size next (more_deliveries most) (more_than_one most) told m so_far)
       ((own_as_got lists).between line run r has small size next most told m so_far beside)
-      (record { spared = λ quiet. spared.between line run r has small size next most told m quiet; managed = λ quiet. managed.between line run r has small size next most told m quiet }) (runs_named.between line run r has small size next most told m so_far);
+      (record { spared = spared.between line run r has small size next most told m beside; managed = λ quiet. managed.between line run r has small size next most told m quiet }) (runs_named.between line run r has small size next most told m so_far);
 }

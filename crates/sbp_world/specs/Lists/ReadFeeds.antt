@@ -35,14 +35,16 @@ pub record RunWasReadAndFed (wild : ℕ → Bool) (start : List Disk) (past : Li
   pub awaited : AllAwaited start i since.fed.place since.fed.later (since.fed.between ++ said (notes.Got since.fed.brought.response) ∷ since.fed.brought.earlier)
   -- so what the target got since of the initiator is its agent's or begins elsewhere than in the ORB's slot, where what answers no agent does
   pub own_but : (let behind = said (notes.Got since.fed.brought.response) ∷ since.fed.brought.earlier in AllElsewhereBut start i (slot_at past i n k) since.fed.later (since.fed.between ++ behind) → AreOwnOrOthers start i since.fed.place (slot_at past i n k) since.fed.later (since.fed.between ++ behind))
-  -- and where no initiator injected packets, it is so where what answers nobody begins elsewhere
+  -- and what it got of the initiator before the agent turned to the ORB begins elsewhere than in its slot, where what answers no agent does
+  pub others_but : (let behind = said (notes.Got since.fed.brought.response) ∷ since.fed.brought.earlier in AllElsewhereBut start i (slot_at past i n k) since.fed.between behind → AreOthers i (slot_at past i n k) since.fed.between behind)
+  -- and the carried law holds of it, where what answers no agent does so
+  pub carried_but : (let behind = said (notes.Got since.fed.brought.response) ∷ since.fed.brought.earlier in AllElsewhereBut start i (slot_at past i n k) since.fed.between behind → AllElsewhereBut start i (slot_at past i n k) since.fed.later (since.fed.between ++ behind) → RunIsCarried start past i n k bytes)
+  -- where no initiator injected packets, the same is so where what answers nobody begins elsewhere: of what was got since the agent turned to the ORB
   pub own : AreNone wild → (let behind = said (notes.Got since.fed.brought.response) ∷ since.fed.brought.earlier in AllNobodyElsewhere start i (slot_at past i n k) since.fed.later (since.fed.between ++ behind) → AreOwnOrOthers start i since.fed.place (slot_at past i n k) since.fed.later (since.fed.between ++ behind))
-  -- and what it got of the initiator before the agent turned to the ORB begins elsewhere than in its slot, where what answers nobody does
+  -- of what was got before
   pub others : AreNone wild → (let behind = said (notes.Got since.fed.brought.response) ∷ since.fed.brought.earlier in AllNobodyElsewhere start i (slot_at past i n k) since.fed.between behind → AreOthers i (slot_at past i n k) since.fed.between behind)
-  -- and the carried law holds of it, where what answers nobody does so
+  -- so the carried law holds of it
   pub carried : AreNone wild → (let behind = said (notes.Got since.fed.brought.response) ∷ since.fed.brought.earlier in AllNobodyElsewhere start i (slot_at past i n k) since.fed.between behind → AllNobodyElsewhere start i (slot_at past i n k) since.fed.later (since.fed.between ++ behind) → RunIsCarried start past i n k bytes)
-  -- whoever injected packets, it holds where what was got before, and what answers no agent, begins elsewhere
-  pub carried_but : (let behind = said (notes.Got since.fed.brought.response) ∷ since.fed.brought.earlier in AreOthers i (slot_at past i n k) since.fed.between behind → AllElsewhereBut start i (slot_at past i n k) since.fed.later (since.fed.between ++ behind) → RunIsCarried start past i n k bytes)
   -- it holds wherever what was got since is the agent's or begins elsewhere
   pub carried_own : (let behind = said (notes.Got since.fed.brought.response) ∷ since.fed.brought.earlier in AreOthers i (slot_at past i n k) since.fed.between behind → AreOwnOrOthers start i since.fed.place (slot_at past i n k) since.fed.later (since.fed.between ++ behind) → RunIsCarried start past i n k bytes)
 
