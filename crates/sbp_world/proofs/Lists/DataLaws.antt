@@ -39,7 +39,7 @@ use Rattle.sbp_world.specs.Lists.DataHolds.{AllDataHeld}
 use Rattle.sbp_world.proofs.Lists.DataHolds.{held_law}
 
 all_office : (past : List Moment) (w : WorldState) → DryAt past w → AllPlaced past w → IsTame past → AreShort past → ((i : ℕ) → i < length w.initiators → EachMoment (BasedAt i) past) → AllOfficeDry past w
-all_office past w dry placed tame shorts based i inside calm = ((placed i inside calm).1, dry (tame, shorts, based) i inside)
+all_office past w dry placed tame shorts based i inside calm = ((placed i inside calm).1, dry i inside calm shorts (based i inside))
 
 module _ (short : ShortLaw) where
   dry_by : Under (WhereTame AllOfficeDry)
