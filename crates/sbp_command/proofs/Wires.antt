@@ -17,7 +17,6 @@ use Rattle.sbp_world.proofs.Lists.Executes.{due_runs_law}
 use Rattle.sbp_world.proofs.Lists.GrantRuns.{few_logins_law}
 use Rattle.sbp_world.specs.Lists.AnswerLengths.{LengthOf}
 use Rattle.sbp_world.specs.Lists.AnswersHold.{AnswersHold}
-use Rattle.sbp_world.specs.Lists.OwnLogins.{IsTame}
 use Rattle.sbp_world.specs.Lists.Brought.{AreBrought}
 use Rattle.sbp_world.specs.Lists.CarriedEnds.{WereRead}
 use Rattle.sbp_world.specs.Wire.History.{IsOfWire}
@@ -102,11 +101,12 @@ run_reads line run start same units some most few count all lines =
     (reads_law.after_lines line run is some most size (inr (few_logins_law.few line run is some most size (omega arith))))
 
 pub run_answers : (line : ℕ) (run : Run) (start : Held) → run.start ≡ start → run.units ≡ length start.disks → 0 < run.units → run.units ≤ 4 → run.initiators ≤ 4 → length run.entries ≤ 65535 → AreEntries (beginning run) run.entries → AreLines run run.entries
-    → IsTame (history_of line run) → AnswersHold (injectors (history_of line run)) start.disks (history_of line run)
-run_answers line run start same units some most few count all lines tame =
+    → AnswersHold (injectors (history_of line run)) start.disks (history_of line run)
+run_answers line run start same units some most few count all lines =
     let is : IsRun run = record { few = few; short = omega arith; entries = all; lines = lines } in
     let size : length run.start.disks ≡ run.units = ap (λ (h : Held). length h.disks) same ∙ sym units in
-    subst (λ s. AnswersHold (injectors (history_of line run)) s (history_of line run)) (ap (λ (h : Held). h.disks) same) (answers_hold line run is some most size tame)
+    subst (λ s. AnswersHold (injectors (history_of line run)) s (history_of line run)) (ap (λ (h : Held). h.disks) same) 
+    (answers_hold line run is some most size (inr (few_logins_law.few line run is some most size (omega arith))))
 
 pub run_lengths : (line : ℕ) (run : Run) (start : Held) → run.start ≡ start → run.units ≡ length start.disks → 0 < run.units → run.units ≤ 4 → run.initiators ≤ 4 → length run.entries ≤ 65535 → AreEntries (beginning run) run.entries → AreLines run run.entries
     → (i : ℕ) → i < run.initiators → injectors (history_of line run) i ≡ false → EachMoment (LengthOf start.disks i) (history_of line run)

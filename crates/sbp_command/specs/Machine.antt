@@ -14,7 +14,6 @@ use Rattle.sbp_laws.specs.OnTheBus.{LawfulOnTheBus}
 use Rattle.sbp_laws.specs.Turns.{EachMoment, EachTurn}
 use Rattle.sbp_world.specs.Lists.AnswerLengths.{LengthOf}
 use Rattle.sbp_world.specs.Lists.AnswersHold.{AnswersHold}
-use Rattle.sbp_world.specs.Lists.OwnLogins.{IsTame}
 use Rattle.sbp_world.specs.Lists.Brought.{AreBrought}
 use Rattle.sbp_world.specs.Lists.CarriedEnds.{WereRead}
 use Rattle.sbp_world.specs.Wire.History.{IsOfWire}
@@ -26,7 +25,7 @@ use Rattle.script_runner.specs.Events.{events_of, journal}
 -- what the notes alone say of them: each medium holds what the disk fold gives, and each failing run raised its count. And its history
 -- keeps the laws of the wire, and its journal the part of the laws that is of the bus; the statuses that it takes are those that are due, and so
 -- are the commands that run; and it keeps the laws of lists, of the initiators that injected no packets, which read so in the order of time; what
--- they had run, and what ended, was read as the carried law says, and brought by reads; and each answer that they take has its length; and where nobody injected packets, it is what was written of it, and
+-- they had run, and what ended, was read as the carried law says, and brought by reads; and each answer that they take has its length, is what was written of it, and is
 -- the plain disk's.
 pub record HasRun (start : Held) (happened : List (ℕ × Event)) (notes : List Note) (now : Held) : Type 0 where
   pub line : ℕ
@@ -46,7 +45,7 @@ pub record HasRun (start : Held) (happened : List (ℕ × Event)) (notes : List 
   pub on_lists : LawfulOnLists (injectors (history_of line run)) start.disks (history_of line run)
   pub brought : AreBrought (injectors (history_of line run)) start.disks (history_of line run)
   pub reads : WereRead (injectors (history_of line run)) start.disks (history_of line run)
-  pub answers : IsTame (history_of line run) → AnswersHold (injectors (history_of line run)) start.disks (history_of line run)
+  pub answers : AnswersHold (injectors (history_of line run)) start.disks (history_of line run)
   pub lengths : (i : ℕ) → i < run.initiators → injectors (history_of line run) i ≡ false → EachMoment (LengthOf start.disks i) (history_of line run)
   pub in_time : ReadsInTime (injectors (history_of line run)) (history_of line run)
 

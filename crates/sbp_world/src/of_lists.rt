@@ -508,12 +508,12 @@ pub fn agents_write_the_next_chunk()
     ensures { DataWritesLaw }
 {}
 
-/// In every run in which no initiator injected packets, where lists were open as they should be before, each write of the target
-/// into a data buffer of an initiator was of the next chunk of the answer of an ORB as it was sent: as the turn began, that ORB
-/// was the first one of its list that had not ended, its slot had it, and the write has the bytes of its agent's answer behind
-/// those that were written; it ran, and has not ended in this turn but as failed; and no write of data was sent before it in the
-/// turn. These writes come in turn: the first one in the turn in which the command runs, and each later one as the target gets
-/// the answer, with rcode 0, to the write of the chunk before it, where that ended.
+/// In every run in which no initiator injected packets, or few logins were given, where lists were open as they should be before,
+/// each write of the target into a data buffer of an initiator that injected none was of the next chunk of the answer of an ORB as
+/// it was sent: as the turn began, that ORB was the first one of its list that had not ended, its slot had it, and the write has
+/// the bytes of its agent's answer behind those that were written; it ran, and has not ended in this turn but as failed; and no
+/// write of data was sent before it in the turn. These writes come in turn: the first one in the turn in which the command runs,
+/// and each later one as the target gets the answer, with rcode 0, to the write of the chunk before it, where that ended.
 #[tactic(auto, using(crate::proofs::Lists::Clauses::data_law))]
 pub fn answers_are_sent_in_chunks()
     ensures { DataSentLaw }
@@ -552,66 +552,69 @@ pub fn initiators_have_one_agent_up()
     ensures { OneUpLaw }
 {}
 
-/// In every run in which no initiator injected packets, where lists were open as they should be before, each write of the target into a
-/// data buffer of an initiator is of a generation that the initiator has seen; and in the present one it is of an ORB that ran, which
-/// its slot has until the status of the ORB is taken.
+/// In every run in which no initiator injected packets, or few logins were given, where lists were open as they should be before,
+/// each write of the target into a data buffer of an initiator that injected none is of a generation that the initiator has seen;
+/// and in the present one it is of an ORB that ran, which its slot has until the status of the ORB is taken.
 #[tactic(auto, using(crate::proofs::Lists::Clauses::held_law))]
 pub fn slots_are_held_for_data()
     ensures { DataHeldLaw }
 {}
 
-/// In every run in which no initiator injected packets, where lists were open as they should be before, each write of the data of an
-/// ORB but the latest one was closed with rcode 0 and served once; behind an end of the ORB, but as failed, the latest one was, too; and
-/// until a write is judged its slot has the ORB. So it is of the writes in the generation that the initiator is in.
+/// In every run in which no initiator injected packets, or few logins were given, where lists were open as they should be before,
+/// each write of the data of an ORB of an initiator that injected none, but the latest one, was closed with rcode 0 and served
+/// once; behind an end of the ORB, but as failed, the latest one was, too; and until a write is judged its slot has the ORB. So it
+/// is of the writes in the generation that the initiator is in.
 #[tactic(auto, using(crate::proofs::Lists::Clauses::served_law))]
 pub fn data_are_served_in_turn()
     ensures { DataServedLaw }
 {}
 
-/// In every run in which no initiator injected packets, where lists were open as they should be before, the data of an answer are written
-/// in sequence: the first write of an ORB's data begins with the first byte of the answer, and each later one behind the bytes of the one
-/// before it, which was served, and wrote a whole chunk of the buffer. Behind an end, but as failed, the last one ended with the buffer.
-/// So it is of the writes in the generation that the initiator is in.
+/// In every run in which no initiator injected packets, or few logins were given, where lists were open as they should be before,
+/// the data of an answer to an initiator that injected none are written in sequence: the first write of an ORB's data begins with
+/// the first byte of the answer, and each later one behind the bytes of the one before it, which was served, and wrote a whole
+/// chunk of the buffer. Behind an end, but as failed, the last one ended with the buffer. So it is of the writes in the generation
+/// that the initiator is in.
 #[tactic(auto, using(crate::proofs::Lists::Clauses::sequence_law))]
 pub fn data_are_written_in_sequence()
     ensures { DataSequenceLaw }
 {}
 
-/// In every run in which no initiator injected packets, where lists were open as they should be before, a write into the data buffer of
-/// a slot that an initiator gets is of the data of the ORB that the slot has, in its sequence; it is the latest write of these data, and
-/// each one before it was served.
+/// In every run in which no initiator injected packets, or few logins were given, where lists were open as they should be before, a
+/// write into the data buffer of a slot that an initiator gets which injected none is of the data of the ORB that the slot has, in
+/// its sequence; it is the latest write of these data, and each one before it was served.
 #[tactic(auto, using(crate::proofs::Lists::Clauses::data_gots))]
 pub fn initiators_get_data_in_sequence()
     ensures { DataGotsLaw }
 {}
 
-/// In every run in which no initiator injected packets, where lists were open as they should be before, a write of the target into a data
-/// buffer that was served was got: what an initiator ignores for its slot is written to a FIFO.
+/// In every run in which no initiator injected packets, or few logins were given, where lists were open as they should be before, a
+/// write of the target into a data buffer of an initiator that injected none, which was served, was got: what an initiator ignores
+/// for its slot is written to a FIFO.
 #[tactic(auto, using(crate::proofs::Lists::Clauses::served_got))]
 pub fn data_that_were_served_were_got()
     ensures { ServedGotLaw }
 {}
 
-/// In every run in which no initiator injected packets, where lists were open as they should be before, the answer of each good status
-/// that is taken is, as the carried law says, the payloads, joined, of the writes to the chunks of its ORB's buffer that the initiator
-/// got since the run. Where the data of the ORB go to it, these are what brought bytes of the buffer since the append, and are its
-/// chunks, each once and in order; where they do not, it got none.
+/// In every run in which no initiator injected packets, or few logins were given, where lists were open as they should be before,
+/// the answer of each good status that is taken by one that injected none is, as the carried law says, the payloads, joined, of the
+/// writes to the chunks of its ORB's buffer that the initiator got since the run. Where the data of the ORB go to it, these are
+/// what brought bytes of the buffer since the append, and are its chunks, each once and in order; where they do not, it got none.
 #[tactic(auto, using(crate::proofs::Lists::Clauses::answers_brought))]
 pub fn answers_are_what_data_writes_brought()
     ensures { AnswersBroughtLaw }
 {}
 
-/// In every run in which no initiator injected packets, each answer of a good status that is taken is what the target's writes brought to
-/// the chunks of its ORB's buffer since the run, and it is the answer of the plain disk as that was before the ORB ran: its length
-/// always, and its bytes where the medium tells them.
+/// In every run in which no initiator injected packets, or few logins were given, each answer of a good status that is taken by one
+/// that injected none is what the target's writes brought to the chunks of its ORB's buffer since the run, and it is the answer of
+/// the plain disk as that was before the ORB ran: its length always, and its bytes where the medium tells them.
 #[tactic(auto, using(crate::proofs::Lists::Clauses::answers_hold))]
 pub fn answers_are_those_of_the_plain_disk()
     ensures { AnswersHoldLaw }
 {}
 
-/// In every run in which no initiator injected packets, where lists were open as they should be before, an ORB whose data go to its
-/// initiator, in a buffer with bytes, ends good in the turn in which the target gets the answer, with rcode 0, to the write of the last
-/// chunk of its answer; one whose data do not, in the turn in which it runs.
+/// In every run where lists were open as they should be before, an ORB of an initiator that injected no packets whose data go to
+/// its initiator, in a buffer with bytes, ends good in the turn in which the target gets the answer, with rcode 0, to the write of
+/// the last chunk of its answer; one whose data do not, in the turn in which it runs.
 #[tactic(auto, using(crate::proofs::Lists::DataLaws::good_law))]
 pub fn good_ends_come_behind_the_last_chunk()
     ensures { GoodEndsLaw }

@@ -1,4 +1,4 @@
--- In every run in which no initiator injected packets, where lists were open as they should be before, the answers of good statuses are what the data writes of their ORBs brought.
+-- In every run in which no initiator injected packets, or few logins were given, where lists were open as they should be before, the answers of good statuses are what the data writes of their ORBs brought.
 use Rattle.sbp_world.proofs.Lists.AnswersCarriedTaken.{WholeAt, all_brought, each_whole}
 use Rattle.sbp_world.specs.Worlds.{WorldState}
 use Rattle.sbp_world.specs.Lists.Needs.{IsCalm}
@@ -7,7 +7,7 @@ use Rattle.sbp_journal.specs.Run.{Moment}
 use Rattle.sbp_laws.specs.Turns.{EachMoment}
 use Rattle.std.proofs.Common.{ℕ, List, length}
 use Rattle.sbp_world.specs.Lists.Closes.{UnderFrom}
-use Rattle.std.proofs.Common.{inl, ◌∙◌, subst, ◌<◌, ◌∷◌, ◌++◌, map}
+use Rattle.std.proofs.Common.{◌∙◌, subst, ◌<◌, ◌∷◌, ◌++◌, map}
 use Rattle.sbp_journal.specs.Run.{asked, said}
 use Rattle.sbp_laws.specs.Lawful.{injectors}
 use Rattle.sbp_world.specs.Histories.{history_of}
@@ -22,7 +22,7 @@ use Rattle.sbp_world.proofs.Lists.Sights.{sights_after, sights_between}
 use Rattle.sbp_world.proofs.Lists.StatusLaws.{status_of_run_law}
 use Rattle.sbp_world.proofs.Hosts.Runs.{count_after, count_between}
 use Rattle.sbp_world.specs.Lists.AnswersCarried.{AnswersBroughtLaw}
-use Rattle.sbp_world.specs.Lists.Closes.{Under, WhereTame, WhereTameOrFew}
+use Rattle.sbp_world.specs.Lists.Closes.{Under, WhereTameOrFew}
 use Rattle.sbp_world.specs.Lists.DataEnds.{AllEndSo}
 use Rattle.sbp_world.specs.Lists.DataWrites.{AllDataSo}
 use Rattle.sbp_world.specs.Lists.Statuses.{AllStatuses}
@@ -36,8 +36,8 @@ use Rattle.sbp_world.proofs.Lists.StatusRuns.{delivering}
 abbrev pub AllWhole : List Disk → List Moment → WorldState → Type 0
 AllWhole start past w = (i : ℕ) → i < length w.initiators → (calm : IsCalm past i) → EachMoment (WholeAt start (injectors past) i calm) past
 
-module _ (data_so : UnderFrom (λ start. WhereTame (AllDataSo start))) (ends_so : Under AllEndSo) (statuses : Under (WhereTameOrFew AllStatuses)) (good_ends : GoodEndsLaw) where
-  pub whole_law : UnderFrom (λ start. WhereTame (AllWhole start))
+module _ (data_so : UnderFrom (λ start. WhereTameOrFew (AllDataSo start))) (ends_so : Under AllEndSo) (statuses : Under (WhereTameOrFew AllStatuses)) (good_ends : GoodEndsLaw) where
+  pub whole_law : UnderFrom (λ start. WhereTameOrFew (AllWhole start))
   whole_law = record {
     after_lines = λ line run r has small size so_far tame i b calm.
         let H = history_of line run in
@@ -49,8 +49,8 @@ module _ (data_so : UnderFrom (λ start. WhereTame (AllDataSo start))) (ends_so 
           apart = apart_of line run r i inside;
           wires = (manage.known_after line run r).wire.moments;
           sights = sights_after line run r;
-          good = good_ends.after_lines line run r has small size so_far tame i b calm;
-          of_one = (status_of_run_law statuses).places.after_lines line run r has small size so_far (inl tame) i b calm;
+          good = good_ends.after_lines line run r has small size so_far i b calm;
+          of_one = (status_of_run_law statuses).places.after_lines line run r has small size so_far tame i b calm;
           fit = fit_after line run r.lines;
         })
         (λ later before n k answer e. record { held = taken_law.answers line run r i inside later before n k answer e; gathered = gathered_law.answers line run r i inside later before n k answer e });
@@ -66,8 +66,8 @@ module _ (data_so : UnderFrom (λ start. WhereTame (AllDataSo start))) (ends_so 
           apart = apart_between line run r next (more_deliveries most) told (delivering (more_deliveries most) told (delivers most)) m i inside;
           wires = (manage.known_between line run r next most told m).wire.moments;
           sights = sights_between line run r next most told m;
-          good = good_ends.between line run r has small size next most told m so_far tame i b calm;
-          of_one = (status_of_run_law statuses).places.between line run r has small size next most told m so_far (inl tame) i b calm;
+          good = good_ends.between line run r has small size next most told m so_far i b calm;
+          of_one = (status_of_run_law statuses).places.between line run r has small size next most told m so_far tame i b calm;
           fit = fit_said w.fresh _ (more_fit most, fit_after line run r.lines);
         })
         (λ later before n k answer e. record { held = taken_law.between line run r next most told m i inside later before n k answer e; gathered = gathered_law.between line run r next most told m i inside later before n k answer e });

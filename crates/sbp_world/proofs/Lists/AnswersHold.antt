@@ -1,5 +1,5 @@
--- Each answer that is taken is carried, and is that of the plain disk, in every run in which no initiator injected packets.
-use Rattle.std.proofs.Common.{inl, nat_eq, arith, refl, ◌≡◌, ◌∙◌, sym, ap, subst, IfSome, ◌<◌, ℕ, Bool, true, false, List, [], ◌∷◌, Some}
+-- Each answer that is taken is carried, and is that of the plain disk, in every run in which no initiator injected packets, or few logins were given.
+use Rattle.std.proofs.Common.{nat_eq, arith, refl, ◌≡◌, ◌∙◌, sym, ap, subst, IfSome, ◌<◌, ℕ, Bool, true, false, List, [], ◌∷◌, Some}
 use Rattle.std.proofs.lemmas.Bool.Decides.{nat_tests}
 use Rattle.orb_layout.specs.declared.status.StatusKind.TheVariants as kinds
 use Rattle.rbc_disk.specs.Disk.{Disk}
@@ -14,7 +14,7 @@ use Rattle.sbp_laws.specs.Turns.{EachMoment}
 use Rattle.sbp_world.specs.Histories.{history_of}
 use Rattle.sbp_world.specs.Lists.AnswerLengths.{AnswerLengthsLaw, HasLength, LengthOf}
 use Rattle.sbp_world.specs.Lists.AnswersHold.{AnswerCarriedAt, AnswersHoldLaw}
-use Rattle.sbp_world.specs.Lists.Closes.{OpenListsLaw, UnderFrom, WhereTame}
+use Rattle.sbp_world.specs.Lists.Closes.{OpenListsLaw, UnderFrom, WhereTameOrFew}
 use Rattle.sbp_world.proofs.Lists.AnswerLengths.{AreFilled, commands_fill, filled_behind}
 use Rattle.sbp_world.proofs.Lists.AnswersCarriedTaken.{IsWhole, IsWhose, WholeAt, of_data, of_none}
 use Rattle.sbp_world.proofs.Lists.AnswersRight.{answers, told_empty, told_written}
@@ -79,10 +79,10 @@ module _ (start : List Disk) (wild : ℕ → Bool) (most : ℕ) where
   all_carried (asked line event ∷ past) h f = (tt, all_carried past h (λ j b own. (f j b own).1))
 
 -- ---- over a run
-pub answers_hold_law : OpenListsLaw → UnderFrom (λ start. WhereTame (AllWhole start)) → AnswerLengthsLaw → AnswersHoldLaw
+pub answers_hold_law : OpenListsLaw → UnderFrom (λ start. WhereTameOrFew (AllWhole start)) → AnswerLengthsLaw → AnswersHoldLaw
 answers_hold_law lists whole lengths line run r has small size tame =
     let H = history_of line run in
-    let so_far = closing.before lists line run r has small size (inl tame) in
+    let so_far = closing.before lists line run r has small size tame in
     let passes = (after_lines (injectors H) line run r has small size (λ j own. so_far) (λ j own. own)).law in
     let each : (i : ℕ) → i < run.initiators → (own : injectors H i ≡ false) → EachMoment (WholeAt run.start.disks (injectors H) i own) H =
     λ i b own. whole.after_lines line run r has small size so_far tame i (subst (λ n. i < n) (sym (count_after run run.entries)) b) own in
@@ -91,5 +91,5 @@ answers_hold_law lists whole lengths line run r has small size tame =
       answers =
           all_answers run.start.disks (injectors H) run.initiators H (run_inside line run r)
           (λ i b own.
-          each_answer run.start.disks (injectors H) i own H (each i b own) (lengths.lengths line run r has small size (inl tame) i b own) passes (execution_run_law.after_lines line run r has small size so_far) (filled_behind line run run.entries r.lines));
+          each_answer run.start.disks (injectors H) i own H (each i b own) (lengths.lengths line run r has small size tame i b own) passes (execution_run_law.after_lines line run r has small size so_far) (filled_behind line run run.entries r.lines));
     }

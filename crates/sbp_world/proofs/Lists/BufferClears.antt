@@ -71,43 +71,37 @@ pub record Ground (start : List Disk) (past : List Moment) (w : WorldState) : Ty
 
 module _ (units ready : ℕ) (more_units : 0 < units) (start : List Disk) {past : List Moment} {lines : ℕ} (w : WorldState) (h : Holding units ready start past lines w) (g : Ground start (hist past w) w) where
   module _ (i : ℕ) (inside : i < length w.initiators) (calm : IsCalm (hist past w) i) (shorts : AreShort (hist past w)) (based : EachMoment (BasedAt i) (hist past w)) where
-    small : i + 1 < 2 ^ 16
-    small = let all = g.known.wrote.few in omega (arith, inside, all)
+    pub few_of : i + 1 < 2 ^ 16
+    few_of = let all = g.known.wrote.few in omega (arith, inside, all)
 
-    node_of_it : (op : Operation) → node_of w.generations 0 op.source ≡ Some (suc i) → op.source ≡ id_in w i
-    node_of_it op n = sym (node_has (topology_at w.generations 0) op.source (suc i) n).id_is
+    pub node_is : (op : Operation) → node_of w.generations 0 op.source ≡ Some (suc i) → op.source ≡ id_in w i
+    node_is op n = sym (node_has (topology_at w.generations 0) op.source (suc i) n).id_is
 
     own_at : (op : Operation) → w.target.manager.operation ≡ Some op → op.source ≡ id_in w i → IsOwnOp start (hist past w) i op
     own_at op is source =
         g.ops i inside calm shorts based op (operation_is units ready more_units start w h i inside ∙ is)
         (source ∙ sym (id_is units ready more_units start w h i inside))
 
-    its_own : (op : Operation) → w.target.manager.operation ≡ Some op → node_of w.generations 0 op.source ≡ Some (suc i) → IsOwnOp start (hist past w) i op
-    its_own op is n = own_at op is (node_of_it op n)
+    pub own_of : (op : Operation) → w.target.manager.operation ≡ Some op → node_of w.generations 0 op.source ≡ Some (suc i) → IsOwnOp start (hist past w) i op
+    own_of op is n = own_at op is (node_is op n)
 
     placed_for : ArePlacedFor w i
     placed_for op is source = let o = own_at op is source in (o.place, (o.small, o.orb))
 
     fifos_clear : AreFifosClear i w
     fifos_clear = record {
-      kept = λ op fifo is n phase. its_clear fifo (subst (λ (x : Phase). GoodIn x) phase (its_own op is n).good);
-      low = λ op orb high is n phase. its_clear orb.fifo (subst (λ (x : Phase). GoodIn x) phase (its_own op is n).good).its;
+      kept = λ op fifo is n phase. its_clear fifo (subst (λ (x : Phase). GoodIn x) phase (own_of op is n).good);
+      low = λ op orb high is n phase. its_clear orb.fifo (subst (λ (x : Phase). GoodIn x) phase (own_of op is n).good).its;
       read = λ sent is_for p label e op is n phase bytes pays.
           its_clear (management_orb bytes).fifo
-          (brings_good units ready more_units start w h i inside small calm (g.known.wrote.none i inside) g.known.counts g.known.are (g.known.places i inside) shorts (g.known.logins i inside) is_for.serial sent is_for.found is_for.to p label e op is (node_of_it op n) (its_own op is n)
+          (brings_good units ready more_units start w h i inside few_of calm (g.known.wrote.none i inside) g.known.counts g.known.are (g.known.places i inside) shorts (g.known.logins i inside) is_for.serial sent is_for.found is_for.to p label e op is (node_is op n) (own_of op is n)
           phase bytes (payload_is (answer_in p) 32 bytes pays)).its;
     }
 
   -- where no initiator injected packets
   module _ (c : Tamely (length w.initiators) (hist past w)) (i : ℕ) (inside : i < length w.initiators) where
     pub few : i + 1 < 2 ^ 16
-    few = small i inside (c.0 i) c.1 (c.2 i inside)
-
-    pub node_is : (op : Operation) → node_of w.generations 0 op.source ≡ Some (suc i) → op.source ≡ id_in w i
-    node_is = node_of_it i inside (c.0 i) c.1 (c.2 i inside)
-
-    pub own_of : (op : Operation) → w.target.manager.operation ≡ Some op → node_of w.generations 0 op.source ≡ Some (suc i) → IsOwnOp start (hist past w) i op
-    own_of = its_own i inside (c.0 i) c.1 (c.2 i inside)
+    few = few_of i inside (c.0 i) c.1 (c.2 i inside)
 
 -- ---- over the runs
 abbrev pub FifosAt : List Moment → WorldState → Type 0

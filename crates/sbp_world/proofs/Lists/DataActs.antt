@@ -1,6 +1,6 @@
 -- What the agent of a place writes in a call of the target, by a reply, a time-out and a request for a read: what its step asks for, or to FIFOs of logins; so do the
 -- unsolicited status blocks for other logins.
-use Rattle.std.proofs.Common.{arith, ◌≡◌, ◌∙◌, refl, sym, ap, subst, ◌<◌, ◌+◌, ℕ, zero, suc, Bool, true, false, cond, List, [], length, Option, Some, None}
+use Rattle.std.proofs.Common.{arith, ◌≡◌, ◌∙◌, refl, sym, ap, subst, ◌<◌, ◌+◌, ◌&&◌, ℕ, zero, suc, Bool, true, false, cond, List, [], length, Option, Some, None}
 use Rattle.std.proofs.Math.ListN.{length-set}
 use Rattle.command_agent.specs.declared.step.AgentStep.{AgentStep}
 use Rattle.command_agent.specs.declared.step.Which.{Which}
@@ -10,7 +10,7 @@ use Rattle.label_table.specs.declared.judgement.Asked.{Asked}
 use Rattle.label_table.specs.Bodies.{block_write}
 use Rattle.label_table.specs.Layer.{Layer, asking_step}
 use Rattle.login_table.specs.declared.login.Login.{Login}
-use Rattle.login_table.specs.Table.{Table, place_at}
+use Rattle.login_table.specs.Table.{Table, is_live, place_at}
 use Rattle.media_bay.specs.Unsolicited.{block}
 use Rattle.orb_layout.specs.declared.ask.Ask.TheVariants as asks
 use Rattle.orb_layout.specs.declared.ask.FailCause.TheVariants as causes
@@ -41,12 +41,21 @@ use Rattle.sbp_world.proofs.Lists.StatusPackets.{unsolicited_small}
 use Rattle.sbp_world.proofs.Lists.StatusReads.{IsOfBody, asked_body}
 use Rattle.sbp_world.proofs.Lists.StatusSteps.{lost_leaves, replied_leaves}
 
--- these are the FIFOs of the logins of a table
-abbrev pub AreFifos : (ℕ → Type 0) → Table → Type 0
-AreFifos Fifo table = (place : ℕ) (other : Login) → place_at table.places place ≡ Some other → Fifo other.fifo
+-- these are the FIFOs of the live logins of a table, each at its node
+abbrev pub AreFifos : (ℕ → ℕ → Type 0) → Table → Type 0
+AreFifos Fifo table = (place : ℕ) (other : Login) → place_at table.places place ≡ Some other → is_live other ≡ true → Fifo other.node other.fifo
+
+-- who hears of a disc has a live login
+heard_live : (unit from place : ℕ) (d : Desk) (login : Login) → hears unit from place d login ≡ true → is_live login ≡ true
+heard_live unit from place d login e = both _ (is_live login) _ e
+  where
+    both : (a b c : Bool) → (a && (b && c)) ≡ true → b ≡ true
+    both true true c f = refl
+    both true false c f = cc
+    both false b c f = cc
 
 -- ---- other logins hear of a disc
-module _ (Fifo : ℕ → Type 0) (step : AgentStep) (m : Machine) (node : ℕ) where
+module _ (Fifo : ℕ → ℕ → Type 0) (step : AgentStep) (m : Machine) (node : ℕ) where
   record Written (s : Scene) : Type 0 where
     fifos : AreFifos Fifo s.node.logins
     so : AllSo Fifo step m node s.outbox.packets
@@ -54,12 +63,12 @@ module _ (Fifo : ℕ → Type 0) (step : AgentStep) (m : Machine) (node : ℕ) w
   heard : (s : Scene) (place : ℕ) (x : Bool) → Written s → Written (scene s.node (with_side s.outbox (cond x (sides.Unsolicited place) (sides.Unsent place))))
   heard s place x d = record { fifos = d.fifos; so = d.so }
 
-  other_so : (layer : Layer Purpose) (other : Login) (asked : Asked) → Fifo other.fifo → IsOfBody layer other.node (block_write other.fifo block) (Some asked) → IsSo Fifo quiet new_machine 0 (record { to = other.node; label = Some asked.label; bytes = asked.bytes })
+  other_so : (layer : Layer Purpose) (other : Login) (asked : Asked) → Fifo other.node other.fifo → IsOfBody layer other.node (block_write other.fifo block) (Some asked) → IsSo Fifo quiet new_machine 0 (record { to = other.node; label = Some asked.label; bytes = asked.bytes })
   other_so layer other asked f of access e w =
       let x = wrote asked.label.number layer.node other.node other.fifo block (let n = unsolicited_small in omega (arith, n)) access (subst (λ bytes. access_in_bytes bytes ≡ Some access) of e) in
       to_fifo other.fifo f x.offset_is
 
-  announced : (place : ℕ) (s : Scene) (other : Login) → Fifo other.fifo → (r : Option Asked × Layer Purpose) → IsOfBody s.node.layer other.node (block_write other.fifo block) r.0 → Written s → Written (unsolicited_by place other.node s.node (sent_by r s.outbox other.node))
+  announced : (place : ℕ) (s : Scene) (other : Login) → Fifo other.node other.fifo → (r : Option Asked × Layer Purpose) → IsOfBody s.node.layer other.node (block_write other.fifo block) r.0 → Written s → Written (unsolicited_by place other.node s.node (sent_by r s.outbox other.node))
   announced place s other f (None, layer) of d = record { fifos = d.fifos; so = d.so }
   announced place s other f (Some asked, layer) of d = record {
     fifos = d.fifos;
@@ -70,16 +79,20 @@ module _ (Fifo : ℕ → Type 0) (step : AgentStep) (m : Machine) (node : ℕ) w
   pick true s t h k = h
   pick false s t h k = k
 
-  announces_to : (place : ℕ) (other : Login) (s : Scene) → Fifo other.fifo → Written s → Written (announce_to place other s)
+  announces_to : (place : ℕ) (other : Login) (s : Scene) → Fifo other.node other.fifo → Written s → Written (announce_to place other s)
   unfolding announce_to request_step
   announces_to place other s f d =
       pick (is_pending other.node s.node.pending) (scene s.node (with_side s.outbox (sides.Unsent place)))
       (unsolicited_by place other.node s.node (request_step s.node.layer s.outbox other.node (block_write other.fifo block) purposes.Unsolicited)) (heard s place false d)
       (announced place s other f (asking_step s.node.layer other.node (block_write other.fifo block) purposes.Unsolicited) (asked_body s.node.layer other.node (block_write other.fifo block) purposes.Unsolicited) d)
 
+  announces_if : (b : Bool) (unit from place : ℕ) (other : Login) (s : Scene) → hears unit from place (desk_at s.node place) other ≡ b → login_at s.node place ≡ Some other → Written s → Written (cond b (announce_to place other s) s)
+  announces_if true unit from place other s e is d = announces_to place other s (d.fifos place other is (heard_live unit from place (desk_at s.node place) other e)) d
+  announces_if false unit from place other s e is d = d
+
   announces_in : (unit from place : ℕ) (other : Option Login) (s : Scene) → login_at s.node place ≡ other → Written s → Written (announce_in unit from place other s)
   announces_in unit from place None s is d = d
-  announces_in unit from place (Some other) s is d = pick (hears unit from place (desk_at s.node place) other) (announce_to place other s) s (announces_to place other s (d.fifos place other is) d) d
+  announces_in unit from place (Some other) s is d = announces_if (hears unit from place (desk_at s.node place) other) unit from place other s refl is d
 
   announces_at : (unit from place : ℕ) (s : Scene) → Written s → Written (announce_at unit from place s)
   unfolding announce_at
@@ -95,16 +108,16 @@ module _ (Fifo : ℕ → Type 0) (step : AgentStep) (m : Machine) (node : ℕ) w
   announces_by q false unit s d = d
 
 -- ---- a call of the target
-module _ (w : WorldState) (g : Good w.target) (layer : Layer Purpose) (Fifo : ℕ → Type 0) (fifos : AreFifos Fifo w.target.logins) where
+module _ (w : WorldState) (g : Good w.target) (layer : Layer Purpose) (Fifo : ℕ → ℕ → Type 0) (fifos : AreFifos Fifo w.target.logins) where
   abbrev M : ℕ → Machine
   M p = (desk_at w.target p).agent
 
   abbrev node_there : NodeState
   node_there = there w g layer
 
-  module _ (q : ℕ) (b : q < 8) (login : Login) (is : login_at w.target q ≡ Some login) where
-    own : Fifo login.fifo
-    own = fifos q login is
+  module _ (q : ℕ) (b : q < 8) (login : Login) (is : login_at w.target q ≡ Some login) (live : is_live login ≡ true) where
+    own : Fifo login.node login.fifo
+    own = fifos q login is live
 
     is_set : (d : Desk) → (desk_at (with_desk node_there q d) q).agent ≡ d.agent
     is_set d = ap (λ (x : Desk). x.agent) (set_here node_there q d (let e = g.mid.size in omega (arith, e)))

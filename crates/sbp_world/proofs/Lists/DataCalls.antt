@@ -12,6 +12,7 @@ use Rattle.command_agent.specs.Steps as steps
 use Rattle.command_agent.specs.Steps.{doorbell_step, lost_step, point_step, quiet, reply_step}
 use Rattle.label_table.specs.Layer.{Finding, Layer, judging_step, of_again, of_generation, of_grammar, of_label, of_request, of_response}
 use Rattle.login_table.specs.declared.login.Login.{Login}
+use Rattle.login_table.specs.Table.{is_live}
 use Rattle.orb_layout.specs.declared.ask.Ask.{Ask}
 use Rattle.orb_layout.specs.declared.ask.Ask.TheVariants as asks
 use Rattle.orb_layout.specs.declared.ask.FailCause.TheVariants as causes
@@ -55,6 +56,7 @@ use Rattle.sbp_world.proofs.Lists.StatusActs.{first, there}
 use Rattle.sbp_world.proofs.Lists.StatusCalls.{cut_reads, placed, points_at, reads_answered, rung_reads, start_reads}
 use Rattle.sbp_world.proofs.Lists.StatusLosses.{lost_asks, quiet_ahead}
 use Rattle.sbp_world.proofs.Lists.StatusPackets.{AllRead}
+use Rattle.sbp_world.proofs.Lists.StatusUps.{lives_access}
 use Rattle.rbc_disk.specs.declared.command.Outcome.{Outcome}
 use Rattle.sbp_journal.specs.declared.side.Side.{Side}
 use Rattle.sbp_world.proofs.Agents.UnitsKept.{Keeps}
@@ -66,7 +68,7 @@ no_ask offset size e = cc
 none_login : (login : Login) → None ≡ Some login → ⊥
 none_login login e = cc
 
-module _ (Fifo : ℕ → Type 0) where
+module _ (Fifo : ℕ → ℕ → Type 0) where
   reads_all : (packets : List Outgoing) → AllRead packets → AllFifo Fifo packets
   reads_all [] h = tt
   reads_all (packet ∷ later) h = (read_so Fifo quiet new_machine 0 packet h.0, reads_all later h.1)
@@ -92,7 +94,7 @@ first_keeps q m outcome = record { tells = λ told side f h. record { more = h.m
 abbrev pub RunsFirst : ℕ → AgentStep × Machine → List Side → Type 0
 RunsFirst q one told = (outcome : Outcome) → one.0.ran ≡ Some outcome → IsFirstRun q one.1 outcome told
 
-module _ (w : WorldState) (g : Good w.target) (Fifo : ℕ → Type 0) (fifos : AreFifos Fifo w.target.logins) (Steps : ℕ → AgentStep × Machine → Type 0) (Its : Answer → Type 0) where
+module _ (w : WorldState) (g : Good w.target) (Fifo : ℕ → ℕ → Type 0) (fifos : AreFifos Fifo w.target.logins) (Steps : ℕ → AgentStep × Machine → Type 0) (Its : Answer → Type 0) where
   abbrev M : ℕ → Machine
   M p = (desk_at w.target p).agent
 
@@ -112,11 +114,11 @@ module _ (w : WorldState) (g : Good w.target) (Fifo : ℕ → Type 0) (fifos : A
     answers_only : (rcode : ℕ) (given : List ℕ) (s : Scene) → AllRead s.outbox.packets → WroteSo layer (answered request bytes rcode given s)
     answers_only rcode given s a = reads_only layer (answered request bytes rcode given s) (reads_answered w g (λ q. Unit {0}) (λ q. Unit {0}) (Unit {0}) layer request bytes rcode given s a)
 
-    module _ (q : ℕ) (b : q < 8) where
+    module _ (q : ℕ) (b : q < 8) (lives : (login : Login) → login_at w.target q ≡ Some login → is_live login ≡ true) where
       asked_only : (ask : Ask) → ((offset size : ℕ) → ask ≡ asks.Write offset size → ⊥) → (login : Option Login) → login ≡ login_at w.target q → (s : Scene) → length s.node.desks ≡ 8 → AllRead s.outbox.packets → WroteSo layer (asked_in q ask login s)
       asked_only ask f None e s desks a = reads_only layer s a
       asked_only ask f (Some login) e s desks a =
-          to_logins (follows_quiet q b login Fifo (fifos q login (sym e)) (steps.asks ask) (AllFifo Fifo) (more_fifo Fifo) s (λ offset size z. no_ask offset size z) f (reads_all Fifo s.outbox.packets a))
+          to_logins (follows_quiet q b login Fifo (fifos q login (sym e) (lives login (sym e))) (steps.asks ask) (AllFifo Fifo) (more_fifo Fifo) s (λ offset size z. no_ask offset size z) f (reads_all Fifo s.outbox.packets a))
 
       logins_same : (rcode : ℕ) (given : List ℕ) (s : Scene) → login_at (answered request bytes rcode given s).node q ≡ login_at s.node q
       unfolding answer_step
@@ -159,9 +161,9 @@ module _ (w : WorldState) (g : Good w.target) (Fifo : ℕ → Type 0) (fifos : A
     access_so : (place : ℕ) (access : Access) → is_barred w.target request ≡ false → demand_of (length w.target.rom) request ≡ demands.Agent place access → WroteSo layer (accessed_by access place request bytes here)
     access_so place accesses.State n d = answers_only complete _ here tt
     access_so place accesses.Reset n d = answers_only complete [] (cut cuts.AgentReset place here) (cut_reads w g (λ q. Unit {0}) (λ q. Unit {0}) (Unit {0}) layer request bytes place)
-    access_so place (accesses.Point pointer) n d = point_so place (reaches w.target g request place (accesses.Point pointer) n d).small pointer
+    access_so place (accesses.Point pointer) n d = point_so place (reaches w.target g request place (accesses.Point pointer) n d).small (lives_access w g request n place (accesses.Point pointer) d) pointer
     access_so place accesses.Pointer n d = answers_only complete _ here tt
-    access_so place accesses.Ring n d = ring_so place (reaches w.target g request place accesses.Ring n d).small
+    access_so place accesses.Ring n d = ring_so place (reaches w.target g request place accesses.Ring n d).small (lives_access w g request n place accesses.Ring d)
     access_so place accesses.Enable n d = answers_only complete [] (enabled place here) tt
 
     demand_so : (demand : Demand) → is_barred w.target request ≡ false → demand_of (length w.target.rom) request ≡ demand → WroteSo layer (served_as demand request bytes here)
@@ -193,7 +195,7 @@ module _ (w : WorldState) (g : Good w.target) (Fifo : ℕ → Type 0) (fifos : A
     abbrev Found : Finding Purpose → Type 0
     Found f = (judging_step w.target.layer sent.generation sent.bytes).0 ≡ f
 
-    module _ (reply_ok : (p : Packet) (label : LabelParts) (place : ℕ) → Found (of_response p label (Some (purposes.Agent place))) → (b : place < 8) (login : Login) → served_login w.target place ≡ Some login → (which : Which) → which_in (desk_at w.target place) (header_in p).source label ≡ Some which → Steps place (reply_step (M place) place (plain_in (there w g then).units media.disks login.unit) run which (answer_in p))) (its : (p : Packet) (label : LabelParts) → Found (of_response p label (Some purposes.Management)) → Its (answer_in p)) where
+    module _ (reply_ok : (p : Packet) (label : LabelParts) (place : ℕ) → Found (of_response p label (Some (purposes.Agent place))) → (b : place < 8) (login : Login) → served_login w.target place ≡ Some login → (which : Which) → which_in (desk_at w.target place) (header_in p).source label ≡ Some which → Steps place (reply_step (M place) place (plain_in (there w g then).units media.disks login.unit) run which (answer_in p))) (its : (p : Packet) (label : LabelParts) → Found (of_response p label (Some purposes.Management)) → Its (answer_in p)) (reply_live : (peer : ℕ) (label : LabelParts) (place : ℕ) → place < 8 → (which : Which) → which_in (desk_at w.target place) peer label ≡ Some which → (login : Login) → login_at w.target place ≡ Some login → is_live login ≡ true) where
       idle_here : WroteSo then (first w g then)
       idle_here = to_logins tt
 
@@ -220,7 +222,7 @@ module _ (w : WorldState) (g : Good w.target) (Fifo : ℕ → Type 0) (fifos : A
           (λ outcome ran.
           advance_tells (IsFirstRun place step.1 outcome) (first_keeps place step.1 outcome) (there w g then) place inside login media.disks run which (answer_in p)
           (subst (λ x. IsFirstRun place step.1 outcome (tell_ran place step.1 x empty_outbox).sides) (sym ran) (record { more = []; is = refl })))
-          (reply_so w g then Fifo fifos place b login is which run (answer_in p) media.disks)
+          (reply_so w g then Fifo fifos place b login is (reply_live (header_in p).source label place b which e login is) which run (answer_in p) media.disks)
 
       concludes : (p : Packet) (label : LabelParts) (purpose : Option Purpose) → Found (of_response p label purpose) → (let x = concluded run purpose (header_in p).source label (answer_in p) all in WroteSo then (scene x.node x.outbox))
       unfolding concluded replied_to
@@ -242,7 +244,7 @@ module _ (w : WorldState) (g : Good w.target) (Fifo : ℕ → Type 0) (fifos : A
       delivery_wrote = by_found (judging_step w.target.layer sent.generation sent.bytes).0 refl
 
   -- ---- a time-out
-  module _ (layer : Layer Purpose) (peer : ℕ) (label : LabelParts) where
+  module _ (layer : Layer Purpose) (peer : ℕ) (label : LabelParts) (late_live : (place : ℕ) → place < 8 → (which : Which) → which_in (desk_at w.target place) peer label ≡ Some which → (login : Login) → login_at w.target place ≡ Some login → is_live login ≡ true) where
     lost_none : (which : Which) (n : Machine) (at size : ℕ) → (lost_step n which causes.Timeout).0.ended ≡ None → (lost_step n which causes.Timeout).0.ask ≡ asks.Write at size → ⊥
     lost_none Main n at size e ask = no_ask at size (sym (lost_asks n causes.Timeout e) ∙ ask)
     lost_none Ahead n at size e ask = no_ask at size (sym (ap (λ (x : AgentStep). x.ask) (quiet_ahead n causes.Timeout)) ∙ ask)
@@ -253,7 +255,7 @@ module _ (w : WorldState) (g : Good w.target) (Fifo : ℕ → Type 0) (fifos : A
     late_by place (Some login) l (Some which) e =
         let b = placed w.target g.mid.size place peer label which e in
         let loss = lost_step (M place) which causes.Timeout in
-        to_logins (tame_all Fifo loss.0 loss.1 login.node (λ at size none ask. lost_none which (M place) at size none ask) _ (late_so w g layer Fifo fifos place b login l which))
+        to_logins (tame_all Fifo loss.0 loss.1 login.node (λ at size none ask. lost_none which (M place) at size none ask) _ (late_so w g layer Fifo fifos place b login l (late_live place b which e login l) which))
 
     pub lapse_wrote : (purpose : Option Purpose) → (purpose ≡ Some purposes.Management → Its Expired) → WroteSo layer (timed_out purpose peer label (first w g layer))
     unfolding expire_agent

@@ -38,11 +38,11 @@ no_ask : (offset size : ℕ) → asks.Nothing ≡ asks.Write offset size → ⊥
 no_ask offset size e = cc
 
 -- ---- what a packet writes: to a FIFO; or what a step of an agent asks for
-pub data IsBy (Fifo : ℕ → Type 0) (step : AgentStep) (m : Machine) (node to offset : ℕ) (payload : List ℕ) : Type 0 where
-  to_fifo : (fifo : ℕ) → Fifo fifo → offset ≡ written_at fifo → IsBy Fifo step m node to offset payload
+pub data IsBy (Fifo : ℕ → ℕ → Type 0) (step : AgentStep) (m : Machine) (node to offset : ℕ) (payload : List ℕ) : Type 0 where
+  to_fifo : (fifo : ℕ) → Fifo to fifo → offset ≡ written_at fifo → IsBy Fifo step m node to offset payload
   of_step : (at size : ℕ) → step.ended ≡ None → step.ask ≡ asks.Write at size → to ≡ node → offset ≡ written_at at → payload ≡ m.outgoing → IsBy Fifo step m node to offset payload
 
-module _ (Fifo : ℕ → Type 0) (step : AgentStep) (m : Machine) (node : ℕ) where
+module _ (Fifo : ℕ → ℕ → Type 0) (step : AgentStep) (m : Machine) (node : ℕ) where
   abbrev pub By : ℕ → ℕ → List ℕ → Type 0
   By to offset payload = IsBy Fifo step m node to offset payload
 
@@ -57,15 +57,15 @@ module _ (Fifo : ℕ → Type 0) (step : AgentStep) (m : Machine) (node : ℕ) w
   read_so packet r access e w = absurd (no (sym r ∙ (ap is_write_in e ∙ w)))
 
 -- packets write to FIFOs alone
-abbrev pub AllFifo : (ℕ → Type 0) → List Outgoing → Type 0
+abbrev pub AllFifo : (ℕ → ℕ → Type 0) → List Outgoing → Type 0
 AllFifo Fifo packets = AllBy Fifo quiet new_machine 0 packets
 
 -- and the first one may be that of a step
-abbrev pub AllSo : (Fifo : ℕ → Type 0) → AgentStep → Machine → ℕ → List Outgoing → Type 0
+abbrev pub AllSo : (Fifo : ℕ → ℕ → Type 0) → AgentStep → Machine → ℕ → List Outgoing → Type 0
 AllSo Fifo step m node [] = Unit {0}
 AllSo Fifo step m node (packet ∷ later) = IsSo Fifo step m node packet × AllFifo Fifo later
 
-module _ (Fifo : ℕ → Type 0) where
+module _ (Fifo : ℕ → ℕ → Type 0) where
   pub more_fifo : (packets : List Outgoing) (packet : Outgoing) → AllFifo Fifo packets → IsSo Fifo quiet new_machine 0 packet → AllFifo Fifo (packets ++ packet ∷ [])
   more_fifo [] packet h p = (p, tt)
   more_fifo (one ∷ later) packet h p = (h.0, more_fifo later packet h.1 p)
@@ -87,7 +87,7 @@ module _ (Fifo : ℕ → Type 0) where
 
 -- ---- at a place
 -- a step asks: where packets were so, they are so behind what it asks for
-module _ (q : ℕ) (b : q < 8) (login : Login) (Fifo : ℕ → Type 0) (own : Fifo login.fifo) (step : AgentStep) (m : Machine) (In Out : List Outgoing → Type 0) (more : (packets : List Outgoing) (packet : Outgoing) → In packets → IsSo Fifo step m login.node packet → Out (packets ++ packet ∷ [])) (keep : (packets : List Outgoing) → In packets → Out packets) where
+module _ (q : ℕ) (b : q < 8) (login : Login) (Fifo : ℕ → ℕ → Type 0) (own : Fifo login.node login.fifo) (step : AgentStep) (m : Machine) (In Out : List Outgoing → Type 0) (more : (packets : List Outgoing) (packet : Outgoing) → In packets → IsSo Fifo step m login.node packet → Out (packets ++ packet ∷ [])) (keep : (packets : List Outgoing) → In packets → Out packets) where
   abbrev S : Scene → Type 0
   S s = In s.outbox.packets
 
@@ -150,7 +150,7 @@ module _ (q : ℕ) (b : q < 8) (login : Login) (Fifo : ℕ → Type 0) (own : Fi
       subst In (sym (ap (λ (o : OutboxState). o.packets) (noted_outbox q b login (Unit {0}) (λ p. m) one s) ∙ step_packets q (A s) one s.outbox)) h
 
 -- ---- what follows what a step asked for: it is of no write of data
-module _ (q : ℕ) (b : q < 8) (login : Login) (Fifo : ℕ → Type 0) (own : Fifo login.fifo) (step : AgentStep) (P : List Outgoing → Type 0) (more : (packets : List Outgoing) (packet : Outgoing) → P packets → IsSo Fifo quiet new_machine 0 packet → P (packets ++ packet ∷ [])) where
+module _ (q : ℕ) (b : q < 8) (login : Login) (Fifo : ℕ → ℕ → Type 0) (own : Fifo login.node login.fifo) (step : AgentStep) (P : List Outgoing → Type 0) (more : (packets : List Outgoing) (packet : Outgoing) → P packets → IsSo Fifo quiet new_machine 0 packet → P (packets ++ packet ∷ [])) where
   abbrev Kept : Scene → Type 0
   Kept s = P s.outbox.packets
 
@@ -243,7 +243,7 @@ module _ (q : ℕ) (b : q < 8) (login : Login) (Fifo : ℕ → Type 0) (own : Fi
   follows_quiet s f g h = follows_by s f (asks_more step (noted q step s) (told_more step s h) (λ offset size e none. g offset size e))
 
 -- a step whose packets are the first ones: its write leaves before all that follows
-module _ (q : ℕ) (b : q < 8) (login : Login) (Fifo : ℕ → Type 0) (own : Fifo login.fifo) (step : AgentStep) (m : Machine) where
+module _ (q : ℕ) (b : q < 8) (login : Login) (Fifo : ℕ → ℕ → Type 0) (own : Fifo login.node login.fifo) (step : AgentStep) (m : Machine) where
   pub follows_so : (s : Scene) → length s.node.desks ≡ 8 → (desk_at s.node q).agent ≡ m → ((offset size : ℕ) → step.ahead ≡ asks.Write offset size → ⊥) → s.outbox.packets ≡ [] → AllSo Fifo step m login.node (follow q login step s).outbox.packets
   follows_so s desks agent f none =
       let same = (noted_same q b login (Unit {0}) (λ p. m) step s desks).agents q in

@@ -24,6 +24,7 @@ use Rattle.command_agent.specs.Machine.{Machine, new_machine}
 use Rattle.command_agent.specs.Steps.{quiet, reply_step}
 use Rattle.label_table.specs.Layer.{Layer, judging_step, of_response}
 use Rattle.login_table.specs.declared.login.Login.{Login}
+use Rattle.login_table.specs.Table.{is_live}
 use Rattle.orb_layout.specs.declared.ask.Ask.TheVariants as asks
 use Rattle.orb_layout.specs.Replies.{Answer, Expired}
 use Rattle.packet_store.specs.declared.sent.Sent.{Sent}
@@ -58,7 +59,7 @@ use Rattle.sbp_world.proofs.Agents.Management.Still.{hist}
 use Rattle.sbp_world.specs.Hosts.Handing.{AreOthers}
 use Rattle.sbp_world.specs.Lists.DataWrites.{DataSo, IsPieceOf, IsDry}
 use Rattle.sbp_world.specs.Lists.Needs.{IsFor, machine_at, initiator_in}
-use Rattle.sbp_world.specs.Lists.OwnLogins.{AreOwn, IsLoginFifo}
+use Rattle.sbp_world.specs.Lists.OwnLogins.{IsLoginFifo}
 use Rattle.sbp_world.proofs.Lists.DataCalls.{WroteSo, delivery_wrote, lapse_wrote, manages, steps_so, to_logins, IsFirstRun, RunsFirst}
 use Rattle.sbp_world.proofs.Lists.DataFollows.{AllFifo, AllSo, IsBy, of_step, to_fifo}
 use Rattle.sbp_world.proofs.Lists.DataSteps.{reply_piece, ArePrepared, IsFirstNow, IsTurnNow, answer_kept, answers_now, now_first, now_follows, ran_now, ran_well, reply_turn, reply_slot}
@@ -105,6 +106,13 @@ no_ask offset size e = cc
 no_window : (window : Window) → None ≡ Some window → ⊥
 no_window window e = cc
 
+-- each live login for the node of an initiator has the FIFO of a login
+abbrev pub FifoFor : WorldState → ℕ → ℕ → ℕ → Type 0
+FifoFor w i to fifo = node_of w.generations 0 to ≡ Some (suc i) → IsLoginFifo fifo
+
+abbrev pub AreOwnFor : WorldState → ℕ → Type 0
+AreOwnFor w i = (place : ℕ) (login : Login) → login_at w.target place ≡ Some login → is_live login ≡ true → FifoFor w i login.node login.fifo
+
 -- the FIFO of a login is in no buffer
 fifo_dry : (fifo offset slot : ℕ) → IsLoginFifo fifo → offset ≡ written_at fifo → window_at offset ≡ Some (windows.Buffer slot) → ⊥
 fifo_dry fifo offset slot own e goes =
@@ -139,7 +147,7 @@ pub record AreToldSo (disks : List Disk) (wild : ℕ → Bool) (ms : List Moment
 abbrev pub HaveSlots : List Moment → ℕ → Type 0
 HaveSlots ms i = (n k : ℕ) → present_list ms i ≡ Some n → ends ms i n ≤ k → k < linked ms i n → HasSlot ms i (slot_at ms i n k) (orb n k)
 
-module _ (disks : List Disk) (wild : ℕ → Bool) (i : ℕ) (own : wild i ≡ false) (past : List Moment) (w : WorldState) (r : Ready wild past w) (asked : AreAsked wild (hist past w) w) (owned : AreOwn w) (each : EachMoment (DataSo disks i) (hist past w)) (slots : HaveSlots (hist past w) i) where
+module _ (disks : List Disk) (wild : ℕ → Bool) (i : ℕ) (own : wild i ≡ false) (past : List Moment) (w : WorldState) (r : Ready wild past w) (asked : AreAsked wild (hist past w) w) (owned : AreOwnFor w i) (each : EachMoment (DataSo disks i) (hist past w)) (slots : HaveSlots (hist past w) i) where
   abbrev ms : List Moment
   ms = hist past w
 
@@ -256,20 +264,20 @@ module _ (disks : List Disk) (wild : ℕ → Bool) (i : ℕ) (own : wild i ≡ f
   Due note start packets = AllDue disks i past ms note start w.generations packets
 
   -- ---- what a call writes
-  by_fifo : (to : ℕ) (access : Access) → IsBy IsLoginFifo quiet new_machine 0 to access.offset access.payload → (slot : ℕ) → window_at access.offset ≡ Some (windows.Buffer slot) → ⊥
-  by_fifo to access (to_fifo fifo own e) slot goes = absurd (fifo_dry fifo access.offset slot own e goes)
-  by_fifo to access (of_step at size none ask to_is offset_is payload_is) slot goes = absurd (no_ask at size ask)
+  by_fifo : (to : ℕ) (access : Access) → node_of w.generations 0 to ≡ Some (suc i) → IsBy (FifoFor w i) quiet new_machine 0 to access.offset access.payload → (slot : ℕ) → window_at access.offset ≡ Some (windows.Buffer slot) → ⊥
+  by_fifo to access there (to_fifo fifo own e) slot goes = absurd (fifo_dry fifo access.offset slot (own there) e goes)
+  by_fifo to access there (of_step at size none ask to_is offset_is payload_is) slot goes = absurd (no_ask at size ask)
 
-  dry_fifo : (note : Note) (packets : List Outgoing) → AllFifo IsLoginFifo packets → AllDry disks i past ms note w.generations packets
+  dry_fifo : (note : Note) (packets : List Outgoing) → AllFifo (FifoFor w i) packets → AllDry disks i past ms note w.generations packets
   dry_fifo note [] h = tt
-  dry_fifo note (packet ∷ later) h = ((λ there slot x. by_fifo packet.to x.access (h.0 x.access x.is x.writes) slot x.goes), dry_fifo note later h.1)
+  dry_fifo note (packet ∷ later) h = ((λ there slot x. by_fifo packet.to x.access there (h.0 x.access x.is x.writes) slot x.goes), dry_fifo note later h.1)
 
-  due_fifo : (note : Note) (start : List Moment) (packets : List Outgoing) → AllFifo IsLoginFifo packets → Due note start packets
+  due_fifo : (note : Note) (start : List Moment) (packets : List Outgoing) → AllFifo (FifoFor w i) packets → Due note start packets
   due_fifo note start [] h = tt
-  due_fifo note start (packet ∷ later) h = ((λ there slot x. absurd (by_fifo packet.to x.access (h.0 x.access x.is x.writes) slot x.goes)), dry_fifo note later h.1)
+  due_fifo note start (packet ∷ later) h = ((λ there slot x. absurd (by_fifo packet.to x.access there (h.0 x.access x.is x.writes) slot x.goes)), dry_fifo note later h.1)
 
-  by_step : (note : Note) (is_first : IsFirst note) (u : WorldState) (b : Behind note w u) (told_sides : List Side) (others : AreOthers told_sides) (Told : ℕ → ℕ → StatusKind → Type 0) (q : ℕ) (login : Login) → login_at w.target q ≡ Some login → (one : AgentStep × Machine) → StepSo note Told q one → RunsFirst q one told_sides → (one.0.ended ≡ None → AreMild told_sides) → (to : ℕ) (access : Access) → node_of w.generations 0 to ≡ Some (suc i) → IsBy IsLoginFifo one.0 one.1 login.node to access.offset access.payload → (slot : ℕ) → window_at access.offset ≡ Some (windows.Buffer slot) → IsPieceNow disks ms (hist past (told_all 0 told_sides u)) i note gen slot access
-  by_step note is_first u b told_sides others Told q login is one s f mild to access there (to_fifo fifo own e) slot goes = absurd (fifo_dry fifo access.offset slot own e goes)
+  by_step : (note : Note) (is_first : IsFirst note) (u : WorldState) (b : Behind note w u) (told_sides : List Side) (others : AreOthers told_sides) (Told : ℕ → ℕ → StatusKind → Type 0) (q : ℕ) (login : Login) → login_at w.target q ≡ Some login → (one : AgentStep × Machine) → StepSo note Told q one → RunsFirst q one told_sides → (one.0.ended ≡ None → AreMild told_sides) → (to : ℕ) (access : Access) → node_of w.generations 0 to ≡ Some (suc i) → IsBy (FifoFor w i) one.0 one.1 login.node to access.offset access.payload → (slot : ℕ) → window_at access.offset ≡ Some (windows.Buffer slot) → IsPieceNow disks ms (hist past (told_all 0 told_sides u)) i note gen slot access
+  by_step note is_first u b told_sides others Told q login is one s f mild to access there (to_fifo fifo own e) slot goes = absurd (fifo_dry fifo access.offset slot (own there) e goes)
   by_step note is_first u b told_sides others Told q login is one s f mild to access there (of_step at size none ask to_is offset_is payload_is) slot goes =
       let mine = s.up.mine login is (ap (λ a. node_of w.generations 0 a) (sym to_is) ∙ there) in
       let p = s.piece (ap wild mine ∙ own) none at size ask slot (ap window_at (sym offset_is) ∙ goes) in
@@ -314,7 +322,7 @@ module _ (disks : List Disk) (wild : ℕ → Bool) (i : ℕ) (own : wild i ≡ f
       turn_by n k got is (now_first y) = by_first y.none y.start
       turn_by n k got is (now_follows ran x) = by_follows got is x
 
-  due_step : (note : Note) (is_first : IsFirst note) (u : WorldState) (b : Behind note w u) (told_sides : List Side) (others : AreOthers told_sides) (Told : ℕ → ℕ → StatusKind → Type 0) (q : ℕ) (login : Login) → login_at w.target q ≡ Some login → (one : AgentStep × Machine) → StepSo note Told q one → RunsFirst q one told_sides → (one.0.ended ≡ None → AreMild told_sides) → (packets : List Outgoing) → AllSo IsLoginFifo one.0 one.1 login.node packets → Due note (hist past (told_all 0 told_sides u)) packets
+  due_step : (note : Note) (is_first : IsFirst note) (u : WorldState) (b : Behind note w u) (told_sides : List Side) (others : AreOthers told_sides) (Told : ℕ → ℕ → StatusKind → Type 0) (q : ℕ) (login : Login) → login_at w.target q ≡ Some login → (one : AgentStep × Machine) → StepSo note Told q one → RunsFirst q one told_sides → (one.0.ended ≡ None → AreMild told_sides) → (packets : List Outgoing) → AllSo (FifoFor w i) one.0 one.1 login.node packets → Due note (hist past (told_all 0 told_sides u)) packets
   due_step note is_first u b told_sides others Told q login is one s f mild [] h = tt
   due_step note is_first u b told_sides others Told q login is one s f mild (packet ∷ later) h = ((λ there slot x. by_step note is_first u b told_sides others Told q login is one s f mild packet.to x.access there (h.0 x.access x.is x.writes) slot x.goes), dry_fifo note later h.1)
 
@@ -329,7 +337,7 @@ module _ (disks : List Disk) (wild : ℕ → Bool) (i : ℕ) (own : wild i ≡ f
         (record { same = λ n k. refl; sends = all_told disks i past ms note 0 outbox.sides u (others_told disks i past ms note outbox.sides others) started; on = record { new = []; is = refl } }))
 
   abbrev C : Note → (ℕ → ℕ → StatusKind → Type 0) → (Answer → Type 0) → Layer Purpose → Scene → Type 0
-  C note Told Its layer s = WroteSo w r.good IsLoginFifo (λ q login is. owned q login is) (StepSo note Told) Its layer s
+  C note Told Its layer s = WroteSo w r.good (FifoFor w i) (λ q login is live there. owned q login is live there) (StepSo note Told) Its layer s
 
   mild_told : (Told : ℕ → ℕ → StatusKind → Type 0) (told_sides : List Side) → ((place at : ℕ) (status : StatusKind) → Told place at status → ⊥) → TellsEnd Told told_sides → AreMild told_sides
   mild_told Told told_sides f (of_mild m) = m
@@ -340,13 +348,13 @@ module _ (disks : List Disk) (wild : ℕ → Bool) (i : ℕ) (own : wild i ≡ f
   called Told Its layer s note f u b others managed tells (steps_so q small login is one known f_run h) = hands note f u b s.outbox others (due_step note f u b s.outbox.sides others Told q login is one known f_run (λ none. mild_told Told s.outbox.sides (known.silent none) tells) s.outbox.packets h)
   called Told Its layer s note f u b others managed tells (manages answer its e) = managed answer its e
 
-  late_called : (layer : Layer Purpose) (s : Scene) (note : Note) (f : IsFirst note) (u : WorldState) (b : Behind note w u) (others : AreOthers s.outbox.sides) → ((answer : Answer) → answer ≡ Expired → s ≡ manage answer (first w r.good layer) → EachMoment (DataSo disks i) (hist past (handed_out 0 0 s.outbox u))) → WroteSo w r.good IsLoginFifo (λ q login is. owned q login is) (λ q one. ⊥) (λ answer. answer ≡ Expired) layer s → EachMoment (DataSo disks i) (hist past (handed_out 0 0 s.outbox u))
+  late_called : (layer : Layer Purpose) (s : Scene) (note : Note) (f : IsFirst note) (u : WorldState) (b : Behind note w u) (others : AreOthers s.outbox.sides) → ((answer : Answer) → answer ≡ Expired → s ≡ manage answer (first w r.good layer) → EachMoment (DataSo disks i) (hist past (handed_out 0 0 s.outbox u))) → WroteSo w r.good (FifoFor w i) (λ q login is live there. owned q login is live there) (λ q one. ⊥) (λ answer. answer ≡ Expired) layer s → EachMoment (DataSo disks i) (hist past (handed_out 0 0 s.outbox u))
   late_called layer s note f u b others managed (to_logins h) = hands note f u b s.outbox others (due_fifo note (hist past (told_all 0 s.outbox.sides u)) s.outbox.packets h)
   late_called layer s note f u b others managed (steps_so q small login is one known f_run h) = absurd known
   late_called layer s note f u b others managed (manages answer its e) = managed answer its e
 
   -- ---- a packet is delivered
-  module _ (up : (q : ℕ) → q < 8 → has_list (machine_at w q).phase ≡ true → Up wild i own past w q) (sent : Sent) (is_for : IsFor w sent) (run : Option Told) (media : Held) (serial : ℕ) (prepared : ArePrepared ms w) (heard_so : AreHeard wild ms w) (same_serial : is_for.serial ≡ serial) (full : (q : ℕ) → q < 8 → wild (initiator_in w q) ≡ false → IsFull (machine_at w q)) (same_gen : gen ≡ (terms ms).generation 0) (may : MayTell run sent w.target media) (answered : AreToldSo disks wild ms w) (units : (unit : ℕ) → plain_of disks ms unit ≡ plain_in w.target.units media.disks unit) where
+  module _ (up : (q : ℕ) → q < 8 → has_list (machine_at w q).phase ≡ true → Up wild i own past w q) (lives : (q : ℕ) → q < 8 → has_list (machine_at w q).phase ≡ true → (login : Login) → login_at w.target q ≡ Some login → is_live login ≡ true) (sent : Sent) (is_for : IsFor w sent) (run : Option Told) (media : Held) (serial : ℕ) (prepared : ArePrepared ms w) (heard_so : AreHeard wild ms w) (same_serial : is_for.serial ≡ serial) (full : (q : ℕ) → q < 8 → wild (initiator_in w q) ≡ false → IsFull (machine_at w q)) (same_gen : gen ≡ (terms ms).generation 0) (may : MayTell run sent w.target media) (answered : AreToldSo disks wild ms w) (units : (unit : ℕ) → plain_of disks ms unit ≡ plain_in w.target.units media.disks unit) where
     got_heard : (p : Packet) (label : LabelParts) (place : ℕ) → (judging_step w.target.layer sent.generation sent.bytes).0 ≡ of_response p label (Some (purposes.Agent place)) → (received run sent.generation sent.bytes (whole_of w.target media)).0 ≡ judgements.Got
     unfolding received
     got_heard p label place f =
@@ -457,11 +465,13 @@ module _ (disks : List Disk) (wild : ℕ → Bool) (i : ℕ) (own : wild i ≡ f
         called (EndedBy w.target sent run media) IsHeard (judging_step w.target.layer sent.generation sent.bytes).1 (scene x.1.node x.1.outbox) (judged_note serial x.0) (judged_first serial x.0) u b others
         (λ answer its e. managed its.packet its.label its.found (subst (λ a. scene x.1.node x.1.outbox ≡ manage a (first w r.good (judging_step w.target.layer sent.generation sent.bytes).1)) its.is e))
         (delivery_ends w.target r.good.mid.size r.good.table.sound sent run media)
-        (delivery_wrote w r.good IsLoginFifo (λ q login is. owned q login is) (StepSo first_note (EndedBy w.target sent run media)) IsHeard sent run media reply_so (λ p label f. record { packet = p; label = label; found = f; is = refl }))
+        (delivery_wrote w r.good (FifoFor w i) (λ q login is live there. owned q login is live there) (StepSo first_note (EndedBy w.target sent run media)) IsHeard sent run media reply_so (λ p label f. record { packet = p; label = label; found = f; is = refl })
+        (λ peer label place b which e login is. lives place b (waits_has wild past w r place b peer label which e) login is))
 
   -- ---- a transaction of it times out
-  pub data_late : (layer : Layer Purpose) (peer : ℕ) (label : LabelParts) (purpose : Option Purpose) (serial : ℕ) (u : WorldState) → (let y = timed_out purpose peer label (first w r.good layer) in Behind (notes.TimedOut serial) w u → AreOthers y.outbox.sides → (y ≡ manage Expired (first w r.good layer) → EachMoment (DataSo disks i) (hist past (handed_out 0 0 y.outbox u))) → EachMoment (DataSo disks i) (hist past (handed_out 0 0 y.outbox u)))
-  data_late layer peer label purpose serial u b others managed =
+  pub data_late : (lives : (q : ℕ) → q < 8 → has_list (machine_at w q).phase ≡ true → (login : Login) → login_at w.target q ≡ Some login → is_live login ≡ true) (layer : Layer Purpose) (peer : ℕ) (label : LabelParts) (purpose : Option Purpose) (serial : ℕ) (u : WorldState) → (let y = timed_out purpose peer label (first w r.good layer) in Behind (notes.TimedOut serial) w u → AreOthers y.outbox.sides → (y ≡ manage Expired (first w r.good layer) → EachMoment (DataSo disks i) (hist past (handed_out 0 0 y.outbox u))) → EachMoment (DataSo disks i) (hist past (handed_out 0 0 y.outbox u)))
+  data_late lives layer peer label purpose serial u b others managed =
       late_called layer (timed_out purpose peer label (first w r.good layer)) (notes.TimedOut serial) (late_first serial) u b others
       (λ answer its e. managed (subst (λ a. timed_out purpose peer label (first w r.good layer) ≡ manage a (first w r.good layer)) its e))
-      (lapse_wrote w r.good IsLoginFifo (λ q login is. owned q login is) (λ q one. ⊥) (λ answer. answer ≡ Expired) layer peer label purpose (λ e. refl))
+      (lapse_wrote w r.good (FifoFor w i) (λ q login is live there. owned q login is live there) (λ q one. ⊥) (λ answer. answer ≡ Expired) layer peer label
+      (λ place b which e login is. lives place b (waits_has wild past w r place b peer label which e) login is) purpose (λ e. refl))

@@ -17,7 +17,7 @@ use Rattle.sbp_world.proofs.Agents.Management.Still.{hist}
 use Rattle.sbp_world.specs.Agents.Management.Terms.{DeliversMore}
 use Rattle.sbp_world.specs.Hosts.Runs.{more_deliveries}
 use Rattle.sbp_world.proofs.Hosts.SentMoments.{WasSent, sent_moment}
-use Rattle.sbp_world.specs.Lists.Closes.{Always, Under, WhereTame}
+use Rattle.sbp_world.specs.Lists.Closes.{Always, Under, WhereTameOrFew}
 use Rattle.sbp_world.specs.Lists.DataHolds.{AllDataHeld, AreDataHeld, IsOfOrb}
 use Rattle.sbp_world.specs.Lists.DataWrites.{AllDataSo, DataSo, IsDataWrite, WasPiece}
 use Rattle.sbp_world.specs.Lists.SlotsStay.{HasSlot, IsGone, saw, was_over}
@@ -29,8 +29,8 @@ use Rattle.sbp_world.proofs.Lists.StatusKnown.{each_from, generation_grows}
 use Rattle.sbp_world.proofs.Lists.StatusMoments.{HasTaken, over_taken, taken_stays}
 use Rattle.sbp_world.proofs.Lists.StatusRuns.{rises_of}
 use Rattle.sbp_world.proofs.Lists.TameWalks.{from_after, from_between}
-use Rattle.sbp_world.proofs.Lists.OwnFifos.{tame_before}
-use Rattle.sbp_world.specs.Lists.OwnLogins.{IsTame}
+use Rattle.sbp_world.specs.Lists.FewLogins.{IsTameOrFew}
+use Rattle.sbp_world.proofs.Lists.Beside.{tame_or_few_before}
 use Rattle.sbp_world.specs.Lists.Closes.{UnderFrom}
 use Rattle.sbp_world.proofs.Lists.Walks.{Walks}
 
@@ -165,9 +165,9 @@ delivers : (most : Option ℕ) → DeliversMore (more_deliveries most)
 delivers (Some count) = tt
 delivers None = tt
 
-pub held_law : UnderFrom (λ start. WhereTame (AllDataSo start)) → Under (WhereTame AllDataHeld)
+pub held_law : UnderFrom (λ start. WhereTameOrFew (AllDataSo start)) → Under (WhereTameOrFew AllDataHeld)
 held_law sends = record {
-  after_lines = λ line run r has small size so_far tame i b calm. from_after IsTame tame_before Nothing AllDataSo (λ start. AllHeld) nothing sends held_walk first_held line run r has small size so_far tame i b calm;
+  after_lines = λ line run r has small size so_far tame i b calm. from_after IsTameOrFew tame_or_few_before Nothing AllDataSo (λ start. AllHeld) nothing sends held_walk first_held line run r has small size so_far tame i b calm;
   between = λ line run r has small size next most told m so_far tame i b calm.
-      from_between IsTame tame_before Nothing AllDataSo (λ start. AllHeld) nothing sends held_walk first_held line run r has small size next (more_deliveries most) (delivers most) told m so_far tame i b calm;
+      from_between IsTameOrFew tame_or_few_before Nothing AllDataSo (λ start. AllHeld) nothing sends held_walk first_held line run r has small size next (more_deliveries most) (delivers most) told m so_far tame i b calm;
 }

@@ -1,8 +1,13 @@
--- In every run in which no initiator injected packets, the target sent the data of answers as they are to be sent, where the lines name units of 16 bits.
+-- In every run in which no initiator injected packets, or few logins were given, the target sent the data of answers as they are to be sent, where the lines name units of 16 bits.
 use Rattle.sbp_world.specs.Lists.Closes.{UnderFrom}
-use Rattle.std.proofs.Common.{ℕ, ◌<◌, List, length}
+use Rattle.std.proofs.Common.{sym, ℕ, suc, ◌<◌, List, length}
+use Rattle.rbc_disk.specs.Disk.{Disk}
+use Rattle.sbp_bus.specs.Generations.{topology_at}
+use Rattle.sbp_world.proofs.Wire.Bus.{node_has}
+use Rattle.sbp_world.specs.Lists.FewLogins.{IsCalmBeside, IsTameOrFew}
+use Rattle.sbp_world.proofs.Lists.Beside.{AreDone, done_based}
+use Rattle.sbp_world.proofs.Lists.OwnNodes.{AreOwnNodes, nodes_everywhere}
 use Rattle.sbp_journal.specs.Run.{Moment}
-use Rattle.sbp_laws.specs.Turns.{EachMoment}
 use Rattle.sbp_world.specs.Worlds.{WorldState}
 use Rattle.sbp_world.specs.Lists.EndsWell.{GoodEndsLaw}
 use Rattle.sbp_world.proofs.Lists.GoodEnds.{good_ends_law}
@@ -12,55 +17,56 @@ use Rattle.sbp_world.proofs.Lists.AnswersHold.{answers_hold_law}
 use Rattle.sbp_world.specs.Lists.AnswersHold.{AnswersHoldLaw}
 use Rattle.sbp_world.specs.Lists.AnswerLengths.{AnswerLengthsLaw}
 use Rattle.sbp_world.specs.Lists.Closes.{OpenListsLaw}
-use Rattle.sbp_world.specs.Lists.Closes.{AreUntaken, Under, WhereTame, WhereTameOrFew}
+use Rattle.sbp_world.specs.Lists.Closes.{AreUntaken, Under, WhereTameOrFew}
 use Rattle.sbp_world.specs.Lists.DataGots.{DataGotsLaw, ServedGotLaw}
 use Rattle.sbp_world.specs.Lists.DataSequences.{DataSequenceLaw}
 use Rattle.sbp_world.specs.Lists.DataServes.{DataServedLaw}
 use Rattle.sbp_world.specs.Lists.Statuses.{AllStatuses}
 use Rattle.sbp_world.proofs.Lists.DataServing.{data_gots_law, data_sequence_law, data_served_law, served_got_law}
-use Rattle.sbp_world.specs.Lists.OwnLogins.{IsTame}
-use Rattle.sbp_world.specs.Lists.Placings.{BasedAt}
 use Rattle.sbp_world.specs.Lists.Shorts.{AreShort}
 use Rattle.sbp_world.proofs.Lists.LiveGiven.{ShortLaw, shorts_everywhere}
-use Rattle.sbp_world.proofs.Lists.LiveLogins.{logins_based}
-use Rattle.sbp_world.proofs.Lists.OpenedKnown.{lists_here}
-use Rattle.sbp_world.proofs.Lists.StatusPlaces.{AllPlaced}
+use Rattle.sbp_world.proofs.Lists.LiveLogins.{logins_known}
 use Rattle.sbp_world.specs.Lists.DataWrites.{AllDataSo}
 use Rattle.sbp_world.proofs.Lists.DataClears.{DryAt, dry_everywhere}
 use Rattle.sbp_world.proofs.Lists.DataPlaces.{AllOfficeDry, data_sent}
-use Rattle.sbp_world.proofs.Lists.LiveShort.{here_beside, here_by, placed_beside, placed_by}
+use Rattle.sbp_world.proofs.Lists.LiveShort.{here_beside, placed_beside}
 use Rattle.sbp_world.proofs.Lists.OpenedKnown as opened_known
 use Rattle.sbp_world.proofs.Lists.StatusPlaces as places
 use Rattle.sbp_world.specs.Lists.DataEnds.{AllEndSo}
 use Rattle.sbp_world.proofs.Lists.DataOver.{ends_law}
-use Rattle.sbp_world.proofs.Lists.StatusProved.{ground_law}
-use Rattle.sbp_world.proofs.Lists.TameWalks.{tame_part}
+use Rattle.sbp_world.proofs.Lists.StatusProved.{AreNames, ground_law}
 use Rattle.sbp_world.specs.Lists.DataHolds.{AllDataHeld}
 use Rattle.sbp_world.proofs.Lists.DataHolds.{held_law}
 
-all_office : (past : List Moment) (w : WorldState) → DryAt past w → AllPlaced past w → IsTame past → AreShort past → ((i : ℕ) → i < length w.initiators → EachMoment (BasedAt i) past) → AllOfficeDry past w
-all_office past w dry placed tame shorts based i inside calm = ((placed i inside calm).1, dry (tame, shorts, based) i inside)
+all_office : (start : List Disk) (past : List Moment) (w : WorldState) → DryAt past w → AreOwnNodes start past w → AreShort past → ((i : ℕ) → i < length w.initiators → IsCalmBeside past i → AreDone start (length w.initiators) past i) → IsTameOrFew past → AllOfficeDry past w
+all_office start past w dry own shorts known beside i inside calm =
+    let done = known i inside (calm, beside) in (
+      λ place login e live there. own i inside shorts done place login e live (sym (node_has (topology_at w.generations 0) login.node (suc i) there).id_is),
+      dry i inside calm shorts (done_based start (length w.initiators) past i inside done),
+    )
 
 module _ (short : ShortLaw) where
-  dry_by : Under (WhereTame AllOfficeDry)
+  dry_by : Under (WhereTameOrFew AllOfficeDry)
   dry_by =
       let shorts = shorts_everywhere short in
-      let based = logins_based short in
-      let placed = placed_by short in
+      let done = logins_known short in
       record {
-        after_lines = λ line run r has small size so_far tame.
-            all_office _ _ (dry_everywhere.after_lines line run r has small size so_far) (placed.after_lines line run r has small size so_far tame) tame (shorts.after_lines line run r has small size so_far) (based.after_lines line run r has small size so_far tame);
-        between = λ line run r has small size next most told m so_far tame.
-            all_office _ _ (dry_everywhere.between line run r has small size next most told m so_far) (placed.between line run r has small size next most told m so_far tame) tame (shorts.between line run r has small size next most told m so_far) (based.between line run r has small size next most told m so_far tame);
+        after_lines = λ line run r has small size so_far.
+            all_office run.start.disks _ _ (dry_everywhere.after_lines line run r has small size so_far) (nodes_everywhere.after_lines line run r has small size so_far) (shorts.after_lines line run r has small size so_far) (done.after_lines line run r has small size so_far);
+        between = λ line run r has small size next most told m so_far.
+            all_office run.start.disks _ _ (dry_everywhere.between line run r has small size next most told m so_far) (nodes_everywhere.between line run r has small size next most told m so_far) (shorts.between line run r has small size next most told m so_far) (done.between line run r has small size next most told m so_far);
       }
 
-  untaken_by : Under (WhereTame AreUntaken)
-  untaken_by = tame_part AreUntaken (places.untaken_law opened_known.laws.pointers opened_known.laws.begun (here_beside short) (placed_beside short))
+  untaken_by : Under (WhereTameOrFew AreUntaken)
+  untaken_by = places.untaken_law opened_known.laws.pointers opened_known.laws.begun (here_beside short) (placed_beside short)
 
-  pub data_sent_law : UnderFrom (λ start. WhereTame (AllDataSo start))
-  data_sent_law = data_sent opened_known.laws.pointers opened_known.laws.begun (here_by short) (places.names opened_known.laws.pointers opened_known.laws.begun (here_by short) (placed_by short)) untaken_by dry_by
+  names_by : Under (WhereTameOrFew AreNames)
+  names_by = places.names opened_known.laws.pointers opened_known.laws.begun (here_beside short) (placed_beside short)
 
-  pub data_held_law : Under (WhereTame AllDataHeld)
+  pub data_sent_law : UnderFrom (λ start. WhereTameOrFew (AllDataSo start))
+  data_sent_law = data_sent opened_known.laws.pointers opened_known.laws.begun (here_beside short) names_by untaken_by dry_by
+
+  pub data_held_law : Under (WhereTameOrFew AllDataHeld)
   data_held_law = held_law data_sent_law
 
   statuses_by : Under (WhereTameOrFew AllStatuses)

@@ -44,8 +44,7 @@ use Rattle.mgmt_agent.specs.declared.operation.Phase.TheVariants as phases
 use Rattle.sbp_target.specs.Receiving.{answer_in}
 use Rattle.sbp_world.specs.Lists.DataWrites.{DataSo, IsDataWrite}
 use Rattle.sbp_world.specs.Lists.Needs.{IsFor}
-use Rattle.sbp_world.specs.Lists.OwnLogins.{AreOwn}
-use Rattle.sbp_world.proofs.Lists.DataHeard.{Due, hands, HaveSlots}
+use Rattle.sbp_world.proofs.Lists.DataHeard.{AreOwnFor, Due, hands, HaveSlots}
 use Rattle.sbp_world.proofs.Lists.DataWalk.{Given}
 use Rattle.sbp_world.proofs.Lists.RunOutcomes.{AreAsked}
 use Rattle.sbp_world.proofs.Lists.StatusOffice.{Kept, decided_kept, failed_kept, lose_none}
@@ -147,7 +146,7 @@ unfolding management.reply_step
 late_dry w i op is ours at len e slot goes =
     late_by op op.phase w at len (subst (λ (o : Option Operation). (management.reply_to o w.target.manager w.target.logins w.target.keys Expired).0.ask ≡ asks.Write at len) is e)
 
-module _ (disks : List Disk) (wild : ℕ → Bool) (i : ℕ) (own : wild i ≡ false) (past : List Moment) (w : WorldState) (r : Ready wild past w) (asked : AreAsked wild (hist past w) w) (owned : AreOwn w) (each : EachMoment (DataSo disks i) (hist past w)) (slots : HaveSlots (hist past w) i) where
+module _ (disks : List Disk) (wild : ℕ → Bool) (i : ℕ) (own : wild i ≡ false) (past : List Moment) (w : WorldState) (r : Ready wild past w) (asked : AreAsked wild (hist past w) w) (owned : AreOwnFor w i) (each : EachMoment (DataSo disks i) (hist past w)) (slots : HaveSlots (hist past w) i) where
   abbrev Ours : ℕ → Type 0
   Ours source = node_of w.generations 0 source ≡ Some (suc i)
 

@@ -1,4 +1,4 @@
--- At each place of a run in which no initiator injected packets, and before which lists were open as they should be, the target sent the data of answers as they are to be
+-- At each place of a run in which no initiator injected packets, or few logins were given, and before which lists were open as they should be, the target sent the data of answers as they are to be
 -- sent; where this is known of the management.
 use Rattle.std.proofs.Common.{◌≡◌, ◌∙◌, ap, sym, subst, ◌<◌, ℕ, Bool, false, List, [], length, Option, Some, None, arith}
 use Rattle.rbc_disk.specs.Disk.{Disk}
@@ -11,17 +11,17 @@ use Rattle.sbp_world.proofs.Agents.Management.Holding.{target_generation}
 use Rattle.sbp_world.proofs.Agents.Management.Still.{hist}
 use Rattle.sbp_world.specs.Agents.Management.Terms.{DeliversMore}
 use Rattle.sbp_world.specs.Hosts.Runs.{more_deliveries}
-use Rattle.sbp_world.specs.Lists.Closes.{Always, AreHere, UnderFrom, WhereTame, AreUntaken}
+use Rattle.sbp_world.specs.Lists.Closes.{Always, AreHere, UnderFrom, WhereTameOrFew, AreUntaken}
 use Rattle.sbp_world.specs.Lists.DataWrites.{AllDataSo, DataSo}
 use Rattle.sbp_world.specs.Lists.Needs.{IsCalm, initiator_in, machine_at}
 use Rattle.sbp_world.proofs.Lists.DataWalk.{Facts, Given, turn_data}
 use Rattle.sbp_world.proofs.Lists.Executes.{asked_of}
 use Rattle.sbp_world.proofs.Lists.RunOutcomes.{AreAsked}
-use Rattle.sbp_world.proofs.Lists.StatusPoints.{open_up}
+use Rattle.sbp_world.proofs.Lists.StatusPoints.{open_acting, open_up}
 use Rattle.sbp_world.proofs.Lists.StatusProved.{AreNames, Ground}
 use Rattle.sbp_world.proofs.Lists.TameWalks.{from_after, from_between}
-use Rattle.sbp_world.proofs.Lists.OwnFifos.{tame_before}
-use Rattle.sbp_world.specs.Lists.OwnLogins.{IsTame}
+use Rattle.sbp_world.proofs.Lists.Beside.{tame_or_few_before}
+use Rattle.sbp_world.specs.Lists.FewLogins.{IsTameOrFew}
 use Rattle.sbp_world.proofs.Lists.AnswersTold.{AreToldThere}
 use Rattle.sbp_world.proofs.Lists.AnswerLengths.{AreFilled, commands_fill}
 use Rattle.sbp_bus.specs.Places.{or_nobody}
@@ -94,6 +94,7 @@ module _ (Placed : ℕ → WorldState → Type 0) (placed_on : (i : ℕ) (w : Wo
                 ap (λ o. (or_nobody o).unit) held.there ∙ held.unit_is;
           };
           up = λ q c l. open_up wild i own units ready has start w h site inside calm lists k.opened k.caught k.known.pointers k.known.first here q c l;
+          lives = λ q c l. (open_acting wild i own units ready has start w h site inside calm lists k.opened k.caught k.known.pointers k.known.first here q c l).1;
         }
 
     heard_so : AreHeard wild ms w
@@ -112,10 +113,10 @@ module _ (Placed : ℕ → WorldState → Type 0) (placed_on : (i : ℕ) (w : Wo
   first_data : (wild : ℕ → Bool) (line : ℕ) (run : Run) → AllData run.start.disks wild (moments_behind line run []) (beginning run).world
   first_data wild line run = λ i b own. (tt, (tt, tt))
 
-  -- ---- over a run in which no initiator injected packets
-  pub data_law : Always Ground → UnderFrom (λ start. WhereTame (Over start)) → UnderFrom (λ start. WhereTame (AllDataSo start))
+  -- ---- over a run in which no initiator injected packets, or few logins were given
+  pub data_law : Always Ground → UnderFrom (λ start. WhereTameOrFew (Over start)) → UnderFrom (λ start. WhereTameOrFew (AllDataSo start))
   data_law ground over = record {
-    after_lines = λ line run r has small size so_far tame i b calm. from_after IsTame tame_before Ground Over AllData ground over data_walk first_data line run r has small size so_far tame i b calm;
+    after_lines = λ line run r has small size so_far tame i b calm. from_after IsTameOrFew tame_or_few_before Ground Over AllData ground over data_walk first_data line run r has small size so_far tame i b calm;
     between = λ line run r has small size next most told m so_far tame i b calm.
-        from_between IsTame tame_before Ground Over AllData ground over data_walk first_data line run r has small size next (more_deliveries most) (delivers most) told m so_far tame i b calm;
+        from_between IsTameOrFew tame_or_few_before Ground Over AllData ground over data_walk first_data line run r has small size next (more_deliveries most) (delivers most) told m so_far tame i b calm;
   }

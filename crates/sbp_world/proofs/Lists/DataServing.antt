@@ -1,6 +1,6 @@
--- The writes of answers were served in turn, and are in sequence, in every run in which no initiator injected packets, where lists were open as they should be before.
+-- The writes of answers were served in turn, and are in sequence, in every run in which no initiator injected packets, or few logins were given, where lists were open as they should be before.
 use Rattle.sbp_world.specs.Lists.Closes.{UnderFrom}
-use Rattle.std.proofs.Common.{inl, ◌≡◌, ◌∙◌, sym, ap, subst, ◌<◌, ◌≤◌, ℕ, List, ◌∷◌, ◌++◌, map, length, Option, Some, None}
+use Rattle.std.proofs.Common.{◌≡◌, ◌∙◌, sym, ap, subst, ◌<◌, ◌≤◌, ℕ, List, ◌∷◌, ◌++◌, map, length, Option, Some, None}
 use Rattle.rbc_disk.specs.Runs.{Told}
 use Rattle.sbp_journal.specs.declared.event.Event.{Event}
 use Rattle.sbp_journal.specs.Run.{Moment, asked, said}
@@ -18,14 +18,14 @@ use Rattle.sbp_world.specs.Hosts.Runs.{IsRun, more_deliveries}
 use Rattle.sbp_world.proofs.Hosts.Quadlets.{source_law}
 use Rattle.sbp_world.proofs.Hosts.Runs.{count_after, count_between}
 use Rattle.sbp_world.proofs.Hosts.Statuses.Runs.{taking_law}
-use Rattle.sbp_world.specs.Lists.Closes.{Under, WhereTame, WhereTameOrFew}
+use Rattle.sbp_world.specs.Lists.Closes.{Under, WhereTameOrFew}
 use Rattle.sbp_world.specs.Lists.DataEnds.{AllEndSo}
 use Rattle.sbp_world.specs.Lists.DataGots.{DataGotsLaw, ServedGotLaw, WasGot}
 use Rattle.sbp_world.specs.Lists.DataSequences.{DataSequenceLaw}
 use Rattle.sbp_world.specs.Lists.DataServes.{DataServedLaw}
 use Rattle.sbp_world.specs.Lists.DataWrites.{AllDataSo, IsDataWrite}
 use Rattle.sbp_world.specs.Lists.Needs.{IsCalm, OpenBefore, OpenBetween}
-use Rattle.sbp_world.specs.Lists.OwnLogins.{IsTame}
+use Rattle.sbp_world.specs.Lists.FewLogins.{IsTameOrFew}
 use Rattle.sbp_world.specs.Lists.Statuses.{AllStatuses, IsToHost}
 use Rattle.sbp_world.proofs.Lists.DataClosed.{IsSound, are_served}
 use Rattle.sbp_world.proofs.Lists.DataGots.{gots_so}
@@ -44,7 +44,7 @@ pub delivers : (most : Option ℕ) → DeliversMore (more_deliveries most)
 delivers (Some count) = tt
 delivers None = tt
 
-module _ (data_so : UnderFrom (λ start. WhereTame (AllDataSo start))) (ends_so : Under AllEndSo) (statuses : Under (WhereTameOrFew AllStatuses)) (line : ℕ) (run : Run) (r : IsRun run) (has : 0 < run.units) (small : run.units ≤ 4) (size : length run.start.disks ≡ run.units) where
+module _ (data_so : UnderFrom (λ start. WhereTameOrFew (AllDataSo start))) (ends_so : Under AllEndSo) (statuses : Under (WhereTameOrFew AllStatuses)) (line : ℕ) (run : Run) (r : IsRun run) (has : 0 < run.units) (small : run.units ≤ 4) (size : length run.start.disks ≡ run.units) where
   abbrev last : Scene
   last = after (beginning run) run.entries
 
@@ -54,7 +54,7 @@ module _ (data_so : UnderFrom (λ start. WhereTame (AllDataSo start))) (ends_so 
   abbrev past : List Moment
   past = history_of line run
 
-  pub sound_after : OpenBefore line run run.entries → IsTame past → (i : ℕ) → i < length last.world.initiators → (calm : IsCalm past i) → IsSound run.start.disks (injectors past) i calm past
+  pub sound_after : OpenBefore line run run.entries → IsTameOrFew past → (i : ℕ) → i < length last.world.initiators → (calm : IsCalm past i) → IsSound run.start.disks (injectors past) i calm past
   sound_after so_far tame i b calm =
       let k = stood in
       record {
@@ -64,7 +64,7 @@ module _ (data_so : UnderFrom (λ start. WhereTame (AllDataSo start))) (ends_so 
         each = data_so.after_lines line run r has small size so_far tame i b calm;
         ends_so = ends_so.after_lines line run r has small size so_far i b calm;
         once = once_behind last.world k.holds.sound.stands past k.is;
-        taken = (statuses.after_lines line run r has small size so_far (inl tame) i b calm).taken;
+        taken = (statuses.after_lines line run r has small size so_far tame i b calm).taken;
         honest = honest_of k.past last.world k.holds.sound.stands past k.is;
       }
 
@@ -92,7 +92,7 @@ module _ (data_so : UnderFrom (λ start. WhereTame (AllDataSo start))) (ends_so 
     abbrev now : List Moment
     now = map said end.fresh ++ asked next event ∷ past
 
-    pub sound_between : OpenBetween line run next event told → IsTame now → (i : ℕ) → i < length end.initiators → (calm : IsCalm now i) → IsSound run.start.disks (injectors now) i calm now
+    pub sound_between : OpenBetween line run next event told → IsTameOrFew now → (i : ℕ) → i < length end.initiators → (calm : IsCalm now i) → IsSound run.start.disks (injectors now) i calm now
     sound_between so_far tame i b calm =
         let k = stood in
         let x = facts_at line run r.few has small size run.entries r.short r.entries r.lines k.past (length run.entries) k.holds k.is next event (delivers most) told m in
@@ -105,7 +105,7 @@ module _ (data_so : UnderFrom (λ start. WhereTame (AllDataSo start))) (ends_so 
           each = data_so.between line run r has small size next most told m so_far tame i b calm;
           ends_so = ends_so.between line run r has small size next most told m so_far i b calm;
           once = once_behind end x.holds.sound.stands now is;
-          taken = (statuses.between line run r has small size next most told m so_far (inl tame) i b calm).taken;
+          taken = (statuses.between line run r has small size next most told m so_far tame i b calm).taken;
           honest = honest_of before end x.holds.sound.stands now is;
         }
 
@@ -126,7 +126,7 @@ module _ (data_so : UnderFrom (λ start. WhereTame (AllDataSo start))) (ends_so 
           serials = wire.serials;
         }
 
-pub data_served_law : UnderFrom (λ start. WhereTame (AllDataSo start)) → Under AllEndSo → Under (WhereTameOrFew AllStatuses) → DataServedLaw
+pub data_served_law : UnderFrom (λ start. WhereTameOrFew (AllDataSo start)) → Under AllEndSo → Under (WhereTameOrFew AllStatuses) → DataServedLaw
 data_served_law data_so ends_so statuses = record {
   after_lines = λ line run r has small size so_far tame i b calm.
       are_served run.start.disks (injectors (history_of line run)) i calm (history_of line run) (sound_after data_so ends_so statuses line run r has small size so_far tame i b calm);
@@ -135,7 +135,7 @@ data_served_law data_so ends_so statuses = record {
       (sound_between data_so ends_so statuses line run r has small size next most told m so_far tame i b calm);
 }
 
-pub data_sequence_law : UnderFrom (λ start. WhereTame (AllDataSo start)) → Under AllEndSo → Under (WhereTameOrFew AllStatuses) → DataSequenceLaw
+pub data_sequence_law : UnderFrom (λ start. WhereTameOrFew (AllDataSo start)) → Under AllEndSo → Under (WhereTameOrFew AllStatuses) → DataSequenceLaw
 data_sequence_law data_so ends_so statuses = record {
   after_lines = λ line run r has small size so_far tame i b calm.
       in_sequence run.start.disks (injectors (history_of line run)) i calm (history_of line run) (sound_after data_so ends_so statuses line run r has small size so_far tame i b calm);
@@ -144,7 +144,7 @@ data_sequence_law data_so ends_so statuses = record {
       (sound_between data_so ends_so statuses line run r has small size next most told m so_far tame i b calm);
 }
 
-pub data_gots_law : UnderFrom (λ start. WhereTame (AllDataSo start)) → Under AllEndSo → Under (WhereTameOrFew AllStatuses) → DataGotsLaw
+pub data_gots_law : UnderFrom (λ start. WhereTameOrFew (AllDataSo start)) → Under AllEndSo → Under (WhereTameOrFew AllStatuses) → DataGotsLaw
 data_gots_law data_so ends_so statuses = record {
   after_lines = λ line run r has small size so_far tame i b calm.
       gots_so run.start.disks (injectors (history_of line run)) i calm (history_of line run) (known_after data_so ends_so statuses line run r has small size so_far i b) (sound_after data_so ends_so statuses line run r has small size so_far tame i b calm);
@@ -160,7 +160,7 @@ same_packet one other e = cc
 got_by : (past : List Moment) (i : ℕ) → SerialsCount past → AllApart past i → (serial slot : ℕ) (packet : Sending) → IsToHost past i serial packet → IsDataWrite packet.bytes slot → 0 < (terms past).served serial → WasGot past serial
 got_by past i c apart serial slot packet t x l = was_got i serial slot packet t.to_host x past c (λ q e. same_packet q packet (sym e ∙ t.is)) apart l
 
-pub served_got_law : UnderFrom (λ start. WhereTame (AllDataSo start)) → Under AllEndSo → Under (WhereTameOrFew AllStatuses) → ServedGotLaw
+pub served_got_law : UnderFrom (λ start. WhereTameOrFew (AllDataSo start)) → Under AllEndSo → Under (WhereTameOrFew AllStatuses) → ServedGotLaw
 served_got_law data_so ends_so statuses = record {
   after_lines = λ line run r has small size so_far tame i b calm serial slot packet t x l.
       got_by (history_of line run) i (known_after data_so ends_so statuses line run r has small size so_far i b).serials

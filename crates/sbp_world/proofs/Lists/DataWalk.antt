@@ -8,6 +8,8 @@ use Rattle.sbp_world.specs.Lists.Needs.{initiator_in}
 use Rattle.std.proofs.Common.{arith, ◌≡◌, ◌∙◌, refl, sym, subst, ◌<◌, ℕ, suc, Bool, true, false, List, [], ◌∷◌, length, Option, Some, None, Result, Ok, Err}
 use Rattle.async_packet.specs.Packet.{Packet}
 use Rattle.label_table.specs.declared.reply.Stale.{Stale}
+use Rattle.login_table.specs.declared.login.Login.{Login}
+use Rattle.login_table.specs.Table.{is_live}
 use Rattle.label_table.specs.Layer.{Layer, expiring_step, judging_step, of_response}
 use Rattle.orb_layout.specs.Replies.{Expired}
 use Rattle.packet_store.specs.declared.sent.Sent.{Sent}
@@ -29,7 +31,7 @@ use Rattle.async_packet.specs.Labels.{LabelParts}
 use Rattle.sbp_target.specs.declared.purpose.Purpose.{Purpose}
 use Rattle.sbp_target.specs.declared.purpose.Purpose.TheVariants as purposes
 use Rattle.sbp_target.specs.Management.{manage}
-use Rattle.sbp_target.specs.Nodes.{Scene as TargetScene, scene}
+use Rattle.sbp_target.specs.Nodes.{Scene as TargetScene, login_at, scene}
 use Rattle.sbp_target.specs.Receiving.{answer_in, expired, expired_in, received}
 use Rattle.sbp_world.specs.Delivering.{MayAt, MayReceive, MayTell, MayTold, delivered, marked, target_received, whole_of}
 use Rattle.sbp_world.specs.Handing.{handed_out}
@@ -46,13 +48,12 @@ use Rattle.sbp_world.proofs.Agents.Management.Still.{hist}
 use Rattle.sbp_world.specs.Hosts.Handing.{AreOthers}
 use Rattle.sbp_world.proofs.Hosts.Hands.{hand_law}
 use Rattle.sbp_world.specs.Lists.Needs.{IsFor, machine_at}
-use Rattle.sbp_world.specs.Lists.OwnLogins.{AreOwn}
 use Rattle.sbp_world.specs.Lists.DataWrites.{DataSo}
 use Rattle.sbp_world.proofs.Lists.Generations.{moment_generation}
 use Rattle.sbp_world.proofs.Lists.RunOutcomes.{AreAsked}
 use Rattle.sbp_world.proofs.Lists.StatusActs.{first}
 use Rattle.sbp_world.proofs.Lists.DataLines.{S, acts, heard, injects, keys, loses, notes_on, refuses, resets, seconds, sights, times_out}
-use Rattle.sbp_world.proofs.Lists.DataHeard.{AreToldSo, data_heard, data_late, HaveSlots}
+use Rattle.sbp_world.proofs.Lists.DataHeard.{AreOwnFor, AreToldSo, data_heard, data_late, HaveSlots}
 use Rattle.sbp_world.proofs.Lists.StatusTurn.{Behind, IsFirst, Up, judged_first, late_first}
 use Rattle.sbp_world.proofs.Lists.StatusWalk.{behind_marks}
 use Rattle.sbp_world.proofs.Lists.Stays.{ready_now}
@@ -66,7 +67,7 @@ use Rattle.sbp_world.proofs.Lists.Full.{IsFull}
 module _ (disks : List Disk) (wild : ℕ → Bool) (i : ℕ) (own : wild i ≡ false) where
   -- what the management is taken to write
   pub record Given (past : List Moment) (w : WorldState) (r : Ready wild past w) : Type 0 where
-    pub owned : AreOwn w
+    pub owned : AreOwnFor w i
     pub managed : (sent : Sent) → IsFor w sent → (p : Packet) (label : LabelParts) → (judging_step w.target.layer sent.generation sent.bytes).0 ≡ of_response p label (Some purposes.Management) → (s : TargetScene) (note : Note) → IsFirst note → (u : WorldState) → Behind note w u → AreOthers s.outbox.sides → s ≡ manage (answer_in p) (first w r.good (judging_step w.target.layer sent.generation sent.bytes).1) → S disks i past (handed_out 0 0 s.outbox u)
     pub lapsed : (layer : Layer Purpose) (s : TargetScene) (note : Note) → IsFirst note → (u : WorldState) → Behind note w u → AreOthers s.outbox.sides → s ≡ manage Expired (first w r.good layer) → S disks i past (handed_out 0 0 s.outbox u)
 
@@ -86,6 +87,7 @@ module _ (disks : List Disk) (wild : ℕ → Bool) (i : ℕ) (own : wild i ≡ f
       pub full : (q : ℕ) → q < 8 → wild (initiator_in w q) ≡ false → IsFull (machine_at w q)
       pub same_gen : (topology_at w.generations 0).generation ≡ (terms (hist past w)).generation 0
       pub up : (q : ℕ) → q < 8 → has_list (machine_at w q).phase ≡ true → Up wild i own past w q
+      pub lives : (q : ℕ) → q < 8 → has_list (machine_at w q).phase ≡ true → (login : Login) → login_at w.target q ≡ Some login → is_live login ≡ true
       pub answered : AreToldSo disks wild (hist past w) w
 
     up_asked : (line : ℕ) (event : Event) (past : List Moment) (w : WorldState) (q : ℕ) → Up wild i own past w q → Up wild i own (asked line event ∷ hist past w) (without_notes w) q
@@ -109,6 +111,7 @@ module _ (disks : List Disk) (wild : ℕ → Bool) (i : ℕ) (own : wild i ≡ f
         same_gen = f.same_gen ∙ sym (moment_generation 0 (asked line event) (hist past w) refl);
         slots = λ n k e from below. let x = f.slots n k e from below in record { there = x.there; held = x.held };
         up = λ q b l. up_asked line event past w q (f.up q b l);
+        lives = λ q b l login e. f.lives q b l login e;
         answered = record {
           had = λ q b own e n list latest.
               answer_on disks (asked line event ∷ []) (hist past w) (asked line event ∷ hist past w) refl (initiator_in w q) n (ends (hist past w) (initiator_in w q) n) (machine_at w q).answer (f.answered.had q b own e n list latest);
@@ -139,7 +142,7 @@ module _ (disks : List Disk) (wild : ℕ → Bool) (i : ℕ) (own : wild i ≡ f
                 let may : MayTell run sent w.target s.media = subst (λ b. MayTold b run sent s) (to_zero sent.to z) (subst (λ so. MayAt run so s) found m) in
                 let others : AreOthers x.1.outbox.sides = hand_law.received run sent w.target s.media may in
                 let b = behind_marks w x.1.node serial again (judged_note serial x.0) in
-                data_heard disks wild i own past w f.ready f.asked_orbs given.owned f.each f.slots f.up sent is_for run s.media serial f.prepared heard_so refl f.full f.same_gen may f.answered units u b others
+                data_heard disks wild i own past w f.ready f.asked_orbs given.owned f.each f.slots f.up f.lives sent is_for run s.media serial f.prepared heard_so refl f.full f.same_gen may f.answered units u b others
                 (λ p label found e. given.managed sent is_for p label found (scene x.1.node x.1.outbox) (judged_note serial x.0) (judged_first serial x.0) u b others e)
 
             pub hears : MayReceive run serial s → S disks i past end
@@ -161,7 +164,7 @@ module _ (disks : List Disk) (wild : ℕ → Bool) (i : ℕ) (own : wild i ≡ f
                 let b : Behind (notes.TimedOut serial) w u = record { places = refl; initiators = refl; fresh = refl; generations = refl } in
                 let given = gives past w f.ready f.asked_orbs f.placed f.each f.slots in
                 subst (λ n. S disks i past (handed_out n 0 t.outbox u)) (sym z)
-                (data_late disks wild i own past w f.ready f.asked_orbs given.owned f.each f.slots layer request.peer request.label purpose serial u b others
+                (data_late disks wild i own past w f.ready f.asked_orbs given.owned f.each f.slots f.lives layer request.peer request.label purpose serial u b others
                 (λ e. given.lapsed layer t (notes.TimedOut serial) (late_first serial) u b others e))
             lapse_by request z (Err stale, layer) others = refuses disks i past w line no_packet f.each
 

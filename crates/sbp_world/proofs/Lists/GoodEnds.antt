@@ -26,10 +26,10 @@ use Rattle.sbp_world.specs.Worlds.{Scene, WorldState, begun, without_notes}
 use Rattle.sbp_world.proofs.Agents.Management.Still.{hist}
 use Rattle.sbp_world.specs.Agents.Management.Terms.{DeliversMore}
 use Rattle.sbp_world.specs.Hosts.Runs.{more_deliveries}
-use Rattle.sbp_world.specs.Lists.Closes.{Always, Under, WhereTame}
+use Rattle.sbp_world.specs.Lists.Closes.{Always, Under}
 use Rattle.sbp_world.specs.Lists.EndsWell.{AreInward, EndedWell, GoodEnds, GoodEndsLaw, IsWrittenWell, well_behind, well_fresh}
 use Rattle.sbp_world.specs.Lists.DataWrites.{AreDry, IsAnswered, IsDry}
-use Rattle.sbp_world.specs.Lists.Needs.{IsFor, initiator_in, machine_at}
+use Rattle.sbp_world.specs.Lists.Needs.{IsCalm, IsFor, initiator_in, machine_at}
 use Rattle.sbp_world.proofs.Lists.DataHears.{AreHeard, heard_asked, heard_there}
 use Rattle.sbp_world.proofs.Lists.DataSteps.{IsGoodNow, answers_is, end_named, good_behind, good_fresh, reply_good}
 use Rattle.sbp_world.proofs.Lists.Endless.{AllLight, AllPlain, Delivers, IsEndBy, IsLightNote, IsPlain, OneEnd, Plainly, delivery_comes, light_death, light_plain, light_run, no_end, one_comes, one_end}
@@ -40,10 +40,9 @@ use Rattle.sbp_world.proofs.Lists.RunTells.{delivery_may, served_there}
 use Rattle.sbp_world.proofs.Lists.StatusAnswers.{opened}
 use Rattle.sbp_world.proofs.Lists.StatusProved.{Ground}
 use Rattle.sbp_world.proofs.Lists.Stays.{ready_now}
-use Rattle.sbp_world.proofs.Lists.TameWalks.{tame_after, tame_between}
 use Rattle.sbp_world.proofs.Lists.Turned.{IsOne}
 use Rattle.sbp_world.proofs.Lists.Turns.{Ready}
-use Rattle.sbp_world.proofs.Lists.Walks.{Turn, Walks, by_delivery, by_end, by_line, by_start}
+use Rattle.sbp_world.proofs.Lists.Walks.{Turn, Walks, by_delivery, by_end, by_line, by_start, walked_after, walked_between}
 use Rattle.sbp_world.specs.Lists.DataWhole.{AreWhole}
 use Rattle.sbp_world.proofs.Lists.DataProved.{full_of}
 use Rattle.sbp_world.proofs.Lists.DataWhole.{all_filled, whole_law}
@@ -109,7 +108,7 @@ pub record Known (wild : ℕ → Bool) (past : List Moment) (w : WorldState) : T
   pub asked_orbs : AreAsked wild (hist past w) w
   pub heard : AreHeard wild (hist past w) w
   pub full : (q : ℕ) → q < 8 → wild (initiator_in w q) ≡ false → IsFull (machine_at w q)
-  pub ways : (q : ℕ) → q < 8 → IsWay (machine_at w q)
+  pub ways : (q : ℕ) → q < 8 → wild (initiator_in w q) ≡ false → IsWay (machine_at w q)
   pub fills : (j n k : ℕ) (cmd : Cmd) → command_at (hist past w) j n k ≡ Some cmd → FillsBuffer cmd
 
 same_number : (a b : ℕ) → Some a ≡ Some b → a ≡ b
@@ -145,7 +144,7 @@ module _ (wild : ℕ → Bool) (i : ℕ) (own : wild i ≡ false) (past : List M
     it =
         reply_good wild past w known.ready known.asked_orbs r.sent is_for run s.media.disks r.by.packet r.by.label r.place r.by.found small r.by.login r.by.which r.by.is_which ours ended_good
         (delivery_may w.target known.ready.good.mid.size known.ready.good.table.sound r.sent run s.media r.may r.by.packet r.by.label r.place r.by.found r.by.login r.by.served r.by.which r.by.is_which)
-        (λ cmd e. known.fills (holder w r.place).initiator n (ends ms (holder w r.place).initiator n) cmd e) (known.full r.place small ours) (known.ways r.place small) known.heard
+        (λ cmd e. known.fills (holder w r.place).initiator n (ends ms (holder w r.place).initiator n) cmd e) (known.full r.place small ours) (known.ways r.place small ours) known.heard
 
     names : (list_in (ticket_at w r.place r.orb) ≡ Some n) × (orb_in (ticket_at w r.place r.orb) ≡ Some (ends ms (holder w r.place).initiator n))
     names =
@@ -208,7 +207,7 @@ module _ (wild : ℕ → Bool) (i : ℕ) (own : wild i ≡ false) where
     asked_orbs = λ place c is_open mine n list number from below. k.asked_orbs place c is_open mine n list number from below;
     heard = heard;
     full = λ q b own. k.full q b own;
-    ways = λ q b. k.ways q b;
+    ways = λ q b own. k.ways q b own;
     fills = λ j n m cmd e. k.fills j n m cmd e;
   }
 
@@ -265,7 +264,7 @@ module _ (wild : ℕ → Bool) (i : ℕ) (own : wild i ≡ false) where
   turn_ends _ _ _ _ (by_delivery past s one m) k e = next_ends past s k one m e
   turn_ends _ _ _ _ (by_end past s done) k e = done_ends past s.world done e
 
--- ---- over a run in which no initiator injected packets
+-- ---- over a run, of the initiators that injected no packets
 abbrev AllEnds : (ℕ → Bool) → List Moment → WorldState → Type 0
 AllEnds wild ms w = (i : ℕ) → i < length w.initiators → wild i ≡ false → EachMoment (GoodEnds i) ms
 
@@ -277,14 +276,14 @@ pub record Grounds (ms : List Moment) (w : WorldState) : Type 0 where
 abbrev Over : List Moment → WorldState → Type 0
 Over ms w = AreWhole ms w × AreInward ms w
 
-over_law : Under (WhereTame Over)
+over_law : Under Over
 over_law = record {
-  after_lines = λ line run r has small size so_far tame. (whole_law.after_lines line run r has small size so_far, ways_law.after_lines line run r has small size so_far tame);
-  between = λ line run r has small size next most told m so_far tame. (whole_law.between line run r has small size next most told m so_far, ways_law.between line run r has small size next most told m so_far tame);
+  after_lines = λ line run r has small size so_far. (whole_law.after_lines line run r has small size so_far, ways_law.after_lines line run r has small size so_far);
+  between = λ line run r has small size next most told m so_far. (whole_law.between line run r has small size next most told m so_far, ways_law.between line run r has small size next most told m so_far);
 }
 
-ways_of : (ms : List Moment) (w : WorldState) → AreInward ms w → (q : ℕ) → q < 8 → IsWay (machine_at w q)
-ways_of ms w inward q b e = inward q b (answers_is (machine_at w q).phase e)
+ways_of : (wild : ℕ → Bool) (ms : List Moment) (w : WorldState) → ((j : ℕ) → wild j ≡ false → IsCalm ms j) → AreInward ms w → (q : ℕ) → q < 8 → wild (initiator_in w q) ≡ false → IsWay (machine_at w q)
+ways_of wild ms w calm inward q b own e = inward q b (calm (initiator_in w q) own) (answers_is (machine_at w q).phase e)
 
 ends_walk : (wild : ℕ → Bool) (units ready : ℕ) → 0 < units → (start : List Disk) → Walks wild units ready start Grounds Over (AllEnds wild)
 ends_walk wild units ready has start past s later t step p i b own =
@@ -296,7 +295,7 @@ ends_walk wild units ready has start past s later t step p i b own =
       heard = λ serial sent found zero_to packet label place e is_which c mild answering.
           heard_there wild units ready has start w at.holds at.site step.stands.lists at.calm step.known.ground.orbs (λ p d. at.kept.on p d) serial sent found zero_to packet label place e is_which c mild answering;
       full = full_of wild (hist past w) w at.calm (step.so_far i own).0;
-      ways = ways_of (hist past w) w (step.so_far i own).1;
+      ways = ways_of wild (hist past w) w at.calm (step.so_far i own).1;
       fills = λ j n k cmd e. commands_fill (hist past w) step.known.filled.fills j n k cmd e;
     } in
     turn_ends wild i own past s later t step.turn known (p i (subst (λ n. i < n) step.count b) own)
@@ -316,7 +315,7 @@ both_known ground = record {
 
 pub good_ends_law : Always Ground → GoodEndsLaw
 good_ends_law ground = record {
-  after_lines = λ line run r has small size so_far tame i b calm. tame_after Grounds Over AllEnds (both_known ground) over_law ends_walk first_ends line run r has small size so_far tame i b calm;
-  between = λ line run r has small size next most told m so_far tame i b calm.
-      tame_between Grounds Over AllEnds (both_known ground) over_law ends_walk first_ends line run r has small size next (more_deliveries most) (delivers most) told m so_far tame i b calm;
+  after_lines = λ line run r has small size so_far i b calm. walked_after Grounds Over AllEnds (both_known ground) over_law ends_walk first_ends line run r has small size so_far i b calm;
+  between = λ line run r has small size next most told m so_far i b calm.
+      walked_between Grounds Over AllEnds (both_known ground) over_law ends_walk first_ends line run r has small size next (more_deliveries most) (delivers most) told m so_far i b calm;
 }

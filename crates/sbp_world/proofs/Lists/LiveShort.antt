@@ -1,27 +1,21 @@
 -- The law of the two ends together, and what lists and statuses stand on, where the lines name units of 16 bits.
-use Rattle.std.proofs.Common.{arith, inl, ℕ, ◌<◌, List, length}
+use Rattle.std.proofs.Common.{ℕ, ◌<◌, List, length}
 use Rattle.rbc_disk.specs.Disk.{Disk}
 use Rattle.sbp_journal.specs.Run.{Moment}
-use Rattle.sbp_laws.specs.Turns.{EachMoment}
 use Rattle.sbp_world.specs.Worlds.{WorldState}
-use Rattle.sbp_world.specs.Lists.Closes.{AreHere, Under, WhereTame, WhereTameOrFew}
+use Rattle.sbp_world.specs.Lists.Closes.{AreHere, Under, WhereTameOrFew}
 use Rattle.sbp_world.specs.Lists.FewLogins.{IsCalmBeside, IsTameOrFew}
 use Rattle.sbp_world.specs.Lists.Live.{LiveLaw}
-use Rattle.sbp_world.specs.Lists.OwnLogins.{AreOwn, AreOwnOf, IsTame}
-use Rattle.sbp_world.specs.Lists.Placings.{BasedAt}
+use Rattle.sbp_world.specs.Lists.OwnLogins.{AreOwnOf}
 use Rattle.sbp_world.specs.Lists.Shorts.{AreShort}
 use Rattle.sbp_world.proofs.Lists.BufferClears.{FifosAt, fifos_everywhere}
 use Rattle.sbp_world.proofs.Lists.Courses.{EveryPlace}
 use Rattle.sbp_world.proofs.Lists.LiveGiven.{LawsAt, ShortLaw, shorts_everywhere}
-use Rattle.sbp_world.proofs.Lists.LiveLogins.{laws, logins_based, logins_known, logins_live, logouts_end}
+use Rattle.sbp_world.proofs.Lists.LiveLogins.{laws, logins_known, logins_live, logouts_end}
 use Rattle.sbp_world.proofs.Lists.Beside.{AreDone, done_based}
 use Rattle.sbp_world.proofs.Lists.OwnNodes.{owners_everywhere}
 use Rattle.sbp_world.proofs.Lists.OpenedKnown.{lists_here}
-use Rattle.sbp_world.proofs.Lists.OwnLogins.{own_everywhere}
-use Rattle.sbp_world.proofs.Lists.StatusPlaces.{AllPlaced, AllPlacedFor}
-
-all_placed : (past : List Moment) (w : WorldState) → FifosAt past w → (IsTame past → AreShort past → ((i : ℕ) → i < length w.initiators → EachMoment (BasedAt i) past) → 0 < length w.initiators → AreOwn w) → IsTame past → AreShort past → ((i : ℕ) → i < length w.initiators → EachMoment (BasedAt i) past) → AllPlaced past w
-all_placed past w fifos own tame shorts based i inside calm = ((fifos i inside calm shorts (based i inside)).1, own tame shorts based (omega (arith, inside)))
+use Rattle.sbp_world.proofs.Lists.StatusPlaces.{AllPlacedFor}
 
 all_placed_for : (start : List Disk) (past : List Moment) (w : WorldState) → FifosAt past w → ((i : ℕ) → i < length w.initiators → AreShort past → AreDone start (length w.initiators) past i → AreOwnOf w i) → AreShort past → ((i : ℕ) → i < length w.initiators → IsCalmBeside past i → AreDone start (length w.initiators) past i) → IsTameOrFew past → AllPlacedFor past w
 all_placed_for start past w fifos own shorts known beside i inside calm =
@@ -50,22 +44,4 @@ module _ (short : ShortLaw) where
             all_placed_for run.start.disks _ _ (fifos_everywhere.after_lines line run r has small size so_far) (owners_everywhere.after_lines line run r has small size so_far) (shorts.after_lines line run r has small size so_far) (done.after_lines line run r has small size so_far);
         between = λ line run r has small size next most told m so_far.
             all_placed_for run.start.disks _ _ (fifos_everywhere.between line run r has small size next most told m so_far) (owners_everywhere.between line run r has small size next most told m so_far) (shorts.between line run r has small size next most told m so_far) (done.between line run r has small size next most told m so_far);
-      }
-
-  -- so where no initiator injected packets
-  pub here_by : Under (WhereTame AreHere)
-  here_by = record {
-    after_lines = λ line run r has small size so_far tame. here_beside.after_lines line run r has small size so_far (inl tame);
-    between = λ line run r has small size next most told m so_far tame. here_beside.between line run r has small size next most told m so_far (inl tame);
-  }
-
-  pub placed_by : Under (WhereTame AllPlaced)
-  placed_by =
-      let shorts = shorts_everywhere short in
-      let based = logins_based short in
-      record {
-        after_lines = λ line run r has small size so_far tame.
-            all_placed _ _ (fifos_everywhere.after_lines line run r has small size so_far) (own_everywhere.after_lines line run r has small size so_far) tame (shorts.after_lines line run r has small size so_far) (based.after_lines line run r has small size so_far tame);
-        between = λ line run r has small size next most told m so_far tame.
-            all_placed _ _ (fifos_everywhere.between line run r has small size next most told m so_far) (own_everywhere.between line run r has small size next most told m so_far) tame (shorts.between line run r has small size next most told m so_far) (based.between line run r has small size next most told m so_far tame);
       }

@@ -10,10 +10,10 @@ use Rattle.sbp_world.proofs.Agents.Management.Still.{hist}
 use Rattle.sbp_world.specs.Hosts.Fits.{AreRows}
 use Rattle.sbp_world.specs.Pointers.Pointers.{PointersLaw}
 use Rattle.sbp_world.specs.Lists.Begun.{BegunLaw}
-use Rattle.sbp_world.specs.Lists.Closes.{AreBehind, AreHere, AreUntaken, Under, WhereTame, WhereTameOrFew}
+use Rattle.sbp_world.specs.Lists.Closes.{AreBehind, AreHere, AreUntaken, Under, WhereTameOrFew}
 use Rattle.sbp_world.specs.Lists.Needs.{IsCalm}
 use Rattle.sbp_world.specs.Lists.FewLogins.{IsTameOrFew}
-use Rattle.sbp_world.specs.Lists.OwnLogins.{AreOwn, AreOwnOf, IsTame}
+use Rattle.sbp_world.specs.Lists.OwnLogins.{AreOwnOf}
 use Rattle.sbp_world.specs.Lists.Statuses.{AllSentSo, AllStatuses, AreStatuses, SentSo}
 use Rattle.sbp_world.proofs.Lists.RunOutcomes.{AreAsked}
 use Rattle.sbp_world.proofs.Lists.StatusAnswers.{answer_free, answers_apart}
@@ -28,13 +28,8 @@ use Rattle.sbp_world.proofs.Lists.StatusWalk.{Given}
 use Rattle.sbp_world.proofs.Lists.TameWalks.{Where}
 use Rattle.sbp_world.proofs.Lists.Turns.{Ready}
 use Rattle.sbp_world.proofs.Lists.Beside.{tame_or_few_before}
-use Rattle.sbp_world.proofs.Lists.OwnFifos.{tame_before}
 
--- the management ORB of an operation of an initiator that injected no packets stands at one of its places of management, and each login has a FIFO of a login
-abbrev pub AllPlaced : List Moment → WorldState → Type 0
-AllPlaced ms w = (i : ℕ) → i < length w.initiators → IsCalm ms i → ArePlacedFor w i × AreOwn w
-
--- it is enough that each live login of its node has one
+-- the management ORB of an operation of an initiator that injected no packets stands at one of its places of management, and each live login of it has a FIFO of a login
 abbrev Placed : ℕ → WorldState → Type 0
 Placed i w = ArePlacedFor w i × AreOwnOf w i
 
@@ -70,17 +65,13 @@ module _ (pointers : PointersLaw) (begun : BegunLaw) where
     names_where : Under (Where Still AreNames)
     names_where = proved.named_law Placed placed_on gives Still closed (ground_law pointers begun) over
 
-  -- where no initiator injected packets
-  pub names : Under (WhereTame AreHere) → Under (WhereTame AllPlaced) → Under (WhereTame AreNames)
-  names here placed = names_where IsTame tame_before here (record {
-    after_lines = λ line run r has small size so_far tame i b calm. let p = placed.after_lines line run r has small size so_far tame i b calm in (p.0, λ place login e live of. p.1 place login e);
-    between = λ line run r has small size next most told m so_far tame i b calm. let p = placed.between line run r has small size next most told m so_far tame i b calm in (p.0, λ place login e live of. p.1 place login e);
-  })
-
-  -- or few logins were given
+  -- where no initiator injected packets, or few logins were given
   module _ (here : Under (WhereTameOrFew AreHere)) (placed : Under (WhereTameOrFew AllPlacedFor)) where
     pub sent_law : Under (WhereTameOrFew AllSentSo)
     sent_law = sent_where IsTameOrFew tame_or_few_before here placed
+
+    pub names : Under (WhereTameOrFew AreNames)
+    names = names_where IsTameOrFew tame_or_few_before here placed
 
     pub statuses : Under (WhereTameOrFew AllStatuses)
     statuses = statuses_law.statuses sent_law
@@ -89,4 +80,4 @@ module _ (pointers : PointersLaw) (begun : BegunLaw) where
     untaken_law = statuses_law.untaken sent_law
 
     pub behind_law : JoinedLaw → Under (WhereTameOrFew AreBehind)
-    behind_law joined = rested.behind_law free (grounds_law (ground_law pointers begun) joined) (over_law (all_here here (names_where IsTameOrFew tame_or_few_before here placed)) statuses untaken_law)
+    behind_law joined = rested.behind_law free (grounds_law (ground_law pointers begun) joined) (over_law (all_here here names) statuses untaken_law)

@@ -1,6 +1,6 @@
 -- Whose bytes the answer of a good status is (NCITS 325-1998, data buffers and status block). Where the data of an ORB go to its initiator, what brought bytes of its buffer since the append, as a good status of the ORB is taken, are
 -- the writes of the chunks of the buffer, each once and in order; and these are the target's writes to these chunks that the initiator got since the run. Where the data do not go there, it got none since. So the answer is the payloads
--- of these writes, joined. At each place of a run in which no initiator injected packets, before which lists were open as they should be.
+-- of these writes, joined. At each place of a run in which no initiator injected packets, or few logins were given, before which lists were open as they should be.
 use Rattle.std.specs.Prelude.{◌≡◌, ◌<◌, ℕ, true, List, length, Some}
 use Rattle.orb_layout.specs.declared.status.StatusKind.TheVariants as kinds
 use Rattle.sbp_journal.specs.declared.event.Cmd.{Cmd}
@@ -11,7 +11,7 @@ use Rattle.sbp_laws.specs.Lists.{command_at, slot_at}
 use Rattle.sbp_laws.specs.Turns.{EachMoment}
 use Rattle.sbp_world.specs.Hosts.Gathered.{AreInTurn, AreOfTarget}
 use Rattle.sbp_world.specs.Worlds.{WorldState}
-use Rattle.sbp_world.specs.Lists.Closes.{Under, WhereTame}
+use Rattle.sbp_world.specs.Lists.Closes.{Under, WhereTameOrFew}
 use Rattle.sbp_world.specs.Lists.Needs.{IsCalm}
 
 -- The answer is what the target's writes of data brought.
@@ -31,4 +31,4 @@ abbrev pub AllBrought : List Moment → WorldState → Type 0
 AllBrought past w = (i : ℕ) → i < length w.initiators → IsCalm past i → EachMoment (BroughtOf i) past
 
 abbrev pub AnswersBroughtLaw : Type 0
-AnswersBroughtLaw = Under (WhereTame AllBrought)
+AnswersBroughtLaw = Under (WhereTameOrFew AllBrought)

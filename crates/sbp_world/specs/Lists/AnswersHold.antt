@@ -12,7 +12,7 @@ use Rattle.sbp_laws.specs.Turns.{EachMoment}
 use Rattle.sbp_world.specs.Histories.{history_of}
 use Rattle.sbp_world.specs.Runs.{Run}
 use Rattle.sbp_world.specs.Hosts.Runs.{IsRun}
-use Rattle.sbp_world.specs.Lists.OwnLogins.{IsTame}
+use Rattle.sbp_world.specs.Lists.FewLogins.{IsTameOrFew}
 
 abbrev pub AnswerCarriedAt : (ℕ → Bool) → Moment → List Moment → Type 0
 AnswerCarriedAt wild (said (notes.Taken i n k kinds.Good answer)) past = wild i ≡ false → AnswerIsCarried past i n k answer
@@ -22,7 +22,7 @@ pub record AnswersHold (wild : ℕ → Bool) (start : List Disk) (past : List Mo
   pub carried : EachMoment (AnswerCarriedAt wild) past
   pub answers : AnswerLaw wild start past
 
--- After every line of every run in which no initiator injected packets.
+-- After every line of every run in which no initiator injected packets, or few logins were given.
 abbrev pub AnswersHoldLaw : Type 0
 AnswersHoldLaw =
-    (line : ℕ) (run : Run) → IsRun run → 0 < run.units → run.units ≤ 4 → length run.start.disks ≡ run.units → IsTame (history_of line run) → AnswersHold (injectors (history_of line run)) run.start.disks (history_of line run)
+    (line : ℕ) (run : Run) → IsRun run → 0 < run.units → run.units ≤ 4 → length run.start.disks ≡ run.units → IsTameOrFew (history_of line run) → AnswersHold (injectors (history_of line run)) run.start.disks (history_of line run)

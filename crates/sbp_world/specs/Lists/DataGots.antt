@@ -9,7 +9,7 @@ use Rattle.sbp_journal.specs.Wire.{terms}
 use Rattle.sbp_laws.specs.Lists.{orb}
 use Rattle.sbp_laws.specs.Turns.{EachMoment}
 use Rattle.sbp_world.specs.Worlds.{WorldState}
-use Rattle.sbp_world.specs.Lists.Closes.{Under, UnderFrom, WhereTame}
+use Rattle.sbp_world.specs.Lists.Closes.{Under, UnderFrom, WhereTameOrFew}
 use Rattle.sbp_world.specs.Lists.DataSequences.{IsReached}
 use Rattle.sbp_world.specs.Lists.DataServes.{IsDataOf, WasClosed}
 use Rattle.sbp_world.specs.Lists.DataWrites.{IsDataWrite}
@@ -34,7 +34,7 @@ abbrev pub AllGotSo : List Disk → List Moment → WorldState → Type 0
 AllGotSo start past w = (i : ℕ) → i < length w.initiators → IsCalm past i → EachMoment (GotSo start i) past
 
 abbrev pub DataGotsLaw : Type 0
-DataGotsLaw = UnderFrom (λ start. WhereTame (AllGotSo start))
+DataGotsLaw = UnderFrom (λ start. WhereTameOrFew (AllGotSo start))
 
 -- ---- what was served was got
 pub record WasGot (past : List Moment) (serial : ℕ) : Type 0 where
@@ -46,4 +46,4 @@ abbrev pub AllServedGot : List Moment → WorldState → Type 0
 AllServedGot past w = (i : ℕ) → i < length w.initiators → IsCalm past i → (serial slot : ℕ) (packet : Sending) → IsToHost past i serial packet → IsDataWrite packet.bytes slot → 0 < (terms past).served serial → WasGot past serial
 
 abbrev pub ServedGotLaw : Type 0
-ServedGotLaw = Under (WhereTame AllServedGot)
+ServedGotLaw = Under (WhereTameOrFew AllServedGot)

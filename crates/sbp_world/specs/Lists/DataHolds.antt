@@ -7,7 +7,7 @@ use Rattle.sbp_journal.specs.Wire.{terms}
 use Rattle.sbp_laws.specs.Lists.{orb, taken_at}
 use Rattle.sbp_laws.specs.Terms.{runs}
 use Rattle.sbp_world.specs.Worlds.{WorldState}
-use Rattle.sbp_world.specs.Lists.Closes.{Under, WhereTame}
+use Rattle.sbp_world.specs.Lists.Closes.{Under, WhereTameOrFew}
 use Rattle.sbp_world.specs.Lists.DataWrites.{IsDataWrite}
 use Rattle.sbp_world.specs.Lists.Needs.{IsCalm}
 use Rattle.sbp_world.specs.Lists.SlotsStay.{HasSlot}
@@ -28,4 +28,4 @@ abbrev pub AllDataHeld : List Moment → WorldState → Type 0
 AllDataHeld past w = (i : ℕ) → i < length w.initiators → IsCalm past i → AreDataHeld past i
 
 abbrev pub DataHeldLaw : Type 0
-DataHeldLaw = Under (WhereTame AllDataHeld)
+DataHeldLaw = Under (WhereTameOrFew AllDataHeld)

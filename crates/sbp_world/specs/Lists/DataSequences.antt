@@ -13,7 +13,7 @@ use Rattle.sbp_laws.specs.CarriedBytes.{laid_out}
 use Rattle.sbp_laws.specs.Lists.{command_at, slot_at}
 use Rattle.sbp_laws.specs.Terms.{ended_status}
 use Rattle.sbp_world.specs.Worlds.{WorldState}
-use Rattle.sbp_world.specs.Lists.Closes.{UnderFrom, WhereTame}
+use Rattle.sbp_world.specs.Lists.Closes.{UnderFrom, WhereTameOrFew}
 use Rattle.sbp_world.specs.Lists.DataServes.{IsDataOf, WasClosed}
 use Rattle.sbp_world.specs.Lists.Needs.{IsCalm}
 
@@ -44,4 +44,4 @@ abbrev pub AllInSequence : List Disk → List Moment → WorldState → Type 0
 AllInSequence start past w = (i : ℕ) → i < length w.initiators → IsCalm past i → AreInSequence start past i
 
 abbrev pub DataSequenceLaw : Type 0
-DataSequenceLaw = UnderFrom (λ start. WhereTame (AllInSequence start))
+DataSequenceLaw = UnderFrom (λ start. WhereTameOrFew (AllInSequence start))

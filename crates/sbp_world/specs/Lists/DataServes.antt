@@ -13,7 +13,7 @@ use Rattle.sbp_laws.specs.OnceLaw.{WasServed}
 use Rattle.sbp_laws.specs.Packets.{answered_at}
 use Rattle.sbp_laws.specs.Terms.{ended_status, ends}
 use Rattle.sbp_world.specs.Worlds.{WorldState}
-use Rattle.sbp_world.specs.Lists.Closes.{UnderFrom, WhereTame}
+use Rattle.sbp_world.specs.Lists.Closes.{UnderFrom, WhereTameOrFew}
 use Rattle.sbp_world.specs.Lists.DataWrites.{IsDataWrite, WasPiece}
 use Rattle.sbp_world.specs.Lists.Needs.{IsCalm}
 use Rattle.sbp_world.specs.Lists.SlotsStay.{HasSlot}
@@ -52,4 +52,4 @@ abbrev pub AllServed : List Disk → List Moment → WorldState → Type 0
 AllServed start past w = (i : ℕ) → i < length w.initiators → IsCalm past i → AreServed start past i
 
 abbrev pub DataServedLaw : Type 0
-DataServedLaw = UnderFrom (λ start. WhereTame (AllServed start))
+DataServedLaw = UnderFrom (λ start. WhereTameOrFew (AllServed start))

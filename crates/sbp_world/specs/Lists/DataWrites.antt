@@ -29,7 +29,7 @@ use Rattle.sbp_world.specs.Worlds.{WorldState, begun}
 use Rattle.sbp_world.specs.Agents.Management.Terms.{DeliversMore}
 use Rattle.sbp_world.specs.Hosts.Runs.{IsRun}
 use Rattle.sbp_world.specs.Lists.AnswersTold.{IsAnswerOf}
-use Rattle.sbp_world.specs.Lists.Closes.{UnderFrom, WhereTame}
+use Rattle.sbp_world.specs.Lists.Closes.{UnderFrom, WhereTameOrFew}
 use Rattle.sbp_world.specs.Lists.Needs.{IsCalm, OpenAfter, OpenBefore, OpenBehind, OpenBetween, initiator_in, machine_at}
 use Rattle.sbp_world.specs.Lists.SlotsStay.{HasSlot}
 use Rattle.orb_layout.specs.declared.status.StatusKind.{StatusKind}
@@ -120,9 +120,9 @@ DataSo start i moment past = Unit {0}
 abbrev pub AllDataSo : List Disk → List Moment → WorldState → Type 0
 AllDataSo start past w = (i : ℕ) → i < length w.initiators → IsCalm past i → EachMoment (DataSo start i) past
 
--- so it is of every run in which no initiator injected packets, where lists were open as they should be before
+-- so it is of every run in which no initiator injected packets, or few logins were given, where lists were open as they should be before
 abbrev pub DataSentLaw : Type 0
-DataSentLaw = UnderFrom (λ start. WhereTame (AllDataSo start))
+DataSentLaw = UnderFrom (λ start. WhereTameOrFew (AllDataSo start))
 
 -- ---- what an agent waits for
 

@@ -1,6 +1,6 @@
 -- How an ORB ends good (NCITS 325-1998, command block ORB and data buffers). An agent writes an answer only for an ORB whose data go to its initiator. So where they do and the buffer has bytes, a good end comes in the turn in which the
--- write of the last chunk of the answer is answered with rcode 0; and where they do not, in the turn in which the command runs. The target sees no other generation in that turn. At each place of a run in which no initiator injected
--- packets, before which lists were open as they should be.
+-- write of the last chunk of the answer is answered with rcode 0; and where they do not, in the turn in which the command runs. The target sees no other generation in that turn. At each place of a run before which lists were
+-- open as they should be, of the initiators that injected no packets.
 use Rattle.std.specs.Prelude.{◌≡◌, ◌<◌, ℕ, true, List, ◌∷◌, ◌++◌, length, Some}
 use Rattle.command_agent.specs.declared.phase.Phase.TheVariants as phases
 use Rattle.command_agent.specs.Machine.{Machine}
@@ -13,13 +13,13 @@ use Rattle.sbp_laws.specs.Lists.{command_at}
 use Rattle.sbp_laws.specs.Terms.{ends, runs}
 use Rattle.sbp_laws.specs.Turns.{EachMoment}
 use Rattle.sbp_world.specs.Worlds.{WorldState}
-use Rattle.sbp_world.specs.Lists.Closes.{Under, WhereTame}
+use Rattle.sbp_world.specs.Lists.Closes.{Under}
 use Rattle.sbp_world.specs.Lists.DataWrites.{AreDry, IsAnswered}
-use Rattle.sbp_world.specs.Lists.Needs.{IsCalm, machine_at}
+use Rattle.sbp_world.specs.Lists.Needs.{IsCalm, initiator_in, machine_at}
 
 -- an agent that writes an answer
 abbrev pub AreInward : List Moment → WorldState → Type 0
-AreInward past w = (place : ℕ) → place < 8 → (machine_at w place).phase ≡ phases.Answering → (machine_at w place).orb.to_initiator ≡ true
+AreInward past w = (place : ℕ) → place < 8 → IsCalm past (initiator_in w place) → (machine_at w place).phase ≡ phases.Answering → (machine_at w place).orb.to_initiator ≡ true
 
 -- the turn began behind `before`
 pub data IsWrittenWell (past before : List Moment) (i n k : ℕ) : Type 0 where
@@ -45,4 +45,4 @@ abbrev pub AllGoodEnds : List Moment → WorldState → Type 0
 AllGoodEnds past w = (i : ℕ) → i < length w.initiators → IsCalm past i → EachMoment (GoodEnds i) past
 
 abbrev pub GoodEndsLaw : Type 0
-GoodEndsLaw = Under (WhereTame AllGoodEnds)
+GoodEndsLaw = Under AllGoodEnds

@@ -12,7 +12,6 @@ use Rattle.sbp_laws.specs.Turns.{EachMoment, EachTurn}
 use Rattle.sbp_world.specs.Histories.{history_of}
 use Rattle.sbp_world.specs.Lists.AnswerLengths.{LengthOf}
 use Rattle.sbp_world.specs.Lists.AnswersHold.{AnswersHold}
-use Rattle.sbp_world.specs.Lists.OwnLogins.{IsTame}
 use Rattle.sbp_world.specs.Lists.Brought.{AreBrought}
 use Rattle.sbp_world.specs.Lists.CarriedEnds.{WereRead}
 use Rattle.sbp_world.specs.Lists.FewLogins.{FewLogins, IsTameOrFew}
@@ -32,8 +31,8 @@ pub record IsLikeAScripts (run : Run) : Type 0 where
 
 -- The laws of a run whose first line has this number: its history has those of the wire, its journal those of the lines of the bus; where it
 -- has one to four units, commands run in each turn exactly where they are due, those of any initiators; and where then no initiator injected packets or few logins were
--- given, its history has the laws of lists, what ran and what ended was read as the carried law says, and brought by reads, and each answer that is taken has its length; and where no initiator injected packets, each
--- answer is what was written of it, and the plain disk's. In up to 65,536 lines behind the first, few logins are given.
+-- given, its history has the laws of lists, what ran and what ended was read as the carried law says, and brought by reads, and each answer that is taken has its length, is what was
+-- written of it, and is the plain disk's. In up to 65,536 lines behind the first, few logins are given.
 pub record HasLaws (first : ℕ) (run : Run) : Type 0 where
   pub of_wire : IsOfWire (history_of first run)
   pub on_the_bus : LawfulOnTheBus (injectors (history_of first run)) (journal_run first run)
@@ -42,7 +41,7 @@ pub record HasLaws (first : ℕ) (run : Run) : Type 0 where
   pub on_lists : 0 < run.units → run.units ≤ 4 → IsTameOrFew (history_of first run) → LawfulOnLists (injectors (history_of first run)) run.start.disks (history_of first run)
   pub brought : 0 < run.units → run.units ≤ 4 → IsTameOrFew (history_of first run) → AreBrought (injectors (history_of first run)) run.start.disks (history_of first run)
   pub reads : 0 < run.units → run.units ≤ 4 → IsTameOrFew (history_of first run) → WereRead (injectors (history_of first run)) run.start.disks (history_of first run)
-  pub answers : 0 < run.units → run.units ≤ 4 → IsTame (history_of first run) → AnswersHold (injectors (history_of first run)) run.start.disks (history_of first run)
+  pub answers : 0 < run.units → run.units ≤ 4 → IsTameOrFew (history_of first run) → AnswersHold (injectors (history_of first run)) run.start.disks (history_of first run)
   pub lengths : 0 < run.units → run.units ≤ 4 → IsTameOrFew (history_of first run) → (i : ℕ) → i < run.initiators → injectors (history_of first run) i ≡ false → EachMoment (LengthOf run.start.disks i) (history_of first run)
 
 -- A world and its media stand for a run, which has the laws where it is such as a script's.
