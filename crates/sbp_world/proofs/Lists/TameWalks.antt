@@ -1,6 +1,6 @@
--- A walk over runs in which no initiator injected packets, or under another condition that was so before wherever it is so: what is known of a place where it is so, is
--- known of the places before.
-use Rattle.std.proofs.Common.{inl, ◌≡◌, sym, subst, ◌<◌, ◌≤◌, ℕ, Bool, List, [], ◌∷◌, ◌++◌, map, length, Option}
+-- A walk over runs under a condition that was so before wherever it is so, such as that no initiator injected packets: what is known of a place where it is so, is known of
+-- the places before.
+use Rattle.std.proofs.Common.{◌≡◌, sym, subst, ◌<◌, ◌≤◌, ℕ, Bool, List, [], ◌∷◌, ◌++◌, map, length, Option}
 use Rattle.rbc_disk.specs.Disk.{Disk}
 use Rattle.rbc_disk.specs.Runs.{Told}
 use Rattle.sbp_journal.specs.declared.event.Event.{Event}
@@ -13,11 +13,9 @@ use Rattle.sbp_world.specs.Worlds.{Scene, WorldState, begun}
 use Rattle.sbp_world.specs.Agents.Management.Terms.{DeliversMore}
 use Rattle.sbp_world.proofs.Agents.Management.Still.{hist}
 use Rattle.sbp_world.specs.Hosts.Runs.{IsRun}
-use Rattle.sbp_world.specs.Lists.Closes.{Always, Under, UnderFrom, WhereTame, WhereTameOrFew}
+use Rattle.sbp_world.specs.Lists.Closes.{Always, Under, UnderFrom}
 use Rattle.sbp_world.specs.Lists.Needs.{OpenBefore, OpenBetween}
-use Rattle.sbp_world.specs.Lists.OwnLogins.{IsTame}
 use Rattle.sbp_world.proofs.Lists.Gots.{Next, next, next_line, same_still, turn_next}
-use Rattle.sbp_world.proofs.Lists.OwnFifos.{tame_before}
 use Rattle.sbp_world.proofs.Lists.Walks.{Step, Turn, Walks, walked_from, walked_from_between}
 use Rattle.sbp_world.proofs.Lists.Courses.{EveryPlace}
 
@@ -92,18 +90,3 @@ module _ (Still : List Moment → Type 0) (closed : (later past : List Moment) �
 
     pub still_between : (line_number : ℕ) (event : Event) (d : DeliversMore event) (told : List (Option Told)) (m : MayAll told (begun (after (beginning run) run.entries))) → OpenBetween line run line_number event told → (let w = (after_all told (begun (after (beginning run) run.entries))).world in let now = map said w.fresh ++ asked line_number event ∷ history_of line run in Still now → P (injectors now) now w)
     still_between = from_between Q (λ start. U) (λ start. P) always from_start walks first line run r has small size
-
--- what holds where no initiator injected packets, or few logins were given, does where none did
-pub tame_part : (U : List Moment → WorldState → Type 0) → Under (WhereTameOrFew U) → Under (WhereTame U)
-tame_part U x = record {
-  after_lines = λ line run r has small size so_far tame. x.after_lines line run r has small size so_far (inl tame);
-  between = λ line run r has small size next most told m so_far tame. x.between line run r has small size next most told m so_far (inl tame);
-}
-
--- where no initiator injected packets
-module _ (Q U : List Moment → WorldState → Type 0) (P : (ℕ → Bool) → List Moment → WorldState → Type 0) (always : Always Q) (under : Under (WhereTame U)) (walks : (wild : ℕ → Bool) (units ready : ℕ) → 0 < units → (start : List Disk) → Walks wild units ready start Q U (P wild)) (first : (wild : ℕ → Bool) (line : ℕ) (run : Run) → P wild (moments_behind line run []) (beginning run).world) (line : ℕ) (run : Run) (r : IsRun run) (has : 0 < run.units) (small : run.units ≤ 4) (size : length run.start.disks ≡ run.units) where
-  pub tame_after : OpenBefore line run run.entries → IsTame (history_of line run) → P (injectors (history_of line run)) (history_of line run) (after (beginning run) run.entries).world
-  tame_after = still_after IsTame tame_before Q U P always under walks first line run r has small size
-
-  pub tame_between : (line_number : ℕ) (event : Event) (d : DeliversMore event) (told : List (Option Told)) (m : MayAll told (begun (after (beginning run) run.entries))) → OpenBetween line run line_number event told → (let w = (after_all told (begun (after (beginning run) run.entries))).world in let now = map said w.fresh ++ asked line_number event ∷ history_of line run in IsTame now → P (injectors now) now w)
-  tame_between = still_between IsTame tame_before Q U P always under walks first line run r has small size

@@ -22,7 +22,6 @@ use Rattle.sbp_world.specs.Hosts.Runs.{IsRun, more_deliveries}
 use Rattle.sbp_world.specs.Lists.FewLogins.{IsTameOrFew}
 use Rattle.sbp_world.specs.Lists.Needs.{IsCalm, IsNamed, OpenBefore, OpenBetween, OpenLists, initiator_in, is_open_at, machine_at}
 use Rattle.sbp_world.specs.Lists.Opens.{IsPointedBy}
-use Rattle.sbp_world.specs.Lists.OwnLogins.{IsTame}
 use Rattle.sbp_world.specs.Lists.Places.{AreNamedFor, IsFirst}
 
 -- ---- the places of a run: after every line, and behind each delivery of a line that delivers one packet after the other
@@ -41,11 +40,7 @@ pub record UnderFrom (U : List Disk → List Moment → WorldState → Type 0) :
   pub after_lines : (line : ℕ) (run : Run) → IsRun run → 0 < run.units → run.units ≤ 4 → length run.start.disks ≡ run.units → OpenBefore line run run.entries → U run.start.disks (history_of line run) (after (beginning run) run.entries).world
   pub between : (line : ℕ) (run : Run) → IsRun run → 0 < run.units → run.units ≤ 4 → length run.start.disks ≡ run.units → (next : ℕ) (most : Option ℕ) (told : List (Option Told)) → MayAll told (begun (after (beginning run) run.entries)) → OpenBetween line run next (more_deliveries most) told → (let w = (after_all told (begun (after (beginning run) run.entries))).world in U run.start.disks (map said w.fresh ++ asked next (more_deliveries most) ∷ history_of line run) w)
 
--- where no initiator injected packets
-abbrev pub WhereTame : (List Moment → WorldState → Type 0) → List Moment → WorldState → Type 0
-WhereTame U past w = IsTame past → U past w
-
--- and where none did, or few logins were given
+-- where no initiator injected packets, or few logins were given
 abbrev pub WhereTameOrFew : (List Moment → WorldState → Type 0) → List Moment → WorldState → Type 0
 WhereTameOrFew U past w = IsTameOrFew past → U past w
 
