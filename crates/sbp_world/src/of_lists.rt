@@ -527,9 +527,9 @@ pub fn commands_run_where_they_are_due()
     ensures { DueRunsLaw }
 {}
 
-/// In every run in which no initiator injected packets, where lists were open as they should be before, each ORB of an initiator that
-/// ends, but as failed, had not run before the turn in which it ends; or in this turn the target gets the answer, with rcode 0, to the
-/// write of the last chunk of its answer.
+/// In every run where lists were open as they should be before, each ORB of an initiator that injected no packets which ends, but
+/// as failed, had not run before the turn in which it ends; or in this turn the target gets the answer, with rcode 0, to the write
+/// of the last chunk of its answer.
 #[tactic(auto, using(crate::proofs::Lists::DataLaws::answers_end_law))]
 pub fn answers_are_written_before_the_end()
     ensures { AnswersEndLaw }
@@ -620,8 +620,8 @@ pub fn good_ends_come_behind_the_last_chunk()
     ensures { GoodEndsLaw }
 {}
 
-/// In every run in which no initiator injected packets, where lists were open as they should be before, the answer that an agent writes
-/// has as many bytes as the buffer of the ORB, and not all of them were written.
+/// In every run where lists were open as they should be before, the answer that an agent of an initiator writes which injected no
+/// packets has as many bytes as the buffer of the ORB, and not all of them were written.
 #[tactic(auto, using(crate::proofs::Lists::DataWhole::whole_law))]
 pub fn answers_fill_their_buffers()
     ensures { AnswersWholeLaw }
