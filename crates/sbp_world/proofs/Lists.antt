@@ -348,6 +348,7 @@ pub mod Sites
 pub mod SlotShut
 pub mod SlotShutRuns
 pub mod Slots
+pub mod SlotsCut
 pub mod SlotsHeld
 pub mod Stands
 pub mod StatusActs
