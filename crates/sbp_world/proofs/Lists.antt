@@ -319,6 +319,7 @@ pub mod ReplyRuns
 pub mod ReplySends
 pub mod ReplyTurns
 pub mod Replying
+pub mod ResetCuts
 pub mod ResponsePackets
 pub mod RingWrites
 pub mod Rises
