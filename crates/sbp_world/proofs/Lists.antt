@@ -493,6 +493,7 @@ pub mod LedRuns
 pub mod NamedReads
 pub mod BegunLists
 pub mod TurnReads
+pub mod StepsUp
 pub mod StillReads
 pub mod StillTurns
 pub mod StillRuns
