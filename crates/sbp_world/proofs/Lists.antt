@@ -350,6 +350,7 @@ pub mod SlotShut
 pub mod SlotShutRuns
 pub mod Slots
 pub mod SlotsCut
+pub mod SlotsCutRuns
 pub mod SlotsHeld
 pub mod Stands
 pub mod StatusActs
