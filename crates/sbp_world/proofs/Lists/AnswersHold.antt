@@ -1,5 +1,5 @@
 -- Each answer that is taken is carried, and is that of the plain disk, in every run in which no initiator injected packets.
-use Rattle.std.proofs.Common.{inl, nat_eq, arith, refl, ◌≡◌, ◌∙◌, sym, ap, subst, IfSome, ◌<◌, ◌≤◌, ℕ, Bool, true, false, List, [], ◌∷◌, ◌++◌, length, Option, Some}
+use Rattle.std.proofs.Common.{inl, nat_eq, arith, refl, ◌≡◌, ◌∙◌, sym, ap, subst, IfSome, ◌<◌, ℕ, Bool, true, false, List, [], ◌∷◌, Some}
 use Rattle.std.proofs.lemmas.Bool.Decides.{nat_tests}
 use Rattle.orb_layout.specs.declared.status.StatusKind.TheVariants as kinds
 use Rattle.rbc_disk.specs.Disk.{Disk}
@@ -12,10 +12,8 @@ use Rattle.sbp_laws.specs.ExecutionLaw.{ExecutionLaw}
 use Rattle.sbp_laws.specs.Lawful.{injectors}
 use Rattle.sbp_laws.specs.Turns.{EachMoment}
 use Rattle.sbp_world.specs.Histories.{history_of}
-use Rattle.sbp_world.specs.Runs.{Run, after, beginning}
-use Rattle.sbp_world.specs.Hosts.Runs.{IsRun}
 use Rattle.sbp_world.specs.Lists.AnswerLengths.{AnswerLengthsLaw, HasLength, LengthOf}
-use Rattle.sbp_world.specs.Lists.AnswersHold.{AnswerCarriedAt, AnswersHold, AnswersHoldLaw}
+use Rattle.sbp_world.specs.Lists.AnswersHold.{AnswerCarriedAt, AnswersHoldLaw}
 use Rattle.sbp_world.specs.Lists.Closes.{OpenListsLaw, UnderFrom, WhereTame}
 use Rattle.sbp_world.proofs.Lists.AnswerLengths.{AreFilled, commands_fill, filled_behind}
 use Rattle.sbp_world.proofs.Lists.AnswersCarriedTaken.{IsWhole, IsWhose, WholeAt, of_data, of_none}

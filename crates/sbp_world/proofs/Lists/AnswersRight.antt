@@ -2,7 +2,6 @@
 use Rattle.std.proofs.Common.{◌≡◌, ◌∙◌, refl, sym, ap, subst, IfSome, IsSomeAnd, ◌<◌, ℕ, zero, suc, Bool, false, List, [], ◌∷◌, ◌++◌, length, Option, Some, None}
 use Rattle.std.specs.Prelude.{take}
 use Rattle.command_agent.specs.Machine.{Machine}
-use Rattle.page_table.specs.Buffer.{bytes_of}
 use Rattle.rbc_disk.specs.Disk.{Disk}
 use Rattle.rbc_disk.specs.Runs.{answer_length_of, answer_of}
 use Rattle.sbp_journal.specs.declared.event.Cmd.{Cmd}
@@ -11,9 +10,7 @@ use Rattle.sbp_journal.specs.Run.{Moment, said}
 use Rattle.sbp_journal.specs.Transactions.{Sending}
 use Rattle.sbp_laws.specs.AnswerLaw.{Answers, before_run}
 use Rattle.sbp_laws.specs.AnswerLaw as law
-use Rattle.sbp_laws.specs.CarriedBytes.{laid_out}
 use Rattle.sbp_laws.specs.ExecutionLaw.{ExecutionLaw}
-use Rattle.sbp_laws.specs.Lists.{slot_at}
 use Rattle.sbp_laws.specs.Targets.{disk_of}
 use Rattle.sbp_laws.specs.Terms.{Request, appends, request_at}
 use Rattle.sbp_world.specs.Hosts.Orbs.{request_of}

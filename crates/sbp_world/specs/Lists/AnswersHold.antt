@@ -1,6 +1,6 @@
 -- What holds of each answer that an initiator takes which injected no packets (RBC; NCITS 325-1998, data buffers and status block): it is what the target's writes brought to the chunks of its ORB's buffer since the run, and it is
 -- the answer of the plain disk as it was before the ORB ran.
-use Rattle.std.specs.Prelude.{◌≡◌, ◌<◌, ◌≤◌, ℕ, Bool, false, List, ◌∷◌, length}
+use Rattle.std.specs.Prelude.{◌≡◌, ◌<◌, ◌≤◌, ℕ, Bool, false, List, length}
 use Rattle.orb_layout.specs.declared.status.StatusKind.TheVariants as kinds
 use Rattle.rbc_disk.specs.Disk.{Disk}
 use Rattle.sbp_journal.specs.Run.{Moment, said}
