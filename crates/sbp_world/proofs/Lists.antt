@@ -321,6 +321,7 @@ pub mod ReplyRuns
 pub mod ReplySends
 pub mod ReplyTurns
 pub mod Replying
+pub mod ResetCuts
 pub mod ResponsePackets
 pub mod RingWrites
 pub mod Rises
@@ -350,6 +351,8 @@ pub mod Sites
 pub mod SlotShut
 pub mod SlotShutRuns
 pub mod Slots
+pub mod SlotsCut
+pub mod SlotsCutRuns
 pub mod SlotsHeld
 pub mod Stands
 pub mod StatusActs
@@ -495,6 +498,7 @@ pub mod NamedReads
 pub mod BegunBy
 pub mod BegunLists
 pub mod TurnReads
+pub mod StepsUp
 pub mod StillReads
 pub mod StillTurns
 pub mod StillRuns

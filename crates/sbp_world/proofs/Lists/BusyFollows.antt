@@ -32,6 +32,7 @@ use Rattle.sbp_world.proofs.Lists.Follows.{AreSame, are_self, are_then, set_here
 use Rattle.sbp_world.proofs.Lists.Busy.{is_busy, lost_busy}
 use Rattle.command_agent.specs.Steps as steps
 use Rattle.sbp_world.proofs.Lists.Full.{IsClosed}
+use Rattle.sbp_world.proofs.Lists.StepsUp.{IsUp, lost_up}
 
 -- ---- what is told of the step of an agent
 abbrev pub IsOf : ℕ → Side → Type 0
@@ -85,13 +86,14 @@ module _ (q : ℕ) (b : q < 8) (Known Given : Type 0) (F : ℕ → Machine → T
     pub same : (p : ℕ) → (p ≡ q → ⊥) → (desk_at s.node p).agent ≡ machines p
     pub busy : Known → (is_busy (desk_at s.node q).agent.phase ≡ true) ⊎ (has_end s.outbox.sides ≡ true)
     pub full : Given → F q (machines q) → F q (desk_at s.node q).agent
+    pub up : IsUp (machines q) → IsUp (desk_at s.node q).agent
 
   alike_busy : (s t : Scene) → AreSame s.node t.node → t.outbox.sides ≡ s.outbox.sides → (is_busy (desk_at s.node q).agent.phase ≡ true) ⊎ (has_end s.outbox.sides ≡ true) → (is_busy (desk_at t.node q).agent.phase ≡ true) ⊎ (has_end t.outbox.sides ≡ true)
   alike_busy s t a e (inl h) = inl (ap (λ (m : Machine). is_busy m.phase) (a.agents q) ∙ h)
   alike_busy s t a e (inr h) = inr (ap has_end e ∙ h)
 
   pub alike : (s t : Scene) → AreSame s.node t.node → t.outbox.sides ≡ s.outbox.sides → Acts s → Acts t
-  alike s t a e m = record { of = subst (AreOf q) (sym e) m.of; desks = a.desks ∙ m.desks; same = λ p f. a.agents p ∙ m.same p f; busy = λ known. alike_busy s t a e (m.busy known); full = λ g f. subst (λ x. F q x) (sym (a.agents q)) (m.full g f) }
+  alike s t a e m = record { of = subst (AreOf q) (sym e) m.of; desks = a.desks ∙ m.desks; same = λ p f. a.agents p ∙ m.same p f; busy = λ known. alike_busy s t a e (m.busy known); full = λ g f. subst (λ x. F q x) (sym (a.agents q)) (m.full g f); up = λ h. subst (λ (x : Machine). IsUp x) (sym (a.agents q)) (m.up h) }
 
   -- ---- a step is told
   ran_of : (x : Option Outcome) (m : Machine) (o : OutboxState) → AreOf q o.sides → AreOf q (tell_ran q m x o).sides
@@ -160,12 +162,13 @@ module _ (q : ℕ) (b : q < 8) (Known Given : Type 0) (F : ℕ → Machine → T
     pub same : (p : ℕ) → (p ≡ q → ⊥) → (desk_at s.node p).agent ≡ machines p
     pub busy : Known → ((is_busy (desk_at s.node q).agent.phase ≡ true) ⊎ (is_some step.ended ≡ true)) ⊎ (has_end s.outbox.sides ≡ true)
     pub full : Given → F q (machines q) → F q (desk_at s.node q).agent
+    pub up : IsUp (machines q) → IsUp (desk_at s.node q).agent
 
   pub noted_acts : (step : AgentStep) (s : Scene) → Steps step s → Acts (noted q step s)
   noted_acts step s m =
       let a = noted_same step s m.desks in
       let e : (noted q step s).outbox.sides ≡ (tell_step q (desk_at s.node q).agent step s.outbox).sides = ap (λ (o : OutboxState). o.sides) (noted_outbox step s) in
-      record { of = subst (AreOf q) (sym e) (step_of step (desk_at s.node q).agent s.outbox m.of); desks = a.desks ∙ m.desks; same = λ p f. a.agents p ∙ m.same p f; busy = λ known. by (m.busy known); full = λ g f. subst (λ x. F q x) (sym (a.agents q)) (m.full g f) }
+      record { of = subst (AreOf q) (sym e) (step_of step (desk_at s.node q).agent s.outbox m.of); desks = a.desks ∙ m.desks; same = λ p f. a.agents p ∙ m.same p f; busy = λ known. by (m.busy known); full = λ g f. subst (λ x. F q x) (sym (a.agents q)) (m.full g f); up = λ h. subst (λ (x : Machine). IsUp x) (sym (a.agents q)) (m.up h) }
     where
       by : ((is_busy (desk_at s.node q).agent.phase ≡ true) ⊎ (is_some step.ended ≡ true)) ⊎ (has_end s.outbox.sides ≡ true) → (is_busy (desk_at (noted q step s).node q).agent.phase ≡ true) ⊎ (has_end (noted q step s).outbox.sides ≡ true)
       by (inl (inl h)) = inl (ap (λ (m : Machine). is_busy m.phase) ((noted_same step s m.desks).agents q) ∙ h)
@@ -194,7 +197,7 @@ module _ (q : ℕ) (b : q < 8) (Known Given : Type 0) (F : ℕ → Machine → T
   lost_steps s which m =
       let l = lost_step (desk_at s.node q).agent which causes.Label in
       let d = record (desk_at s.node q) { agent = l.1 } in
-      record { of = m.of; desks = length-set s.node.desks q d ∙ m.desks; same = λ p f. ap (λ (x : Desk). x.agent) (set_there s.node q p d (let e = m.desks in omega (arith, e)) f) ∙ m.same p f; busy = λ known. by (m.busy known); full = λ g h. subst (λ x. F q x) (sym is_set) (closed.lost q (desk_at s.node q).agent which causes.Label (m.full g h)) }
+      record { of = m.of; desks = length-set s.node.desks q d ∙ m.desks; same = λ p f. ap (λ (x : Desk). x.agent) (set_there s.node q p d (let e = m.desks in omega (arith, e)) f) ∙ m.same p f; busy = λ known. by (m.busy known); full = λ g h. subst (λ x. F q x) (sym is_set) (closed.lost q (desk_at s.node q).agent which causes.Label (m.full g h)); up = λ h. subst (λ (x : Machine). IsUp x) (sym is_set) (lost_up (desk_at s.node q).agent which causes.Label (m.up h)) }
     where
       l : AgentStep × Machine
       l = lost_step (desk_at s.node q).agent which causes.Label
@@ -271,7 +274,7 @@ module _ (q : ℕ) (b : q < 8) (Known Given : Type 0) (F : ℕ → Machine → T
 
   -- a step that tells nothing
   pub asks_acts : (login : Login) (ask : Ask) (s : Scene) → Acts s → Acts (follow q login (steps.asks ask) s)
-  asks_acts login ask s m = follow_acts login (steps.asks ask) s (record { of = m.of; desks = m.desks; same = m.same; busy = λ known. by (m.busy known); full = m.full })
+  asks_acts login ask s m = follow_acts login (steps.asks ask) s (record { of = m.of; desks = m.desks; same = m.same; busy = λ known. by (m.busy known); full = m.full; up = m.up })
     where
       by : (is_busy (desk_at s.node q).agent.phase ≡ true) ⊎ (has_end s.outbox.sides ≡ true) → ((is_busy (desk_at s.node q).agent.phase ≡ true) ⊎ (false ≡ true)) ⊎ (has_end s.outbox.sides ≡ true)
       by (inl h) = inl (inl h)
@@ -279,7 +282,7 @@ module _ (q : ℕ) (b : q < 8) (Known Given : Type 0) (F : ℕ → Machine → T
 
   -- ---- other logins hear of a disc
   heard_acts : (place : ℕ) (x : Bool) (s : Scene) → Acts s → Acts (scene s.node (with_side s.outbox (cond x (sides.Unsolicited place) (sides.Unsent place))))
-  heard_acts place x s m = record { of = of_more q s.outbox.sides (heard x) m.of (heard_of x); desks = m.desks; same = m.same; busy = λ known. by (m.busy known); full = m.full }
+  heard_acts place x s m = record { of = of_more q s.outbox.sides (heard x) m.of (heard_of x); desks = m.desks; same = m.same; busy = λ known. by (m.busy known); full = m.full; up = m.up }
     where
       heard : Bool → Side
       heard x = cond x (sides.Unsolicited place) (sides.Unsent place)

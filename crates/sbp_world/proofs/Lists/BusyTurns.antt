@@ -42,6 +42,7 @@ use Rattle.sbp_world.specs.Agents.Alike.{has_list}
 use Rattle.sbp_world.proofs.Agents.AskedLate.{quiet_follow}
 use Rattle.sbp_world.proofs.Lists.Busy.{StaysBusy, is_busy, lost_busy, replied_busy}
 use Rattle.sbp_world.proofs.Lists.BusyCuts.{Cutting, answers, desk_more}
+use Rattle.sbp_world.proofs.Lists.StepsUp.{IsUp, doorbell_up, lost_up, point_up, reply_up}
 use Rattle.sbp_world.proofs.Lists.BusyFollows.{Acts, Steps, alike, announce_from_acts, asks_acts, follow_acts}
 use Rattle.sbp_world.proofs.Lists.Follows.{AreSame, are_self, set_here, set_there}
 use Rattle.sbp_world.proofs.Lists.Full.{IsClosed}
@@ -152,6 +153,7 @@ module _ (w : WorldState) (g : Good w.target) (Given : Type 0) (F : ℕ → Mach
           same = λ p f. c.agents p ∙ other_set d p f;
           busy = λ known. inl (busy_at step (desk_at later q).agent now (replied_busy (M q) q plain run which answer known));
           full = λ f h. subst (λ x. F q x) (sym now) (reply_full f h);
+          up = λ h. subst (λ (x : Machine). IsUp x) (sym now) (reply_up (M q) q plain run which answer h);
         } in
         announced_acts loaded login.unit (follow q login step.0 s) (follow_acts q b Busy Given F closed M login step.0 s m)
 
@@ -167,6 +169,7 @@ module _ (w : WorldState) (g : Good w.target) (Given : Type 0) (F : ℕ → Mach
           same = λ p f. other_set d p f;
           busy = λ known. inl (busy_at loss (desk_at (with_desk there q d) q).agent (is_set there d g.mid.size) (lost_busy (M q) which causes.Timeout known));
           full = λ f h. subst (λ x. F q x) (sym (is_set there d g.mid.size)) (closed.lost q (M q) which causes.Timeout h);
+          up = λ h. subst (λ (x : Machine). IsUp x) (sym (is_set there d g.mid.size)) (lost_up (M q) which causes.Timeout h);
         })
 
     -- ---- what is asked of the registers
@@ -197,6 +200,7 @@ module _ (w : WorldState) (g : Good w.target) (Given : Type 0) (F : ℕ → Mach
             same = λ p f. other_set d p f;
             busy = λ known. inl (ap (λ (m : Machine). is_busy m.phase) (is_set there d g.mid.size) ∙ rings_in (M q).phase (M q) known);
             full = λ f h. subst (λ x. F q x) (sym (is_set there d g.mid.size)) (closed.bell q (M q) h);
+            up = λ h. subst (λ (x : Machine). IsUp x) (sym (is_set there d g.mid.size)) (doorbell_up (M q) h);
           }))
 
       pub silent_rests : has_list (M q).phase ≡ false → Cutting F closed M first → Cutting F closed M (ring q request bytes first)
@@ -234,4 +238,5 @@ module _ (w : WorldState) (g : Good w.target) (Given : Type 0) (F : ℕ → Mach
             same = λ p f. other_set d p f;
             busy = λ known. inl (ap (λ (n : Machine). is_busy n.phase) (is_set there d g.mid.size) ∙ takes (M q) pointer ask e);
             full = λ f h. subst (λ x. F q x) (sym (is_set there d g.mid.size)) (closed.point q (M q) pointer h);
+            up = λ h. subst (λ (x : Machine). IsUp x) (sym (is_set there d g.mid.size)) (point_up (M q) pointer h);
           })))

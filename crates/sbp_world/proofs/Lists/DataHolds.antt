@@ -161,7 +161,7 @@ first_held wild line run i b own = record {
   held = λ serial slot packet t x. absurd (none_sent packet t.is);
 }
 
-delivers : (most : Option ℕ) → DeliversMore (more_deliveries most)
+pub delivers : (most : Option ℕ) → DeliversMore (more_deliveries most)
 delivers (Some count) = tt
 delivers None = tt
 

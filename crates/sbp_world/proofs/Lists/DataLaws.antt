@@ -10,6 +10,10 @@ use Rattle.sbp_world.proofs.Lists.OwnNodes.{AreOwnNodes, nodes_everywhere}
 use Rattle.sbp_journal.specs.Run.{Moment}
 use Rattle.sbp_world.specs.Worlds.{WorldState}
 use Rattle.sbp_world.specs.Lists.EndsWell.{GoodEndsLaw}
+use Rattle.sbp_world.specs.Lists.CutSlots.{AllCutApart}
+use Rattle.sbp_world.proofs.Lists.SlotsCutRuns.{cut_apart_law}
+use Rattle.sbp_world.proofs.Lists.StatusRested.{grounds_law}
+use Rattle.sbp_world.proofs.Sessions.Runs.{joined_law}
 use Rattle.sbp_world.proofs.Lists.GoodEnds.{good_ends_law}
 use Rattle.sbp_world.specs.Lists.AnswersCarried.{AnswersBroughtLaw}
 use Rattle.sbp_world.proofs.Lists.AnswersCarriedRuns.{answers_brought_law, whole_law}
@@ -68,6 +72,10 @@ module _ (short : ShortLaw) where
 
   pub data_held_law : Under (WhereTameOrFew AllDataHeld)
   data_held_law = held_law data_sent_law
+
+  -- no ORB of an open list has the slot of an ORB whose list was cut before it ended
+  pub cut_apart : Under (WhereTame AllCutApart)
+  cut_apart = cut_apart_law (grounds_law (ground_law opened_known.laws.pointers opened_known.laws.begun) joined_law) untaken_by
 
   statuses_by : Under (WhereTameOrFew AllStatuses)
   statuses_by = places.statuses opened_known.laws.pointers opened_known.laws.begun (here_beside short) (placed_beside short)

@@ -1,0 +1,73 @@
+-- An agent that has a list and is put to RESET by a call of the target has its list cut in that turn: no step puts it there.
+use Rattle.std.proofs.Common.{arith, ◌≡◌, ◌∙◌, refl, sym, ap, subst, inl, inr, ◌⊎◌, ◌<◌, ℕ, nat_eq, Bool, true, false, List, Some}
+use Rattle.std.proofs.lemmas.Bool.Decides.{nat_tests}
+use Rattle.command_agent.specs.Machine.{Machine, state_in}
+use Rattle.command_agent.specs.Steps.{is_reset}
+use Rattle.command_agent.specs.declared.phase.Phase.{Phase}
+use Rattle.label_table.specs.Layer.{Layer}
+use Rattle.command_agent.specs.declared.phase.Phase.TheVariants as phases
+use Rattle.sbp_bus.specs.declared.places.Holder.{Holder}
+use Rattle.sbp_bus.specs.Places.{holder_at}
+use Rattle.sbp_journal.specs.Outgoings.{OutboxState}
+use Rattle.sbp_journal.specs.Run.{Moment}
+use Rattle.sbp_laws.specs.OrderLaw.{is_cut}
+use Rattle.sbp_target.specs.declared.purpose.Purpose.{Purpose}
+use Rattle.sbp_target.proofs.Histories.Calling.{Good}
+use Rattle.sbp_target.specs.Nodes.{NodeState, desk_at, scene}
+use Rattle.sbp_world.specs.Handing.{handed_out}
+use Rattle.sbp_world.specs.Telling.{holder, told_all}
+use Rattle.sbp_world.specs.Worlds.{WorldState}
+use Rattle.sbp_world.proofs.Agents.Management.Still.{hist}
+use Rattle.sbp_world.specs.Lists.Needs.{initiator_in, machine_at}
+use Rattle.sbp_world.proofs.Lists.Adds.{Stays, all_stay}
+use Rattle.sbp_world.proofs.Lists.BusyCuts.{Cutting, WasCut}
+use Rattle.sbp_world.proofs.Lists.Busy.{is_busy}
+use Rattle.sbp_world.proofs.Lists.BusyDeliveries.{Called, acts, points, rests}
+use Rattle.sbp_world.proofs.Lists.BusyFollows.{Acts}
+use Rattle.sbp_world.proofs.Lists.BusyTold.{cut_told}
+use Rattle.sbp_world.proofs.Lists.Full.{IsClosed}
+use Rattle.sbp_world.proofs.Lists.StepsUp.{IsUp}
+
+module _ (F : ℕ → Machine → Type 0) (closed : IsClosed F) (past : List Moment) (w u : WorldState) (places : u.places ≡ w.places) (node : NodeState) (outbox : OutboxState) (c : Cutting F closed (machine_at w) (scene node outbox)) where
+  -- packets leave the target
+  sends : Stays (λ j. true) past (told_all 0 outbox.sides u) (handed_out 0 0 outbox u)
+  sends = all_stay (λ j. true) past 0 outbox.packets (told_all 0 outbox.sides u)
+
+  module _ (p n : ℕ) (list_is : (holder w p).list ≡ Some n) where
+    same : holder u p ≡ holder w p
+    same = ap (λ ps. holder_at ps p) places
+
+    pub was_cut : WasCut p outbox.sides → is_cut (hist past (handed_out 0 0 outbox u)) (initiator_in w p) n ≡ true
+    was_cut cut =
+        sends.adds.cuts_are (initiator_in w p) n
+        ∙ (ap (λ (h : Holder). is_cut (hist past (told_all 0 outbox.sides u)) h.initiator n) (sym same)
+        ∙ cut_told past p n outbox.sides u c.beside cut (ap (λ (h : Holder). h.list) same ∙ list_is))
+
+    pub reset_is_cut : ((machine_at w p).phase ≡ phases.Reset → ⊥) → (desk_at node p).agent.phase ≡ phases.Reset → is_cut (hist past (handed_out 0 0 outbox u)) (initiator_in w p) n ≡ true
+    reset_is_cut up over = by (c.stays p)
+      where
+        by : ((desk_at node p).agent.phase ≡ (machine_at w p).phase) ⊎ WasCut p outbox.sides → is_cut (hist past (handed_out 0 0 outbox u)) (initiator_in w p) n ≡ true
+        by (inl e) = absurd (up (sym e ∙ over))
+        by (inr cut) = was_cut cut
+
+-- ---- any call of the target
+module _ (past : List Moment) (w u : WorldState) (places : u.places ≡ w.places) (g : Good w.target) (Given : Type 0) (F : ℕ → Machine → Type 0) (closed : IsClosed F) (layer : Layer Purpose) (node : NodeState) (outbox : OutboxState) (p n : ℕ) (list_is : (holder w p).list ≡ Some n) (up : IsUp (machine_at w p)) (over : (desk_at node p).agent.phase ≡ phases.Reset) where
+  reset_not : (m : Machine) → IsUp m → m.phase ≡ phases.Reset → ⊥
+  reset_not m h e = let z : true ≡ false = sym (ap (λ (x : Phase). is_reset (state_in x)) e) ∙ h in cc
+
+  module _ (q : ℕ) (b : q < 8) (Known : Type 0) (a : Acts q b Known Given F closed (machine_at w) (scene node outbox)) where
+    steps_not : ⊥
+    steps_not = by (nat_eq p q) refl
+      where
+        by : (x : Bool) → nat_eq p q ≡ x → ⊥
+        by true e =
+            let same : p ≡ q = grind (arith, nat_tests) in
+            reset_not (desk_at node q).agent (a.up (subst (λ k. IsUp (machine_at w k)) same up)) (ap (λ k. (desk_at node k).agent.phase) (sym same) ∙ over)
+        by false e =
+            let apart : p ≡ q → ⊥ = λ f. let z : nat_eq p q ≡ true = grind (arith, nat_tests) in let y : true ≡ false = sym z ∙ e in cc in
+            reset_not (machine_at w p) up (sym (ap (λ (m : Machine). m.phase) (a.same p apart)) ∙ over)
+
+  pub call_is_cut : Called w g Given F closed layer (scene node outbox) → is_cut (hist past (handed_out 0 0 outbox u)) (initiator_in w p) n ≡ true
+  call_is_cut (rests c) = reset_is_cut F closed past w u places node outbox c p n list_is (reset_not (machine_at w p) up) over
+  call_is_cut (acts q b h a) = absurd (steps_not q b (is_busy (machine_at w q).phase ≡ true) a)
+  call_is_cut (points q b a) = absurd (steps_not q b (Unit {0}) a)
