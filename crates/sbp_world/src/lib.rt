@@ -160,6 +160,7 @@ pub use of_lists::registers_are_of_the_login;
 pub use of_lists::responses_are_got_once;
 pub use of_lists::sessions_have_their_logins;
 pub use of_lists::slots_are_held_for_data;
+pub use of_lists::slots_of_cut_lists_are_apart;
 pub use of_lists::slots_stay;
 pub use of_lists::the_orb_in_its_place_is_read;
 pub use of_lists::the_orb_that_was_read_is_decided;

@@ -41,6 +41,7 @@ ghost use Rattle.sbp_world.specs.Lists.EndsWell.{GoodEndsLaw};
 ghost use Rattle.sbp_world.specs.Lists.DataEnds.{AnswersEndLaw};
 ghost use Rattle.sbp_world.specs.Lists.AnswersCarried.{AnswersBroughtLaw};
 ghost use Rattle.sbp_world.specs.Lists.AnswersHold.{AnswersHoldLaw};
+ghost use Rattle.sbp_world.specs.Lists.CutSlots.{CutSlotsLaw};
 ghost use Rattle.sbp_world.specs.Lists.DataGots.{DataGotsLaw, ServedGotLaw};
 ghost use Rattle.sbp_world.specs.Lists.DataHolds.{DataHeldLaw};
 ghost use Rattle.sbp_world.specs.Lists.DataSequences.{DataSequenceLaw};
@@ -602,6 +603,14 @@ pub fn data_that_were_served_were_got()
 #[tactic(auto, using(crate::proofs::Lists::Clauses::answers_brought))]
 pub fn answers_are_what_data_writes_brought()
     ensures { AnswersBroughtLaw }
+{}
+
+/// In every run in which no initiator injected packets, or few logins were given (`IsTameOrFew`), where lists were open as they should be
+/// before, of each initiator that injected none: the slot of an ORB whose list was cut before the ORB had ended has no ORB of a list
+/// that is open, while the target is in no later generation than the initiator was in as the list was cut.
+#[tactic(auto, using(crate::proofs::Lists::Clauses::cut_slots))]
+pub fn slots_of_cut_lists_are_apart()
+    ensures { CutSlotsLaw }
 {}
 
 /// In every run in which no initiator injected packets, or few logins were given, each answer of a good status that is taken by one

@@ -41,6 +41,7 @@ use Rattle.sbp_world.specs.Lists.DataHolds.{DataHeldLaw}
 use Rattle.sbp_world.specs.Lists.ManagedGots.{ManagedAsGotLaw}
 use Rattle.sbp_world.specs.Lists.AnswersCarried.{AnswersBroughtLaw}
 use Rattle.sbp_world.specs.Lists.AnswersHold.{AnswersHoldLaw}
+use Rattle.sbp_world.specs.Lists.CutSlots.{CutSlotsLaw}
 use Rattle.sbp_world.specs.Lists.DataGots.{DataGotsLaw, ServedGotLaw}
 use Rattle.sbp_world.specs.Lists.DataSequences.{DataSequenceLaw}
 use Rattle.sbp_world.specs.Lists.DataServes.{DataServedLaw}
@@ -86,6 +87,9 @@ data_gots = data_laws.gots_law short_law
 
 pub answers_brought : AnswersBroughtLaw
 answers_brought = data_laws.brought_law short_law
+
+pub cut_slots : CutSlotsLaw
+cut_slots = data_laws.cut_apart short_law
 
 pub answers_hold : AnswersHoldLaw
 answers_hold = data_laws.hold_law short_law open_lists_law lengths_law

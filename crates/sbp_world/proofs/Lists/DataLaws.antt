@@ -74,7 +74,7 @@ module _ (short : ShortLaw) where
   data_held_law = held_law data_sent_law
 
   -- no ORB of an open list has the slot of an ORB whose list was cut before it ended
-  pub cut_apart : Under (WhereTame AllCutApart)
+  pub cut_apart : Under (WhereTameOrFew AllCutApart)
   cut_apart = cut_apart_law (grounds_law (ground_law opened_known.laws.pointers opened_known.laws.begun) joined_law) untaken_by
 
   statuses_by : Under (WhereTameOrFew AllStatuses)

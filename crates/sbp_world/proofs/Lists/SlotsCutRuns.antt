@@ -1,4 +1,4 @@
--- In every run in which no initiator injected packets, no ORB of an open list has the slot of an ORB whose list was cut before it ended, in the generation.
+-- In every run in which no initiator injected packets, or few logins were given, of each that injected none: no ORB of an open list has the slot of an ORB whose list was cut before it ended, in the generation.
 use Rattle.std.proofs.Common.{◌≡◌, ◌∙◌, refl, sym, ap, subst, ◌<◌, ◌≤◌, ℕ, suc, Bool, true, false, List, [], length, None}
 use Rattle.rbc_disk.specs.Disk.{Disk}
 use Rattle.sbp_journal.specs.Run.{Moment}
@@ -11,18 +11,18 @@ use Rattle.sbp_world.specs.Runs.{Run, beginning}
 use Rattle.sbp_world.specs.Worlds.{WorldState}
 use Rattle.sbp_world.proofs.Agents.Management.Still.{hist}
 use Rattle.sbp_world.specs.Hosts.Runs.{more_deliveries}
-use Rattle.sbp_world.specs.Lists.Closes.{Always, AreUntaken, Under, WhereTame}
+use Rattle.sbp_world.specs.Lists.Closes.{Always, AreUntaken, Under, WhereTameOrFew}
 use Rattle.sbp_world.specs.Lists.CutSlots.{AllCutApart, AreCutApart}
 use Rattle.sbp_world.proofs.Lists.DataHolds.{delivers}
 use Rattle.sbp_world.proofs.Lists.Joins.{Begins}
-use Rattle.sbp_world.proofs.Lists.OwnFifos.{tame_before}
+use Rattle.sbp_world.proofs.Lists.Beside.{tame_or_few_before}
 use Rattle.sbp_world.proofs.Lists.Passing.{PassLaw}
 use Rattle.sbp_world.proofs.Lists.Rises.{Rises}
 use Rattle.sbp_world.proofs.Lists.SlotsCut.{open_apart}
 use Rattle.sbp_world.proofs.Lists.StatusRested.{Grounds}
 use Rattle.sbp_world.proofs.Lists.StatusRuns.{rises_of}
 use Rattle.sbp_world.proofs.Lists.TameWalks.{still_after, still_between}
-use Rattle.sbp_world.specs.Lists.OwnLogins.{IsTame}
+use Rattle.sbp_world.specs.Lists.FewLogins.{IsTameOrFew}
 use Rattle.sbp_world.proofs.Lists.UnrunTerms.{cut_stays}
 use Rattle.sbp_world.proofs.Lists.Walks.{Walks}
 
@@ -48,9 +48,9 @@ first_apart : (wild : ℕ → Bool) (line : ℕ) (run : Run) → AllApart wild (
 first_apart wild line run i b own later before is n k slot cut unended held current list number opened there =
     no (subst (λ ms. is_cut ms i n ≡ true) is (cut_stays later before i n cut))
 
-pub cut_apart_law : Always Grounds → Under (WhereTame AreUntaken) → Under (WhereTame AllCutApart)
+pub cut_apart_law : Always Grounds → Under (WhereTameOrFew AreUntaken) → Under (WhereTameOrFew AllCutApart)
 cut_apart_law grounds untaken = record {
-  after_lines = λ line run r has small size so_far tame. still_after IsTame tame_before Grounds AreUntaken AllApart grounds untaken apart_walk first_apart line run r has small size so_far tame;
+  after_lines = λ line run r has small size so_far tame. still_after IsTameOrFew tame_or_few_before Grounds AreUntaken AllApart grounds untaken apart_walk first_apart line run r has small size so_far tame;
   between = λ line run r has small size next most told m so_far tame.
-      still_between IsTame tame_before Grounds AreUntaken AllApart grounds untaken apart_walk first_apart line run r has small size next (more_deliveries most) (delivers most) told m so_far tame;
+      still_between IsTameOrFew tame_or_few_before Grounds AreUntaken AllApart grounds untaken apart_walk first_apart line run r has small size next (more_deliveries most) (delivers most) told m so_far tame;
 }

@@ -1,5 +1,6 @@
 -- The slot of an ORB whose list was cut before the ORB had ended (NCITS 325-1998, AGENT_RESET, ABORT TASK SET, resets): while the target is in no later generation than the initiator was in then,
 -- no ORB of a list that is open has this slot.
+use Rattle.sbp_world.specs.Lists.Closes.{Under, WhereTameOrFew}
 use Rattle.std.specs.Prelude.{◌≡◌, ◌<◌, ◌≤◌, ℕ, suc, true, List, ◌++◌, length, Some}
 use Rattle.sbp_journal.specs.Run.{Moment}
 use Rattle.sbp_journal.specs.Wire.{terms}
@@ -17,3 +18,7 @@ AreCutApart past i =
 
 abbrev pub AllCutApart : List Moment → WorldState → Type 0
 AllCutApart past w = (i : ℕ) → i < length w.initiators → IsCalm past i → AreCutApart past i
+
+-- So it is at each place of every run in which no initiator injected packets, or few logins were given, before which lists were open as they should be.
+abbrev pub CutSlotsLaw : Type 0
+CutSlotsLaw = Under (WhereTameOrFew AllCutApart)
