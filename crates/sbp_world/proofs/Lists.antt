@@ -170,6 +170,10 @@ pub mod LiveTold
 pub mod LiveTurns
 pub mod LiveUnrefused
 pub mod LoginShapes
+pub mod MainAnswers
+pub mod MainLater
+pub mod MainSteps
+pub mod MainStays
 pub mod Looks
 pub mod ManageActs
 pub mod ManageAnswers
@@ -213,6 +217,7 @@ pub mod ManagedGots
 pub mod Named
 pub mod NamedWrites
 pub mod Naming
+pub mod NobodyWaits
 pub mod OfficeAsks
 pub mod OfficeWrites
 pub mod OnceLaws
