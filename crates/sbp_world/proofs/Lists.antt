@@ -171,6 +171,10 @@ pub mod LiveTold
 pub mod LiveTurns
 pub mod LiveUnrefused
 pub mod LoginShapes
+pub mod MainAnswers
+pub mod MainLater
+pub mod MainSteps
+pub mod MainStays
 pub mod Looks
 pub mod ManageActs
 pub mod ManageAnswers
@@ -215,6 +219,7 @@ pub mod NobodyGots
 pub mod Named
 pub mod NamedWrites
 pub mod Naming
+pub mod NobodyWaits
 pub mod OfficeAsks
 pub mod OfficeWrites
 pub mod OnceLaws

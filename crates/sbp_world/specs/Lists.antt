@@ -28,6 +28,7 @@ pub mod LastReads
 pub mod Lasts
 pub mod Lists
 pub mod LawfulLists
+pub mod LetsGo
 pub mod Live
 pub mod LoginAnswers
 pub mod OrbReads
