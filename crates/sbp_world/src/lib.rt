@@ -132,6 +132,8 @@ pub use of_lists::lists_begin_in_seen_generations;
 pub use of_lists::lists_grow;
 pub use of_lists::lists_stay_open_from_place_to_place;
 pub use of_lists::logouts_are_not_refused;
+pub use of_lists::main_transactions_stay;
+pub use of_lists::nobodys_requests_were_of_agents_reset;
 pub use of_lists::one_operation_is_in_hand;
 pub use of_lists::open_lists_are_the_latest;
 pub use of_lists::open_lists_were_pointed_to;

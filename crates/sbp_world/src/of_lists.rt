@@ -57,6 +57,7 @@ ghost use Rattle.sbp_world.specs.Lists.OneUp.{OneUpLaw};
 ghost use Rattle.sbp_world.specs.Lists.Opened.{LogoutsLaw};
 ghost use Rattle.sbp_world.specs.Lists.LawfulLists.{ListsLaw};
 ghost use Rattle.sbp_world.specs.Lists.SendsLast.{SendsLastLaw};
+ghost use Rattle.sbp_world.specs.Lists.LetsGo.{MainStaysLaw, NobodyWaitsLaw};
 ghost use Rattle.sbp_world.specs.Lists.CarriedOrbs.{CarriedOrbsLaw};
 
 /// The lists of an initiator, as the run terms have them, are laid out as an agent asks for it: an ORB without
@@ -648,4 +649,18 @@ pub fn answers_are_as_the_disk_told()
 #[tactic(auto, using(crate::proofs::Lists::TurnOrders::sends_last_law))]
 pub fn packets_are_sent_behind_effects()
     ensures { SendsLastLaw }
+{}
+
+/// In every history what was the main transaction of the agent of a place is that still, or the agent let it go at one moment since: a
+/// reply to it took the agent on, or the agent was put into RESET.
+#[tactic(auto, using(crate::proofs::Lists::MainLater::main_stays_law))]
+pub fn main_transactions_stay()
+    ensures { MainStaysLaw }
+{}
+
+/// In every history where a request that was the main transaction of an agent is nobody's as a turn ends, and under way still, its agent
+/// was put into RESET since, or the request timed out.
+#[tactic(auto, using(crate::proofs::Lists::NobodyWaits::nobody_waits_law))]
+pub fn nobodys_requests_were_of_agents_reset()
+    ensures { NobodyWaitsLaw }
 {}
