@@ -221,8 +221,9 @@ pub fn answers_are_their_own_as_they_are_got()
     ensures { OwnAsGotLaw }
 {}
 
-/// In every run in which no initiator injected packets, as each packet is got: what answers a request of the target's management
-/// operation begins elsewhere than in the page table and the buffer of a slot, or brings no bytes of the buffer, as the answer to a write.
+/// In every run in which no initiator injected packets, or few logins were given (`IsTameOrFew`), as each packet is got: what answers a
+/// request of the target's management operation and comes of an initiator that injected none begins elsewhere than in the page table and
+/// the buffer of a slot, or brings no bytes of the buffer, as the answer to a write.
 #[tactic(auto, using(crate::proofs::Lists::Clauses::managed_gots))]
 pub fn answers_to_the_management_begin_elsewhere()
     ensures { ManagedAsGotLaw }
@@ -255,7 +256,7 @@ pub fn what_is_got_since_spares_the_orb_read_ahead()
 /// each run of an initiator that injected none, as the carried law has it, is the one behind which its agent turned to it, and as each
 /// packet was got since then the agent waited for an answer of the initiator: the buffer and the data of the command are those by all
 /// that the target got of the initiator since the response, where what answers no agent begins elsewhere than in the ORB's slot; and
-/// where no initiator injected packets, wherever what answers nobody does.
+/// so they are wherever what answers nobody does.
 #[tactic(auto, using(crate::proofs::Lists::Clauses::feeds_law))]
 pub fn orbs_that_run_were_read_and_fed()
     ensures { ReadAndFedLaw }

@@ -77,7 +77,7 @@ module _ (units ready : ℕ) (more_units : 0 < units) (start : List Disk) {past 
     pub node_is : (op : Operation) → node_of w.generations 0 op.source ≡ Some (suc i) → op.source ≡ id_in w i
     node_is op n = sym (node_has (topology_at w.generations 0) op.source (suc i) n).id_is
 
-    own_at : (op : Operation) → w.target.manager.operation ≡ Some op → op.source ≡ id_in w i → IsOwnOp start (hist past w) i op
+    pub own_at : (op : Operation) → w.target.manager.operation ≡ Some op → op.source ≡ id_in w i → IsOwnOp start (hist past w) i op
     own_at op is source =
         g.ops i inside calm shorts based op (operation_is units ready more_units start w h i inside ∙ is)
         (source ∙ sym (id_is units ready more_units start w h i inside))

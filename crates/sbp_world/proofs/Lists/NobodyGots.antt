@@ -1,5 +1,5 @@
 -- What answers no agent begins elsewhere, where what answers nobody does: what answers the management operation begins elsewhere as each packet is got.
-use Rattle.std.proofs.Common.{◌≡◌, refl, ℕ, List, [], ◌∷◌, ◌++◌, Option, Some, None}
+use Rattle.std.proofs.Common.{Bool, false, ◌≡◌, refl, ℕ, List, [], ◌∷◌, ◌++◌, Option, Some, None}
 use Rattle.rbc_disk.specs.Disk.{Disk}
 use Rattle.sbp_journal.specs.Run.{Moment, asked, said}
 use Rattle.sbp_journal.specs.Wire.{terms}
@@ -14,23 +14,23 @@ use Rattle.sbp_world.specs.Lists.ManagedGots.{IsManagedElsewhere, ManagedAsGot}
 use Rattle.sbp_world.specs.Lists.NobodyGots.{AllNobodyElsewhere, IsNobodyElsewhere}
 use Rattle.sbp_world.specs.Lists.OwnSince.{AllElsewhereBut, IsElsewhereBut, by_purpose}
 
-module _ (start : List Disk) (i slot : ℕ) where
-  module _ (past : List Moment) (serial : ℕ) (managed : IsManagedElsewhere start past serial) where
+module _ (wild : ℕ → Bool) (start : List Disk) (i slot : ℕ) (own : wild i ≡ false) where
+  module _ (past : List Moment) (serial : ℕ) (managed : IsManagedElsewhere wild start past serial) where
     module _ (request : ℕ) (closed : answered_at (terms past) serial ≡ Some request) (nobody : IsNobodyElsewhere start past i slot serial (Some request)) where
       by_kind : (p : Purpose) → purpose_of (over (target_at start past)) request ≡ p → by_purpose p (AllElsewhere slot (read_by (terms past) i serial (Some request)))
       by_kind (for_agent place which) e = tt
-      by_kind for_manager e = managed i slot request closed e
+      by_kind for_manager e = managed i slot request own closed e
       by_kind for_nobody e = nobody e
 
     by_own : (own : Option ℕ) → answered_at (terms past) serial ≡ own → IsNobodyElsewhere start past i slot serial own → IsElsewhereBut start past i slot serial own
     by_own None closed nobody = tt
     by_own (Some request) closed nobody = by_kind request closed nobody (purpose_of (over (target_at start past)) request) refl
 
-  pub but_nobody : (later before : List Moment) → EachMoment (ManagedAsGot start) (later ++ before) → AllNobodyElsewhere start i slot later before → AllElsewhereBut start i slot later before
+  pub but_nobody : (later before : List Moment) → EachMoment (ManagedAsGot wild start) (later ++ before) → AllNobodyElsewhere start i slot later before → AllElsewhereBut start i slot later before
   but_nobody [] before g e = tt
   but_nobody (asked line event ∷ later) before g e = but_nobody later before g.1 e
   but_nobody (said note ∷ later) before g e = by_note note g.0 e (but_nobody later before g.1)
     where
-      by_note : (note : Note) → ManagedAsGot start (said note) (later ++ before) → AllNobodyElsewhere start i slot (said note ∷ later) before → (AllNobodyElsewhere start i slot later before → AllElsewhereBut start i slot later before) → AllElsewhereBut start i slot (said note ∷ later) before
+      by_note : (note : Note) → ManagedAsGot wild start (said note) (later ++ before) → AllNobodyElsewhere start i slot (said note ∷ later) before → (AllNobodyElsewhere start i slot later before → AllElsewhereBut start i slot later before) → AllElsewhereBut start i slot (said note ∷ later) before
       by_note (notes.Got serial) g e more = (by_own (later ++ before) serial g (answered_at (terms (later ++ before)) serial) refl e.0, more e.1)
       by_note note g e more = more e

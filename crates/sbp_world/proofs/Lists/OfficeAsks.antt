@@ -45,11 +45,13 @@ use Rattle.sbp_world.specs.Lists.ManagedFor.{is_its_packet}
 use Rattle.sbp_world.proofs.Lists.ContentManages.{Moves, bound, drops, its_by, keeps, moment_moves, puts}
 use Rattle.sbp_world.proofs.Lists.ManageTerms.{none_is, same_some, untrue}
 use Rattle.sbp_world.proofs.Agents.Handed.{is_its_serial}
+use Rattle.sbp_world.proofs.Lists.KeptReplies.{HasRead, brought, kept, reply_read}
 use Rattle.sbp_world.proofs.Lists.Quiet.{AllQuiet, IsQuiet}
 
 -- ---- a moment but that at which a packet is got leaves what the management asks for, or nothing of it
-abbrev Left : Ask → Ask → Type 0
-Left before now = (now ≡ before) ⊎ (now ≡ Nothing)
+-- with its operation
+abbrev Left : Office → Office → Type 0
+Left before now = ((now.asks ≡ before.asks) × (now.manager ≡ before.manager)) ⊎ (now.asks ≡ Nothing)
 
 abbrev asks_of : Office → Ask
 asks_of o = o.asks
@@ -57,30 +59,30 @@ asks_of o = o.asks
 rest_asks : (t : Target) → (over t).manager_asks ≡ Nothing
 rest_asks t = ap asks_of (over_keeps t)
 
-placed_left : (place : Option ℕ) (decided : Option Decided) (id : ℕ) (o : Office) → Left o.asks (placed place decided id o).asks
-placed_left None decided id o = inl refl
-placed_left (Some place) None id o = inl refl
-placed_left (Some place) (Some decided) id o = inl refl
+placed_left : (place : Option ℕ) (decided : Option Decided) (id : ℕ) (o : Office) → Left o (placed place decided id o)
+placed_left None decided id o = inl (refl, refl)
+placed_left (Some place) None id o = inl (refl, refl)
+placed_left (Some place) (Some decided) id o = inl (refl, refl)
 
-entered_left : (login : Option ℕ) (o : Office) → Left o.asks (placed_by login o).asks
-entered_left None o = inl refl
+entered_left : (login : Option ℕ) (o : Office) → Left o (placed_by login o)
+entered_left None o = inl (refl, refl)
 entered_left (Some id) o = placed_left (position is_none o.table.places) o.decided id o
 
-managed_left : (word : FunctionWord) (login : Option ℕ) (o : Office) → Left o.asks (by_managed word login o).asks
+managed_left : (word : FunctionWord) (login : Option ℕ) (o : Office) → Left o (by_managed word login o)
 managed_left functions.Login login o = entered_left login o
-managed_left _ login o = inl refl
+managed_left _ login o = inl (refl, refl)
 
-by_left : (note : Note) (o : Office) → Left o.asks (by_note note o).asks
+by_left : (note : Note) (o : Office) → Left o (by_note note o)
 by_left (notes.ManageFailed i cause) o = inr refl
 by_left (notes.Managed i word subject status login) o = managed_left word login o
-by_left (notes.Held id) o = inl refl
-by_left (notes.Back id) o = inl refl
-by_left (notes.Left id) o = inl refl
-by_left (notes.Expired id) o = inl refl
-by_left _ o = inl refl
+by_left (notes.Held id) o = inl (refl, refl)
+by_left (notes.Back id) o = inl (refl, refl)
+by_left (notes.Left id) o = inl (refl, refl)
+by_left (notes.Expired id) o = inl (refl, refl)
+by_left _ o = inl (refl, refl)
 
-behind_left : (note : Note) (past : List Moment) (wire : Terms) (t : Target) → IsBehind note → Left t.manager_asks (target_by note past wire t).manager_asks
-behind_left note past wire t h = subst (λ (o : Office). Left t.manager_asks o.asks) (sym (note_changes note past wire t h)) (by_left note (office_of t))
+behind_left : (note : Note) (past : List Moment) (wire : Terms) (t : Target) → IsBehind note → Left (office_of t) (office_of (target_by note past wire t))
+behind_left note past wire t h = subst (λ (o : Office). Left (office_of t) o) (sym (note_changes note past wire t h)) (by_left note (office_of t))
 
 -- a time-out leaves nothing
 late_in : (phase : Phase) (op : Operation) (m : Machine) (table : Table) (keys : List (List ℕ)) → (management.reply_in phase m op table keys Expired).0.ask ≡ Nothing
@@ -105,7 +107,7 @@ late_asks serial t = by (is_serial (over t).manages serial) refl
     by true e = ap asks_of (own_reply serial Expired (over t) e) ∙ late_step (over t).manager (over t).table (over t).keys
     by false e = ap asks_of (other_reply serial Expired (over t) e) ∙ rest_asks t
 
-pick_left : (b : Bool) (t x y : Target) → Left t.manager_asks x.manager_asks → Left t.manager_asks y.manager_asks → Left t.manager_asks (cond b x y).manager_asks
+pick_left : (b : Bool) (t x y : Target) → Left (office_of t) (office_of x) → Left (office_of t) (office_of y) → Left (office_of t) (office_of (cond b x y))
 pick_left true t x y h k = h
 pick_left false t x y h k = k
 
@@ -113,49 +115,49 @@ seen_left : (b : Bool) (t : Target) → (reset_seen b (over t)).manager_asks ≡
 seen_left true t = rest_asks t
 seen_left false t = rest_asks t
 
-key_left : (event : Option Event) (unit : ℕ) (t : Target) → (key_by event unit t).manager_asks ≡ t.manager_asks
-key_left None unit t = refl
-key_left (Some (events.Key other key)) unit t = refl
-key_left (Some (events.Begin a b)) unit t = refl
-key_left (Some (events.Act a b)) unit t = refl
-key_left (Some (events.Reset a)) unit t = refl
-key_left (Some (events.See a)) unit t = refl
-key_left (Some (events.Deliver a)) unit t = refl
-key_left (Some (events.Repeat a)) unit t = refl
-key_left (Some (events.Lose a)) unit t = refl
-key_left (Some (events.Timeout a)) unit t = refl
-key_left (Some (events.Step a)) unit t = refl
-key_left (Some events.Settle) unit t = refl
-key_left (Some events.Tick) unit t = refl
-key_left (Some (events.Inject a b)) unit t = refl
+key_left : (event : Option Event) (unit : ℕ) (t : Target) → Left (office_of t) (office_of (key_by event unit t))
+key_left None unit t = inl (refl, refl)
+key_left (Some (events.Key other key)) unit t = inl (refl, refl)
+key_left (Some (events.Begin a b)) unit t = inl (refl, refl)
+key_left (Some (events.Act a b)) unit t = inl (refl, refl)
+key_left (Some (events.Reset a)) unit t = inl (refl, refl)
+key_left (Some (events.See a)) unit t = inl (refl, refl)
+key_left (Some (events.Deliver a)) unit t = inl (refl, refl)
+key_left (Some (events.Repeat a)) unit t = inl (refl, refl)
+key_left (Some (events.Lose a)) unit t = inl (refl, refl)
+key_left (Some (events.Timeout a)) unit t = inl (refl, refl)
+key_left (Some (events.Step a)) unit t = inl (refl, refl)
+key_left (Some events.Settle) unit t = inl (refl, refl)
+key_left (Some events.Tick) unit t = inl (refl, refl)
+key_left (Some (events.Inject a b)) unit t = inl (refl, refl)
 
-for_left : (place : Option ℕ) (is_write : Bool) (serial : ℕ) (t : Target) → Left t.manager_asks (sent_for place is_write serial t).manager_asks
-for_left (Some place) is_write serial t = inl refl
+for_left : (place : Option ℕ) (is_write : Bool) (serial : ℕ) (t : Target) → Left (office_of t) (office_of (sent_for place is_write serial t))
+for_left (Some place) is_write serial t = inl (refl, refl)
 for_left None is_write serial t = by (wants t.manager_asks is_write)
   where
-    by : (b : Bool) → Left t.manager_asks (cond b (record t { manages = Some serial; manager_asks = Nothing }) (record t { pushes = serial ∷ t.pushes })).manager_asks
+    by : (b : Bool) → Left (office_of t) (office_of (cond b (record t { manages = Some serial; manager_asks = Nothing }) (record t { pushes = serial ∷ t.pushes })))
     by true = inr refl
-    by false = inl refl
+    by false = inl (refl, refl)
 
-sent_left : (part : Part) (is_write : Bool) (serial : ℕ) (t : Target) → Left t.manager_asks (sent_as part is_write serial t).manager_asks
+sent_left : (part : Part) (is_write : Bool) (serial : ℕ) (t : Target) → Left (office_of t) (office_of (sent_as part is_write serial t))
 sent_left (request label kind) is_write serial t = for_left (position (wants_it is_write) t.agents) is_write serial t
-sent_left (response label kind) is_write serial t = inl refl
-sent_left no_packet is_write serial t = inl refl
+sent_left (response label kind) is_write serial t = inl (refl, refl)
+sent_left no_packet is_write serial t = inl (refl, refl)
 
-note_left : (note : Note) (past : List Moment) (wire : Terms) (t : Target) → IsNoGot note → Left t.manager_asks (target_by note past wire t).manager_asks
-note_left (notes.Begin initiators ready) past wire t n = inl refl
+note_left : (note : Note) (past : List Moment) (wire : Terms) (t : Target) → IsNoGot note → Left (office_of t) (office_of (target_by note past wire t))
+note_left (notes.Begin initiators ready) past wire t n = inl (refl, refl)
 note_left (notes.Got serial) past wire t n = absurd n
 note_left (notes.Ignored serial cause) past wire t n = inr (rest_asks t)
 note_left (notes.TimedOut serial) past wire t n = pick_left (is_serial (sender_in (wire.sent serial)) 0) t (laws_replied serial Expired (over t)) (over t) (inr (late_asks serial t)) (inr (rest_asks t))
 note_left (notes.Seen node generation) past wire t n =
     let b = not (generation == wire.generation 0) in pick_left (node == 0) t (reset_seen b (over t)) (over t) (inr (seen_left b t)) (inr (rest_asks t))
 note_left notes.Tick past wire t n = inr (rest_asks t)
-note_left (notes.Key unit) past wire t n = inl (key_left (event_of past) unit t)
+note_left (notes.Key unit) past wire t n = key_left (event_of past) unit t
 note_left (notes.Sent serial generation from to bytes) past wire t n =
     let settled = taken_on None t.reply t in
-    let same : settled.manager_asks ≡ t.manager_asks = ap asks_of (taken_keeps None t.reply t) in
+    let same : office_of settled ≡ office_of t = taken_keeps None t.reply t in
     let x = sent_as (part_of bytes) (is_write_access (access_in_bytes bytes)) serial settled in
-    pick_left (from == 0) t x settled (subst (λ (a : Ask). Left a x.manager_asks) same (sent_left (part_of bytes) (is_write_access (access_in_bytes bytes)) serial settled)) (inl same)
+    pick_left (from == 0) t x settled (subst (λ (o : Office). Left o (office_of x)) same (sent_left (part_of bytes) (is_write_access (access_in_bytes bytes)) serial settled)) (inl (ap asks_of same, ap (λ (o : Office). o.manager) same))
 note_left note past wire t n = behind_left note past wire t tt
 
 abbrev started_with : Ask → Result Ask Busy
@@ -164,21 +166,27 @@ started_with ask = Ok ask
 abbrev refused_with : Busy → Result Ask Busy
 refused_with busy = Err busy
 
--- ---- where it asks to write, and where the write begins that it waits for
-module _ (May : ℕ → Type 0) where
+-- an operation of the node with this ID is under way
+pub record HasOpOf (source : ℕ) (m : Machine) : Type 0 where
+  pub op : Operation
+  pub is : m.operation ≡ Some op
+  pub of : op.source ≡ source
+
+-- ---- where it asks to write for such a node, and where the write begins that it waits for
+module _ (whose : ℕ) (May : ℕ → Type 0) where
   abbrev pub AsksSo : Ask → Type 0
   AsksSo ask = (at len : ℕ) → ask ≡ asks.Write at len → May at
 
   pub record OfficeSo (start : List Disk) (past : List Moment) : Type 0 where
-    pub asks_may : AsksSo (target_at start past).manager_asks
-    pub waits_may : (r : ℕ) → (target_at start past).manages ≡ Some r → (access : Access) → access_at (terms past) r ≡ Some access → access.is_write ≡ true → May access.offset
+    pub asks_may : HasOpOf whose (target_at start past).manager → AsksSo (target_at start past).manager_asks
+    pub waits_may : HasOpOf whose (target_at start past).manager → (r : ℕ) → (target_at start past).manages ≡ Some r → (access : Access) → access_at (terms past) r ≡ Some access → access.is_write ≡ true → May access.offset
 
   nothing_so : AsksSo Nothing
   nothing_so at len e = absurd (let no : Nothing ≡ asks.Write at len = e in cc)
 
-  left_so : (before now : Ask) → Left before now → AsksSo before → AsksSo now
-  left_so before now (inl e) a = subst AsksSo (sym e) a
-  left_so before now (inr e) a = subst AsksSo (sym e) nothing_so
+  left_so : (before now : Office) → Left before now → (HasOpOf whose before.manager → AsksSo before.asks) → HasOpOf whose now.manager → AsksSo now.asks
+  left_so before now (inl e) a own = subst AsksSo (sym e.0) (a (subst (HasOpOf whose) e.1 own))
+  left_so before now (inr e) a own = subst AsksSo (sym e) nothing_so
 
   -- the body of a packet that it asks for
   write_body : (b : Bool) (at : ℕ) (out : List ℕ) (body : Body) → cond b (Some (block_write at out)) None ≡ Some body → May at → May (access_for body).offset
@@ -200,14 +208,14 @@ module _ (May : ℕ → Type 0) where
     some_access : (a b : Access) → Some a ≡ Some b → a ≡ b
     some_access a b e = cc
 
-    waits_on : (m : Moment) (past : List Moment) → SerialsCount (m ∷ past) → ContentAt start m past → OfficeSo start past → Moves (office_of (target_at start past)) (office_of (target_at start (m ∷ past))) m → (r : ℕ) → (target_at start (m ∷ past)).manages ≡ Some r → (access : Access) → access_at (terms (m ∷ past)) r ≡ Some access → access.is_write ≡ true → May access.offset
-    waits_on m past c content o (keeps manager decided manages) r e access is w =
+    waits_on : (m : Moment) (past : List Moment) → SerialsCount (m ∷ past) → ContentAt start m past → OfficeSo start past → Moves (office_of (target_at start past)) (office_of (target_at start (m ∷ past))) m → HasOpOf whose (target_at start (m ∷ past)).manager → (r : ℕ) → (target_at start (m ∷ past)).manages ≡ Some r → (access : Access) → access_at (terms (m ∷ past)) r ≡ Some access → access.is_write ≡ true → May access.offset
+    waits_on m past c content o (keeps manager decided manages) has r e access is w =
         let was = sym manages ∙ e in
         let few = ((bound start past (serials_behind m past c)).own r was).1 in
         let same = (remains (m ∷ []) past c).sent r few in
-        o.waits_may r was access (ap (λ so. access_in (packet_in so)) (sym same) ∙ is) w
-    waits_on m past c content o (drops none) r e access is w = none_is r (sym none ∙ e)
-    waits_on m past c content o (puts serial generation to bytes at manager decided manages rests some) r e access is w =
+        o.waits_may (subst (HasOpOf whose) manager has) r was access (ap (λ so. access_in (packet_in so)) (sym same) ∙ is) w
+    waits_on m past c content o (drops none) has r e access is w = none_is r (sym none ∙ e)
+    waits_on m past c content o (puts serial generation to bytes at manager decided manages rests some) has r e access is w =
         let sent = said (notes.Sent serial generation zero to bytes) in
         let now = target_at start (sent ∷ past) in
         let t = target_at start past in
@@ -220,20 +228,20 @@ module _ (May : ℕ → Type 0) where
         let there : access_at (terms (m ∷ past)) r ≡ Some (access_for a.body) =
         ap (λ x. access_at (terms (x ∷ past)) r) at ∙ (ap (λ n. access_at (terms (sent ∷ past)) n) (sym same) ∙ (ap (λ so. access_in (packet_in so)) (sent_there past serial generation zero to bytes) ∙ a.access)) in
         let of_body : access ≡ access_for a.body = some_access access (access_for a.body) (sym is ∙ there) in
-        subst (λ (x : Access). May x.offset) (sym of_body) (body_so t.manager_asks t.manager.outgoing a.body o.asks_may a.asks (ap (λ (x : Access). x.is_write) (sym of_body) ∙ w))
+        subst (λ (x : Access). May x.offset) (sym of_body) (body_so t.manager_asks t.manager.outgoing a.body (o.asks_may (subst (HasOpOf whose) manager has)) a.asks (ap (λ (x : Access). x.is_write) (sym of_body) ∙ w))
 
     moves : (m : Moment) (past : List Moment) → SerialsCount (m ∷ past) → Moves (office_of (target_at start past)) (office_of (target_at start (m ∷ past))) m
     moves m past c = moment_moves start m past (bound start past (serials_behind m past c)).bare
 
     pub note_so : (note : Note) (past : List Moment) → IsNoGot note → SerialsCount (said note ∷ past) → ContentAt start (said note) past → OfficeSo start past → OfficeSo start (said note ∷ past)
     note_so note past n c content o = record {
-      asks_may = left_so (target_at start past).manager_asks (target_at start (said note ∷ past)).manager_asks (note_left note past (known_at start past).wire (target_at start past) n) o.asks_may;
+      asks_may = left_so (office_of (target_at start past)) (office_of (target_at start (said note ∷ past))) (note_left note past (known_at start past).wire (target_at start past) n) o.asks_may;
       waits_may = waits_on (said note) past c content o (moves (said note) past c);
     }
 
     pub asked_so : (line : ℕ) (event : Event) (past : List Moment) → SerialsCount past → OfficeSo start past → OfficeSo start (asked line event ∷ past)
     asked_so line event past c o = record {
-      asks_may = subst AsksSo (sym (rest_asks (target_at start past))) nothing_so;
+      asks_may = λ has. subst AsksSo (sym (rest_asks (target_at start past))) nothing_so;
       waits_may = waits_on (asked line event) past c tt o (moves (asked line event) past c);
     }
 
@@ -241,7 +249,7 @@ module _ (May : ℕ → Type 0) where
     -- what a reply to its request brings is good
     abbrev pub GotGood : List Moment → ℕ → Type 0
     GotGood past serial =
-        (own : ℕ) → answered_at (terms past) serial ≡ Some own → (target_at start past).manages ≡ Some own → (op : Operation) → (target_at start past).manager.operation ≡ Some op → GoodIn op.phase × (op.phase ≡ phases.Orb → (xs : List ℕ) → payload_of (answer_in (packet_at (terms past) serial)) 32 ≡ Ok xs → IsGoodOrb (management_orb xs))
+        (own : ℕ) → answered_at (terms past) serial ≡ Some own → (target_at start past).manages ≡ Some own → (op : Operation) → (target_at start past).manager.operation ≡ Some op → op.source ≡ whose → GoodIn op.phase × (op.phase ≡ phases.Orb → (xs : List ℕ) → payload_of (answer_in (packet_at (terms past) serial)) 32 ≡ Ok xs → IsGoodOrb (management_orb xs))
 
     module _ (its : (fifo : ℕ) → IsItsFifo fifo → May fifo) (aside : (at : ℕ) → IsAside at → May at) (past : List Moment) (serial : ℕ) (good : GotGood past serial) where
       abbrev t : Target
@@ -270,18 +278,34 @@ module _ (May : ℕ → Type 0) where
       unfolding management.reply_step
       no_operation m table keys told e = ap (λ (o : Option Operation). (management.reply_to o m table keys told).0.ask) e
 
-      replied_by : (own : ℕ) → answered_at wire serial ≡ Some own → T.manages ≡ Some own → (o : Option Operation) → T.manager.operation ≡ o → AsksSo (management.reply_step T.manager T.table T.keys (answer_in (packet_at wire serial))).0.ask
-      replied_by own closed e None f = subst AsksSo (sym (no_operation T.manager T.table T.keys (answer_in (packet_at wire serial)) f)) nothing_so
-      replied_by own closed e (Some op) f =
-          let g = good own closed (sym (ap (λ (o : Office). o.manages) office_is) ∙ e) op (sym operation_is ∙ f) in
+      source_left : (own : ℕ) (m : Machine) → m ≡ (management.reply_step T.manager T.table T.keys answer).1.0 → HasOpOf whose m → (op : Operation) → T.manager.operation ≡ Some op → op.source ≡ whose
+      source_left own m same has op f =
+          by (reply_read T.manager T.table T.keys answer has.op (ap (λ (x : Machine). x.operation) (sym same) ∙ has.is))
+        where
+          old_is : (old : Operation) → T.manager.operation ≡ Some old → old.source ≡ has.op.source → op.source ≡ whose
+          old_is old was source = ap (λ (x : Operation). x.source) (same_some op old (sym f ∙ was)) ∙ (source ∙ has.of)
+
+          by : HasRead T.manager.operation answer has.op → op.source ≡ whose
+          by (kept old was source orb k) = old_is old was source
+          by (brought old was source orb phase bytes pays k) = old_is old was source
+
+      replied_by : (own : ℕ) → answered_at wire serial ≡ Some own → T.manages ≡ Some own → (o : Option Operation) → T.manager.operation ≡ o → ((op : Operation) → T.manager.operation ≡ Some op → op.source ≡ whose) → AsksSo (management.reply_step T.manager T.table T.keys (answer_in (packet_at wire serial))).0.ask
+      replied_by own closed e None f of = subst AsksSo (sym (no_operation T.manager T.table T.keys (answer_in (packet_at wire serial)) f)) nothing_so
+      replied_by own closed e (Some op) f of =
+          let g = good own closed (sym (ap (λ (o : Office). o.manages) office_is) ∙ e) op (sym operation_is ∙ f) (of op f) in
           reply_may May its aside T.manager T.table T.keys (answer_in (packet_at wire serial)) op f g.0 g.1
 
-      replied_so : (own : ℕ) → answered_at wire serial ≡ Some own → AsksSo (laws_replied own (answer_in (packet_at wire serial)) T).manager_asks
+      abbrev So : Office → Type 0
+      So o = HasOpOf whose o.manager → AsksSo o.asks
+
+      replied_so : (own : ℕ) → answered_at wire serial ≡ Some own → So (office_of (laws_replied own (answer_in (packet_at wire serial)) T))
       replied_so own closed = by (is_serial T.manages own) refl
         where
-          by : (b : Bool) → is_serial T.manages own ≡ b → AsksSo (laws_replied own answer T).manager_asks
-          by true e = subst AsksSo (sym (ap asks_of (own_reply own answer T e))) (replied_by own closed (is_its_serial T.manages own e) T.manager.operation refl)
-          by false e = subst AsksSo (sym (ap asks_of (other_reply own answer T e))) rest_so
+          by : (b : Bool) → is_serial T.manages own ≡ b → So (office_of (laws_replied own answer T))
+          by true e has =
+              let left = own_reply own answer T e in
+              subst AsksSo (sym (ap asks_of left)) (replied_by own closed (is_its_serial T.manages own e) T.manager.operation refl (source_left own (laws_replied own answer T).manager (ap (λ (o : Office). o.manager) left) has))
+          by false e has = subst AsksSo (sym (ap asks_of (other_reply own answer T e))) rest_so
 
       -- one is started
       same_ok : (a b : Ask) → started_with a ≡ started_with b → a ≡ b
@@ -320,16 +344,16 @@ module _ (May : ℕ → Type 0) where
       request_so (Some access) source =
           subst AsksSo (sym (ap asks_of (request_keeps access source T))) (served_so (start_serves (start_at access.offset) access) (start_at access.offset) source access (office_of T) rest_so)
 
-      got_own : (own : Option ℕ) → answered_at wire serial ≡ own → AsksSo (got_by own wire serial T).manager_asks
-      got_own (Some own) e = replied_so own e
-      got_own None e = request_so (access_at wire serial) (id_for wire 0 (unwrap_or (sender_in (wire.sent serial)) 0))
+      got_own : (own : Option ℕ) → answered_at wire serial ≡ own → So (office_of (got_by own wire serial T))
+      got_own (Some own) e has = replied_so own e has
+      got_own None e has = request_so (access_at wire serial) (id_for wire 0 (unwrap_or (sender_in (wire.sent serial)) 0))
 
-      by_receiver : (b : Bool) → AsksSo (cond b (got_by (answered_at wire serial) wire serial T) T).manager_asks
-      by_receiver true = got_own (answered_at wire serial) refl
-      by_receiver false = rest_so
+      by_receiver : (b : Bool) → So (office_of (cond b (got_by (answered_at wire serial) wire serial T) T))
+      by_receiver true has = got_own (answered_at wire serial) refl has
+      by_receiver false has = rest_so
 
-      got_asks : AsksSo (target_at start (said (notes.Got serial) ∷ past)).manager_asks
-      got_asks = subst (λ (w : Terms). AsksSo (target_by (notes.Got serial) past w t).manager_asks) (sym (wire_is start past)) (by_receiver (is_serial (receiver_in (wire.sent serial)) 0))
+      got_asks : So (office_of (target_at start (said (notes.Got serial) ∷ past)))
+      got_asks = subst (λ (w : Terms). So (office_of (target_by (notes.Got serial) past w t))) (sym (wire_is start past)) (by_receiver (is_serial (receiver_in (wire.sent serial)) 0))
 
       pub got_so : SerialsCount past → OfficeSo start past → OfficeSo start (said (notes.Got serial) ∷ past)
       got_so c o = record { asks_may = got_asks; waits_may = waits_on (said (notes.Got serial)) past c tt o (moves (said (notes.Got serial)) past c) }

@@ -1,5 +1,5 @@
--- At each place of a run in which no initiator injected packets the management of the target asks to write into no page table of an initiator, and waits for no such write.
-use Rattle.std.proofs.Common.{arith, ◌≡◌, ◌∙◌, refl, sym, ap, subst, ◌<◌, ◌+◌, ℕ, suc, List, [], ◌∷◌, ◌++◌, map, length, Option, Some, None, Ok, Bool, false}
+-- At each place of a run the management of the target, in an operation of an initiator that injected no packets, asks to write into no page table, and waits for no such write.
+use Rattle.std.proofs.Common.{arith, ◌≡◌, ◌∙◌, refl, sym, ap, subst, ◌<◌, ℕ, suc, List, [], ◌∷◌, ◌++◌, map, length, Option, Some, None, Ok, Bool, true, false}
 use Rattle.bus_memory.specs.declared.window.Window.TheVariants as windows
 use Rattle.bus_memory.specs.Windows.{IfShare, window_at}
 use Rattle.bus_memory.proofs.Found.{window_share}
@@ -13,31 +13,30 @@ use Rattle.orb_layout.specs.ManagementOrbs.{management_orb}
 use Rattle.orb_layout.specs.Replies.{Payload, payload_of}
 use Rattle.rbc_disk.specs.Disk.{Disk}
 use Rattle.sbp_journal.specs.Run.{Moment, asked, said}
-use Rattle.sbp_journal.specs.Transactions.{Sending, Transaction, between}
+use Rattle.sbp_journal.specs.Transactions.{Kind, Part, Sending, Transaction, asked_as, asked_by, begun_by, begun_if, between}
 use Rattle.sbp_journal.specs.Wire.{Terms, terms, opened}
 use Rattle.sbp_journal.specs.declared.note.Note.{Note}
 use Rattle.sbp_journal.specs.declared.note.Note.TheVariants as notes
-use Rattle.sbp_laws.specs.Packets.{answer_in, answered_at, id_for, packet_at, receiver_in, packet_in}
+use Rattle.sbp_laws.specs.Packets.{answer_in, answered_at, id_for, packet_at, receiver_in, sender_in, packet_in}
 use Rattle.sbp_laws.specs.Targets.{target_at}
 use Rattle.sbp_laws.specs.Turns.{EachMoment}
 use Rattle.sbp_world.specs.Worlds.{WorldState}
 use Rattle.sbp_world.specs.Wire.Wires.{Stands}
-use Rattle.sbp_world.specs.Agents.Holders.{IsOf}
 use Rattle.sbp_world.specs.Agents.Management.Terms.{Awaits, HasRequest}
 use Rattle.sbp_world.proofs.Agents.Management.Holding.{Holding, past_terms, same_id}
 use Rattle.sbp_world.proofs.Agents.Management.Still.{hist}
 use Rattle.sbp_world.specs.Lists.Contents.{AreContents, ContentAt}
 use Rattle.sbp_world.specs.Lists.OrbReads.{AnswersAt}
-use Rattle.sbp_world.specs.Lists.OwnLogins.{IsAside, IsGoodOrb, IsItsFifo, in_front, of_login, of_place, of_response, IsTame}
+use Rattle.sbp_world.specs.Lists.OwnLogins.{IsAside, IsGoodOrb, IsItsFifo, in_front, of_login, of_place, of_response}
 use Rattle.sbp_world.specs.Lists.ReadOrbs.{IsAnswered}
-use Rattle.sbp_world.proofs.Lists.BufferClears.{Ground, Tamely, few, place_window, ground_everywhere}
+use Rattle.sbp_world.proofs.Lists.BufferClears.{Ground, few_of, ground_everywhere, own_at, place_window}
 use Rattle.sbp_world.proofs.Lists.BegunBy.{IsHeld, held_by}
 use Rattle.sbp_world.proofs.Lists.FedOnce.{IsReply, reply_by}
 use Rattle.sbp_world.proofs.Lists.Heard.{awaited_to}
 use Rattle.sbp_world.proofs.Lists.KeptReplies.{payload_is}
 use Rattle.sbp_world.proofs.Lists.ManageTerms.{none_is, same_some}
-use Rattle.sbp_world.proofs.Lists.OfficeAsks.{GotGood, OfficeSo, asked_so, front_so, got_so, note_so}
-use Rattle.sbp_world.proofs.Lists.OwnFifos.{fifo_no_window, tame_before}
+use Rattle.sbp_world.proofs.Lists.OfficeAsks.{GotGood, HasOpOf, OfficeSo, asked_so, front_so, got_so, note_so}
+use Rattle.sbp_world.proofs.Lists.OwnFifos.{fifo_no_window}
 use Rattle.sbp_world.proofs.Lists.OwnOps.{IsOwnOp, answer_good, short_from}
 use Rattle.sbp_world.proofs.Lists.StoredMoments.{window_there}
 use Rattle.bus_transactions.specs.Wire.{transaction}
@@ -56,10 +55,14 @@ use Rattle.sbp_world.proofs.Agents.Management.Offices.{over_keeps}
 use Rattle.sbp_world.proofs.Hosts.SentMoments.{serials_from}
 use Rattle.sbp_world.proofs.Lists.ContentRuns.{contents_after, contents_between}
 use Rattle.sbp_world.proofs.Lists.Courses.{EveryPlace, Keeps, at_between, at_lines, more_than_one}
-use Rattle.sbp_world.proofs.Lists.Fair.{Told, fair_of, told_everywhere}
+use Rattle.sbp_world.proofs.Lists.Fair.{Told, told_everywhere}
 use Rattle.sbp_world.proofs.Lists.Gots.{Next, next, next_line, same_still}
-use Rattle.sbp_world.proofs.Lists.Judging.{goes_next, grown}
-use Rattle.sbp_world.proofs.Lists.LiveRuns.{goes_size}
+use Rattle.sbp_world.proofs.Lists.Judging.{Grown, goes_next, grown}
+use Rattle.sbp_world.proofs.Lists.LiveRuns.{base_of, goes_calm, goes_size, goes_turned}
+use Rattle.sbp_world.proofs.Lists.KeptTurns.{id_is}
+use Rattle.sbp_world.proofs.Lists.LiveSteps.{id_in}
+use Rattle.sbp_world.proofs.Lists.LiveTurns.{TurnOf, by_clearing, by_own, by_sight, by_target}
+use Rattle.sbp_world.specs.Lists.Needs.{IsCalm}
 use Rattle.sbp_world.proofs.Lists.ManageSends.{opened_terms}
 use Rattle.sbp_world.proofs.Lists.OwnGots.{answered_same}
 use Rattle.sbp_world.proofs.Lists.PlacedOps.{each_from}
@@ -82,8 +85,17 @@ aside_off at (in_front low) slot e = let share = (subst (IfShare at) e (window_s
 aside_off at (of_response place small is) slot e =
     let both : Some (windows.Response place) ≡ Some (windows.Table slot) = sym (window_there place small) ∙ (ap window_at (sym is) ∙ e) in cc
 
--- ---- the operation at a place
-module _ (units ready : ℕ) (more_units : 0 < units) (start : List Disk) {past : List Moment} {lines : ℕ} (w : WorldState) (h : Holding units ready start past lines w) (g : Ground start (hist past w) w) (c : Tamely (length w.initiators) (hist past w)) where
+-- the node that asks is the one that its request comes from
+from_if : (b : Bool) (packet : Sending) (label : ℕ) (u : Transaction) → begun_if b (Some (between packet packet.from packet.to label)) ≡ Some u → packet.from ≡ u.requester
+from_if true packet label u e = none_is u e
+from_if false packet label u e = let same : between packet packet.from packet.to label ≡ u = cc in ap (λ (x : Transaction). x.requester) same
+
+awaited_from : (x : Terms) (u : Transaction) (kind : Kind) (serial : ℕ) (a : IsAwaited x u kind serial) → a.packet.from ≡ u.requester
+unfolding begun_by asked_by
+awaited_from x u kind serial a = from_if a.packet.injected a.packet u.label u (sym (ap (λ (p : Part). begun_if a.packet.injected (asked_as p a.packet)) a.part) ∙ a.begun)
+
+-- ---- the operation of an initiator that injected no packets, at a place
+module _ (units ready : ℕ) (more_units : 0 < units) (start : List Disk) {past : List Moment} {lines : ℕ} (w : WorldState) (h : Holding units ready start past lines w) (g : Ground start (hist past w) w) (i : ℕ) (inside : i < length w.initiators) where
   abbrev before : List Moment
   before = hist past w
 
@@ -93,31 +105,23 @@ module _ (units ready : ℕ) (more_units : 0 < units) (start : List Disk) {past 
   abbrev stands : Stands past w
   stands = h.sound.stands
 
-  module _ (op : Operation) (is : (target_at start before).manager.operation ≡ Some op) where
+  module _ (op : Operation) (is : (target_at start before).manager.operation ≡ Some op) (of : op.source ≡ id_in w i) where
     there : w.target.manager.operation ≡ Some op
     there = ap (λ (m : Machine). m.operation) (sym h.at.agrees.manager) ∙ is
 
-    pub of : (initiator : ℕ) × IsOf t (length w.initiators) initiator op.source
-    of = g.known.held.operation op.source (ap source_in there)
-
-    abbrev i : ℕ
-    i = of.0
-
-    inside : i < length w.initiators
-    inside = of.1.small
-
     source : op.source ≡ id_for t 0 (suc i)
-    source = sym of.1.node_is ∙ ap (λ n. id_for t 0 n) (let z : i + 1 ≡ suc i = omega arith in z)
+    source = of ∙ sym (id_is units ready more_units start w h i inside)
 
-    pub own_op : IsOwnOp start before i op
-    own_op = g.ops i inside (c.0 i) c.1 (c.2 i inside) op is source
+    module _ (calm : IsCalm (hist past w) i) (shorts : AreShort (hist past w)) (based : EachMoment (BasedAt i) (hist past w)) where
+      pub own_op : IsOwnOp start before i op
+      own_op = own_at units ready more_units start w h g i inside calm shorts based op there of
 
-    -- it stands in a place
-    pub op_placed : IsInAPlace op
-    op_placed = record { place = own_op.place; small = own_op.small; orb = own_op.orb }
+      -- it stands in a place
+      pub op_placed : IsInAPlace op
+      op_placed = record { place = own_op.place; small = own_op.small; orb = own_op.orb }
 
-    -- what a reply brings to it
-    module _ (fair : (node : ℕ) → t.injects node ≡ false) (serial : ℕ) (answers : AnswersAt (said (notes.Got serial)) before) (own : ℕ) (closed : answered_at t serial ≡ Some own) (manages : (target_at start before).manages ≡ Some own) where
+    -- what answers its request comes of the initiator
+    module _ (serial : ℕ) (own : ℕ) (closed : answered_at t serial ≡ Some own) (manages : (target_at start before).manages ≡ Some own) where
       -- its request went to that initiator, and its answer comes from there
       request : HasRequest t w.target.layer op.source (target_at start before).manages
       request = subst (λ (s : Option ℕ). Awaits t w.target.layer s (target_at start before).manages) (ap source_in there) h.at.awaits
@@ -152,6 +156,14 @@ module _ (units ready : ℕ) (more_units : 0 < units) (start : List Disk) {past 
       abbrev v : Transaction
       v = transaction (t.generation 0) 0 request.peer request.number
 
+      awaited_there : IsAwaited (terms stands.wire.past) v request.kind request.serial
+      awaited_there = goes_on.awaited stands.wire v request.kind request.serial stands.reached (ap (λ (y : Terms). y.held v) (past_terms w stands) ∙ request.waits_for)
+
+      asked_from : asking.from ≡ 0
+      asked_from =
+          let sent : t.sent own ≡ Some awaited_there.packet = subst (λ r. t.sent r ≡ Some awaited_there.packet) request_is (ap (λ (y : Terms). y.sent request.serial) (sym (past_terms w stands)) ∙ awaited_there.sent) in
+          ap (λ (x : Sending). x.from) (same_some asking awaited_there.packet (sym asking_sent ∙ sent)) ∙ awaited_from (terms stands.wire.past) v request.kind request.serial awaited_there
+
       goes_there : receiver_in (t.sent own) ≡ Some request.peer
       goes_there =
           let same = past_terms w stands in
@@ -164,23 +176,31 @@ module _ (units ready : ℕ) (more_units : 0 < units) (start : List Disk) {past 
       comes_from : q.from ≡ suc i
       comes_from = same_some q.from request.peer (sym goes_to ∙ goes_there) ∙ peer_is
 
-      answered : (bytes : List ℕ) → answer_in (packet_at t serial) ≡ Payload bytes → IsAnswered before i serial own bytes
-      answered bytes pays = record {
-        own = λ packet sent.
-            let same : packet ≡ q = same_some packet q (sym sent ∙ reply.sent) in
-            g.known.wrote.none i inside (c.0 i) serial packet sent (ap (λ (x : Sending). x.from) same ∙ comes_from);
-        answers = answers own closed asking asking_sent (fair asking.from) (fair asking.to);
-        of_initiator = goes_to ∙ ap (λ n. Some n) comes_from;
-        tells = pays;
-      }
+      asked_to : asking.to ≡ suc i
+      asked_to = same_some asking.to q.from (sym (ap receiver_in asking_sent) ∙ goes_to) ∙ comes_from
 
-      brings : op.phase ≡ phases.Orb → (bytes : List ℕ) → payload_of (answer_in (packet_at t serial)) 32 ≡ Ok bytes → IsGoodOrb (management_orb bytes)
-      brings phase bytes pays =
-          answer_good units ready more_units start w h i inside (few units ready more_units start w h g c i inside) (c.0 i) (g.known.wrote.none i inside) g.known.counts g.known.are (g.known.places i inside) c.1 (g.known.logins i inside)
-          op is own_op own manages phase serial bytes (answered bytes (payload_is (answer_in (packet_at t serial)) 32 bytes pays))
+      pub comes_of : sender_in (t.sent serial) ≡ Some (suc i)
+      comes_of = ap sender_in reply.sent ∙ ap (λ n. Some n) comes_from
 
-  pub good_there : (fair : (node : ℕ) → t.injects node ≡ false) (serial : ℕ) → AnswersAt (said (notes.Got serial)) before → GotGood IsOffTables start before serial
-  good_there fair serial answers own closed manages op is = ((own_op op is).good, brings op is fair serial answers own closed manages)
+      module _ (calm : IsCalm (hist past w) i) (shorts : AreShort (hist past w)) (based : EachMoment (BasedAt i) (hist past w)) where
+        -- what it brings is good
+        answered : (fair : t.injects 0 ≡ false) → AnswersAt (said (notes.Got serial)) before → (bytes : List ℕ) → answer_in (packet_at t serial) ≡ Payload bytes → IsAnswered before i serial own bytes
+        answered fair answers bytes pays = record {
+          own = λ packet sent.
+              let same : packet ≡ q = same_some packet q (sym sent ∙ reply.sent) in
+              g.known.wrote.none i inside calm serial packet sent (ap (λ (x : Sending). x.from) same ∙ comes_from);
+          answers = answers own closed asking asking_sent (subst (λ n. t.injects n ≡ false) (sym asked_from) fair) (subst (λ n. t.injects n ≡ false) (sym asked_to) calm);
+          of_initiator = goes_to ∙ ap (λ n. Some n) comes_from;
+          tells = pays;
+        }
+
+        brings : t.injects 0 ≡ false → AnswersAt (said (notes.Got serial)) before → op.phase ≡ phases.Orb → (bytes : List ℕ) → payload_of (answer_in (packet_at t serial)) 32 ≡ Ok bytes → IsGoodOrb (management_orb bytes)
+        brings fair answers phase bytes pays =
+            answer_good units ready more_units start w h i inside (few_of units ready more_units start w h g i inside calm shorts based) calm (g.known.wrote.none i inside) g.known.counts g.known.are (g.known.places i inside) shorts (g.known.logins i inside)
+            op is (own_op calm shorts based) own manages phase serial bytes (answered fair answers bytes (payload_is (answer_in (packet_at t serial)) 32 bytes pays))
+
+  pub good_there : (calm : IsCalm (hist past w) i) (shorts : AreShort (hist past w)) (based : EachMoment (BasedAt i) (hist past w)) → t.injects 0 ≡ false → (serial : ℕ) → AnswersAt (said (notes.Got serial)) before → GotGood (id_in w i) IsOffTables start before serial
+  good_there calm shorts based fair serial answers own closed manages op is of = ((own_op op is of calm shorts based).good, brings op is of serial own closed manages calm shorts based fair answers)
 
 -- ---- as a line begins
 answers_open : (event : Event) (x : Terms) → (opened event x).answers ≡ x.answers
@@ -204,38 +224,38 @@ module _ (start : List Disk) (line : ℕ) (event : Event) (past : List Moment) (
       ap (λ (f : ℕ → Option ℕ). f serial) (sym (answers_open event x))
       ∙ a request (answered_same start line event past serial ∙ closed) asking (ap (λ (f : ℕ → Option Sending). f request) same ∙ sent) (ap (λ (f : ℕ → Bool). f asking.from) (injects_open event x) ∙ from) (ap (λ (f : ℕ → Bool). f asking.to) (injects_open event x) ∙ to)
 
-  good_here : GotGood IsOffTables start past serial → GotGood IsOffTables start here serial
-  good_here g own closed manages op is =
+  good_here : (whose : ℕ) → GotGood whose IsOffTables start past serial → GotGood whose IsOffTables start here serial
+  good_here whose g own closed manages op is of =
       let office = over_keeps (target_at start past) in
       let same : (terms here).sent ≡ (terms past).sent = (opened_terms event (terms past)).sent in
-      let x = g own (sym (answered_same start line event past serial) ∙ closed) (sym (ap (λ (o : Office). o.manages) office) ∙ manages) op (sym (ap (λ (o : Office). o.manager.operation) office) ∙ is) in (
+      let x = g own (sym (answered_same start line event past serial) ∙ closed) (sym (ap (λ (o : Office). o.manages) office) ∙ manages) op (sym (ap (λ (o : Office). o.manager.operation) office) ∙ is) of in (
         x.0,
         λ phase xs pays. x.1 phase xs (ap (λ (f : ℕ → Option Sending). payload_of (answer_in (packet_in (f serial))) 32) (sym same) ∙ pays),
       )
 
 -- ---- a turn
-module _ (start : List Disk) (before now : List Moment) (counts : SerialsCount now) (contents : EachMoment (ContentAt start) now) (answers : EachMoment AnswersAt now) (good : (serial : ℕ) → AnswersAt (said (notes.Got serial)) before → GotGood IsOffTables start before serial) (o : OfficeSo IsOffTables start before) where
+module _ (whose : ℕ) (start : List Disk) (before now : List Moment) (counts : SerialsCount now) (contents : EachMoment (ContentAt start) now) (answers : EachMoment AnswersAt now) (good : (serial : ℕ) → AnswersAt (said (notes.Got serial)) before → GotGood whose IsOffTables start before serial) (o : OfficeSo whose IsOffTables start before) where
   abbrev So : List Moment → Type 0
-  So past = OfficeSo IsOffTables start past
+  So past = OfficeSo whose IsOffTables start past
 
   -- by the first note of it
-  first_note : (front : List Note) (note : Note) (past : List Moment) → map said front ++ said note ∷ past ≡ now → ((serial : ℕ) → AnswersAt (said (notes.Got serial)) past → GotGood IsOffTables start past serial) → So past → So (said note ∷ past)
+  first_note : (front : List Note) (note : Note) (past : List Moment) → map said front ++ said note ∷ past ≡ now → ((serial : ℕ) → AnswersAt (said (notes.Got serial)) past → GotGood whose IsOffTables start past serial) → So past → So (said note ∷ past)
   first_note front note past is good o = by note is
     where
       by : (note : Note) → map said front ++ said note ∷ past ≡ now → So (said note ∷ past)
       by (notes.Got serial) is =
           let c = serials_from (map said front) (said (notes.Got serial) ∷ past) (subst SerialsCount (sym is) counts) in
           let a = each_at AnswersAt (map said front) (said (notes.Got serial)) past (subst (EachMoment AnswersAt) (sym is) answers) in
-          got_so IsOffTables start its_off aside_off past serial (good serial a) c o
+          got_so whose IsOffTables start its_off aside_off past serial (good serial a) c o
       by note is =
-          note_so IsOffTables start note past tt (serials_from (map said front) (said note ∷ past) (subst SerialsCount (sym is) counts))
+          note_so whose IsOffTables start note past tt (serials_from (map said front) (said note ∷ past) (subst SerialsCount (sym is) counts))
           (each_at (ContentAt start) (map said front) (said note) past (subst (EachMoment (ContentAt start)) (sym is) contents)) o
 
   behind : (front : List Note) (past : List Moment) → AllQuiet front → map said front ++ past ≡ now → So past → So now
-  behind front past q is o = subst So is (front_so IsOffTables start front past q (subst SerialsCount (sym is) counts) (subst (EachMoment (ContentAt start)) (sym is) contents) o)
+  behind front past q is o = subst So is (front_so whose IsOffTables start front past q (subst SerialsCount (sym is) counts) (subst (EachMoment (ContentAt start)) (sym is) contents) o)
 
   begins : (line : ℕ) (event : Event) (later : List Moment) → later ++ asked line event ∷ before ≡ now → So (asked line event ∷ before)
-  begins line event later is = asked_so IsOffTables start line event before (serials_from later (asked line event ∷ before) (subst SerialsCount (sym is) counts)) o
+  begins line event later is = asked_so whose IsOffTables start line event before (serials_from later (asked line event ∷ before) (subst SerialsCount (sym is) counts)) o
 
   pub office_turn : Next before now → So now
   office_turn (same_still e) = subst So (sym e) o
@@ -244,7 +264,7 @@ module _ (start : List Disk) (before now : List Moment) (counts : SerialsCount n
   office_turn (next_line front q note line event is) =
       let past = asked line event ∷ before in
       let first = begins line event (map said front ++ said note ∷ []) (split front note past ∙ is) in
-      behind front (said note ∷ past) q is (first_note front note past is (λ serial a. good_here start line event before serial (good serial (answers_before start line event before serial a))) first)
+      behind front (said note ∷ past) q is (first_note front note past is (λ serial a. good_here start line event before serial whose (good serial (answers_before start line event before serial a))) first)
     where
       split : (front : List Note) (note : Note) (past : List Moment) → (map said front ++ said note ∷ []) ++ past ≡ map said front ++ said note ∷ past
       split [] note past = refl
@@ -267,25 +287,43 @@ kit_everywhere = record {
 }
 
 abbrev pub OfficeSoAt : List Disk → List Moment → WorldState → Type 0
-OfficeSoAt start past w = Tamely (length w.initiators) past → OfficeSo IsOffTables start past
+OfficeSoAt start past w = (i : ℕ) → i < length w.initiators → IsCalm past i → AreShort past → EachMoment (BasedAt i) past → OfficeSo (id_in w i) IsOffTables start past
 
 all_office : (units ready : ℕ) → 0 < units → (start : List Disk) → Keeps units ready start (Kit start) (OfficeSoAt start)
-all_office units ready has start past s later t lines more g h h_now q q_now o c =
-    let before = hist past s.world in
-    let now = hist later t.world in
-    let size = goes_size past s later t g in
-    let x = grown before now (goes_next past s later t g) in
-    let tame_old : IsTame before = tame_before x.new before (subst IsTame (sym x.is) c.0) in
-    let shorts_old : AreShort before = short_from x.new before (subst AreShort (sym x.is) c.1) in
-    let based_old : (i : ℕ) → i < length s.world.initiators → EachMoment (BasedAt i) before = (λ i l. each_from (BasedAt i) x.new before (subst (EachMoment (BasedAt i)) (sym x.is) (c.2 i (subst (λ n. i < n) (sym size) l)))) in
-    let old : Tamely (length s.world.initiators) before = (tame_old, shorts_old, based_old) in
-    let fair = (fair_of before q.told tame_old).fair in
-    office_turn start before now q_now.ground.known.counts q_now.contents (fair_of now q_now.told c.0).answers (λ serial a. good_there units ready has start s.world h q.ground old fair serial a) (o old) (goes_next past s later t g)
+all_office units ready has start past s later t lines more g h h_now q q_now o i within calm shorts based =
+    let inside : i < length s.world.initiators = subst (λ n. i < n) (goes_size past s later t g) within in
+    by_turn inside (goes_turned units ready has start past s later t g h i inside)
+  where
+    before : List Moment
+    before = hist past s.world
+
+    now : List Moment
+    now = hist later t.world
+
+    x : Grown before now
+    x = grown before now (goes_next past s later t g)
+
+    same_id_then : i < length s.world.initiators → id_in t.world i ≡ id_in s.world i → OfficeSo (id_in t.world i) IsOffTables start now
+    same_id_then inside id =
+        let calm_old = goes_calm past s later t g i calm in
+        let shorts_old : AreShort before = short_from x.new before (subst AreShort (sym x.is) shorts) in
+        let based_old : EachMoment (BasedAt i) before = each_from (BasedAt i) x.new before (subst (EachMoment (BasedAt i)) (sym x.is) based) in
+        subst (λ n. OfficeSo n IsOffTables start now) (sym id)
+        (office_turn (id_in s.world i) start before now q_now.ground.known.counts q_now.contents q_now.told.answers (λ serial a. good_there units ready has start s.world h q.ground i inside calm_old shorts_old based_old q.told.fair serial a) (o i inside calm_old shorts_old based_old) (goes_next past s later t g))
+
+    none_now : ((op : Operation) → t.world.target.manager.operation ≡ Some op → ⊥) → HasOpOf (id_in t.world i) (target_at start now).manager → ⊥
+    none_now none own = none own.op (ap (λ (m : Machine). m.operation) (sym h_now.at.agrees.manager) ∙ own.is)
+
+    by_turn : i < length s.world.initiators → TurnOf i s.world (base_of g) t.world → OfficeSo (id_in t.world i) IsOffTables start now
+    by_turn inside (by_target bus same call) = same_id_then inside bus.id
+    by_turn inside (by_clearing c same told) = record { asks_may = λ own. absurd (none_now c.none own); waits_may = λ own. absurd (none_now c.none own) }
+    by_turn inside (by_own bus same call away) = same_id_then inside bus.id
+    by_turn inside (by_sight c same away) = same_id_then inside c.id
 
 first_office : (start : List Disk) (line : ℕ) (run : Run) → OfficeSoAt start (moments_behind line run []) (beginning run).world
-first_office start line run c = record {
-  asks_may = λ at len e. absurd (let no : Nothing ≡ asks.Write at len = e in cc);
-  waits_may = λ r e. none_is r e;
+first_office start line run i inside calm shorts based = record {
+  asks_may = λ own at len e. absurd (let no : Nothing ≡ asks.Write at len = e in cc);
+  waits_may = λ own r e. none_is r e;
 }
 
 pub office_everywhere : EveryPlace OfficeSoAt

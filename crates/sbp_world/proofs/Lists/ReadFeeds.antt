@@ -30,7 +30,7 @@ use Rattle.sbp_world.specs.Lists.ManagedGots.{ManagedAsGot, ManagedAsGotLaw}
 use Rattle.sbp_world.specs.Lists.NobodyGots.{AllNobodyElsewhere}
 use Rattle.sbp_world.specs.Lists.OwnSince.{AllAwaited, AllElsewhereBut}
 use Rattle.sbp_world.proofs.Lists.NobodyGots.{but_nobody}
-use Rattle.sbp_world.specs.Lists.ReadFeeds.{AreNone, ReadAndFedAt, ReadAndFedLaw, RunWasReadAndFed}
+use Rattle.sbp_world.specs.Lists.ReadFeeds.{ReadAndFedAt, ReadAndFedLaw, RunWasReadAndFed}
 use Rattle.sbp_world.proofs.Lists.Fair.{Told, told_before, told_everywhere}
 use Rattle.sbp_world.proofs.Lists.Calm.{calm_before}
 use Rattle.sbp_laws.specs.CarriedBytes.{address_of}
@@ -51,13 +51,13 @@ use Rattle.sbp_world.proofs.Lists.RunLaws.{order_run_law}
 use Rattle.sbp_world.proofs.Lists.SentGots.{sent_as_got}
 
 module _ (wild : ℕ → Bool) (start : List Disk) where
-  -- what was got as an ORB was read ahead; and what answers the management operation, where no initiator injected packets
+  -- what was got as an ORB was read ahead; and what answers the management operation
   record Elsewhere (past : List Moment) : Type 0 where
     spared : EachMoment (AheadAsGot wild start) past
-    managed : AreNone wild → EachMoment (ManagedAsGot start) past
+    managed : EachMoment (ManagedAsGot wild start) past
 
   elsewhere_before : (m : Moment) (past : List Moment) → Elsewhere (m ∷ past) → Elsewhere past
-  elsewhere_before m past e = record { spared = e.spared.1; managed = λ quiet. (e.managed quiet).1 }
+  elsewhere_before m past e = record { spared = e.spared.1; managed = e.managed.1 }
 
   module _ (past : List Moment) (so : OpensBeside past) (calm : (i : ℕ) → wild i ≡ false → IsCalm past i) (f : Told past) (j : AreJudged past) (sent : EachMoment (SentAsGot start) past) (opens : OpenAsGot start past) (law : OrderLaw wild past) (gots : EachMoment (OwnAsGot wild start) past) (elsewhere : Elsewhere past) where
     -- the buffer and the data by what was read since a response
@@ -82,9 +82,9 @@ module _ (wild : ℕ → Bool) (start : List Disk) where
         subst (λ (x : RunIsFed start past i n k bytes). AllAwaited start i x.place x.later (x.between ++ said (notes.Got x.brought.response) ∷ x.brought.earlier)) (sym same_fed) e.awaited in
         let own_but : AllElsewhereBut start i slot later before → AreOwnOrOthers start i place slot later before =
         λ b. own_since_law wild start i place slot own small later before (subst (EachMoment (OwnAsGot wild start)) (sym since.fed.is) gots) (each_awaited start i place slot later before awaited b) in
-        let managed_since : AreNone wild → EachMoment (ManagedAsGot start) (later ++ before) = λ quiet. subst (EachMoment (ManagedAsGot start)) (sym since.fed.is) (elsewhere.managed quiet) in
-        let own_nobody : AreNone wild → AllNobodyElsewhere start i slot later before → AreOwnOrOthers start i place slot later before =
-        λ quiet b. own_but (but_nobody start i slot later before (managed_since quiet) b) in
+        let managed_since : EachMoment (ManagedAsGot wild start) (later ++ before) = subst (EachMoment (ManagedAsGot wild start)) (sym since.fed.is) elsewhere.managed in
+        let own_nobody : AllNobodyElsewhere start i slot later before → AreOwnOrOthers start i place slot later before =
+        λ b. own_but (but_nobody wild start i slot own later before managed_since b) in
         let carried_own : AreOthers i slot since.fed.between (said (notes.Got since.fed.brought.response) ∷ since.fed.brought.earlier) → AreOwnOrOthers start i place slot later before → RunIsCarried start past i n k bytes =
         λ o p.
         let x = subst (Since i n k bytes) same (since.whole o p) in
@@ -94,8 +94,8 @@ module _ (wild : ℕ → Bool) (start : List Disk) where
         subst (λ (x : RunIsFed start past i n k bytes). AllAhead start i x.place (address_of past i n k) x.between (said (notes.Got x.brought.response) ∷ x.brought.earlier)) (sym same_fed) e.ahead in
         let others_but : AllElsewhereBut start i slot since.fed.between behind → AreOthers i slot since.fed.between behind =
         λ b. others_ahead start i place slot wild own small since.fed.between behind (each_from (AheadAsGot wild start) later before (subst (EachMoment (AheadAsGot wild start)) (sym since.fed.is) elsewhere.spared)) ahead b in
-        let others : AreNone wild → AllNobodyElsewhere start i slot since.fed.between behind → AreOthers i slot since.fed.between behind =
-        λ quiet b. others_but (but_nobody start i slot since.fed.between behind (each_from (ManagedAsGot start) later before (managed_since quiet)) b) in
+        let others : AllNobodyElsewhere start i slot since.fed.between behind → AreOthers i slot since.fed.between behind =
+        λ b. others_but (but_nobody wild start i slot own since.fed.between behind (each_from (ManagedAsGot wild start) later before managed_since) b) in
         record {
           read = read;
           since = since;
@@ -107,7 +107,7 @@ module _ (wild : ℕ → Bool) (start : List Disk) where
           carried_but = λ o b. carried_own (others_but o) (own_but b);
           own = own_nobody;
           others = others;
-          carried = λ quiet o b. carried_own (others quiet o) (own_nobody quiet b);
+          carried = λ o b. carried_own (others o) (own_nobody b);
           carried_own = carried_own;
         }
 
@@ -142,7 +142,7 @@ read_and_fed_law lists up spared managed = record {
       all_both (injectors past) run.start.disks past (closing, lists, beside) (λ i own. own) (told_everywhere.after_lines line run r has small size so_far) (judged_everywhere.after_lines line run r has small size so_far)
       ((sent_as_got lists).after_lines line run r has small size so_far beside) ((open_as_got lists up).after_lines line run r has small size so_far beside) (order_run_law.after_lines line run r has small size so_far)
       ((own_as_got lists).after_lines line run r has small size so_far beside)
-      (record { spared = spared.after_lines line run r has small size beside; managed = λ quiet. managed.after_lines line run r has small size quiet }) (runs_named.after_lines line run r has small size so_far);
+      (record { spared = spared.after_lines line run r has small size beside; managed = managed.after_lines line run r has small size beside }) (runs_named.after_lines line run r has small size so_far);
   between = λ line run r has small size next most told m beside.
       let now = map said (after_all told (begun (after (beginning run) run.entries))).world.fresh ++ asked next (more_deliveries most) ∷ history_of line run in
       let so_far = closing.between lists line run r has small size next (more_deliveries most) (more_than_one most) told m beside in
@@ -150,5 +150,5 @@ read_and_fed_law lists up spared managed = record {
       (judged_everywhere.between line run r has small size next most told m so_far) ((sent_as_got lists).between line run r has small size next most told m so_far beside)
       ((open_as_got lists up).between line run r has small size next most told m so_far beside) (order_run_law.between line run r has small size next (more_deliveries most) (more_than_one most) told m so_far)
       ((own_as_got lists).between line run r has small size next most told m so_far beside)
-      (record { spared = spared.between line run r has small size next most told m beside; managed = λ quiet. managed.between line run r has small size next most told m quiet }) (runs_named.between line run r has small size next most told m so_far);
+      (record { spared = spared.between line run r has small size next most told m beside; managed = managed.between line run r has small size next most told m beside }) (runs_named.between line run r has small size next most told m so_far);
 }

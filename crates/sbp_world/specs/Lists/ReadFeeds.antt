@@ -21,10 +21,6 @@ use Rattle.sbp_world.specs.Lists.FewLogins.{IsTameOrFew}
 use Rattle.sbp_world.specs.Lists.NobodyGots.{AllNobodyElsewhere}
 use Rattle.sbp_world.specs.Lists.OwnSince.{AllAwaited, AllElsewhereBut}
 
--- no initiator is among these
-abbrev pub AreNone : (ℕ → Bool) → Type 0
-AreNone wild = (i : ℕ) → wild i ≡ false
-
 -- beside these initiators that injected packets
 pub record RunWasReadAndFed (wild : ℕ → Bool) (start : List Disk) (past : List Moment) (i n k : ℕ) (bytes : List ℕ) : Type 0 where
   pub read : RunWasRead start past i n k
@@ -39,12 +35,12 @@ pub record RunWasReadAndFed (wild : ℕ → Bool) (start : List Disk) (past : Li
   pub others_but : (let behind = said (notes.Got since.fed.brought.response) ∷ since.fed.brought.earlier in AllElsewhereBut start i (slot_at past i n k) since.fed.between behind → AreOthers i (slot_at past i n k) since.fed.between behind)
   -- and the carried law holds of it, where what answers no agent does so
   pub carried_but : (let behind = said (notes.Got since.fed.brought.response) ∷ since.fed.brought.earlier in AllElsewhereBut start i (slot_at past i n k) since.fed.between behind → AllElsewhereBut start i (slot_at past i n k) since.fed.later (since.fed.between ++ behind) → RunIsCarried start past i n k bytes)
-  -- where no initiator injected packets, the same is so where what answers nobody begins elsewhere: of what was got since the agent turned to the ORB
-  pub own : AreNone wild → (let behind = said (notes.Got since.fed.brought.response) ∷ since.fed.brought.earlier in AllNobodyElsewhere start i (slot_at past i n k) since.fed.later (since.fed.between ++ behind) → AreOwnOrOthers start i since.fed.place (slot_at past i n k) since.fed.later (since.fed.between ++ behind))
+  -- the same is so where what answers nobody begins elsewhere: of what was got since the agent turned to the ORB
+  pub own : (let behind = said (notes.Got since.fed.brought.response) ∷ since.fed.brought.earlier in AllNobodyElsewhere start i (slot_at past i n k) since.fed.later (since.fed.between ++ behind) → AreOwnOrOthers start i since.fed.place (slot_at past i n k) since.fed.later (since.fed.between ++ behind))
   -- of what was got before
-  pub others : AreNone wild → (let behind = said (notes.Got since.fed.brought.response) ∷ since.fed.brought.earlier in AllNobodyElsewhere start i (slot_at past i n k) since.fed.between behind → AreOthers i (slot_at past i n k) since.fed.between behind)
+  pub others : (let behind = said (notes.Got since.fed.brought.response) ∷ since.fed.brought.earlier in AllNobodyElsewhere start i (slot_at past i n k) since.fed.between behind → AreOthers i (slot_at past i n k) since.fed.between behind)
   -- so the carried law holds of it
-  pub carried : AreNone wild → (let behind = said (notes.Got since.fed.brought.response) ∷ since.fed.brought.earlier in AllNobodyElsewhere start i (slot_at past i n k) since.fed.between behind → AllNobodyElsewhere start i (slot_at past i n k) since.fed.later (since.fed.between ++ behind) → RunIsCarried start past i n k bytes)
+  pub carried : (let behind = said (notes.Got since.fed.brought.response) ∷ since.fed.brought.earlier in AllNobodyElsewhere start i (slot_at past i n k) since.fed.between behind → AllNobodyElsewhere start i (slot_at past i n k) since.fed.later (since.fed.between ++ behind) → RunIsCarried start past i n k bytes)
   -- it holds wherever what was got since is the agent's or begins elsewhere
   pub carried_own : (let behind = said (notes.Got since.fed.brought.response) ∷ since.fed.brought.earlier in AreOthers i (slot_at past i n k) since.fed.between behind → AreOwnOrOthers start i since.fed.place (slot_at past i n k) since.fed.later (since.fed.between ++ behind) → RunIsCarried start past i n k bytes)
 
