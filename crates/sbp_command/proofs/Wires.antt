@@ -105,7 +105,7 @@ pub run_answers : (line : ℕ) (run : Run) (start : Held) → run.start ≡ star
 run_answers line run start same units some most few count all lines =
     let is : IsRun run = record { few = few; short = omega arith; entries = all; lines = lines } in
     let size : length run.start.disks ≡ run.units = ap (λ (h : Held). length h.disks) same ∙ sym units in
-    subst (λ s. AnswersHold (injectors (history_of line run)) s (history_of line run)) (ap (λ (h : Held). h.disks) same) 
+    subst (λ s. AnswersHold (injectors (history_of line run)) s (history_of line run)) (ap (λ (h : Held). h.disks) same)
     (answers_hold line run is some most size (inr (few_logins_law.few line run is some most size (omega arith))))
 
 pub run_lengths : (line : ℕ) (run : Run) (start : Held) → run.start ≡ start → run.units ≡ length start.disks → 0 < run.units → run.units ≤ 4 → run.initiators ≤ 4 → length run.entries ≤ 65535 → AreEntries (beginning run) run.entries → AreLines run run.entries
