@@ -12,6 +12,7 @@ pub mod CarriedOrbs
 pub mod Closes
 pub mod Contents
 pub mod CutLists
+pub mod CutOff
 pub mod CutSlots
 pub mod EndedLists
 pub mod Execution
