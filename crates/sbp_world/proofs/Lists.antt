@@ -528,3 +528,4 @@ pub mod TurnSends
 pub mod OpenSends
 pub mod AsGot
 pub mod OpenGots
+pub mod TurnCalls
