@@ -529,3 +529,4 @@ pub mod OpenSends
 pub mod AsGot
 pub mod OpenGots
 pub mod TurnCalls
+pub mod ResetStays

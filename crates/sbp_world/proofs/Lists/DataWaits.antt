@@ -1,16 +1,16 @@
--- A request whose transaction was closed is not under way again (IEEE 1394-1995, split transactions): the transaction that waits for a request is the one that it began, which its response left free.
-use Rattle.std.proofs.Common.{arith, ◌≡◌, ◌∙◌, refl, sym, ap, inl, inr, ◌⊎◌, ◌≤◌, ℕ, true, List, [], ◌∷◌, ◌++◌, Some}
+-- A request whose transaction was closed is not under way again (IEEE 1394-1995, split transactions): the transaction that waits for a request is the one that it began, which its response left free, and its time-out at rest.
+use Rattle.std.proofs.Common.{arith, ◌≡◌, ◌∙◌, refl, sym, ap, inl, inr, ◌⊎◌, ◌≤◌, ℕ, true, cond, List, [], ◌∷◌, ◌++◌, Option, Some}
 use Rattle.bus_transactions.specs.Packets.{SerialsCount}
 use Rattle.sbp_journal.specs.Run.{Moment, said}
-use Rattle.sbp_journal.specs.Transactions.{Sending, Transaction, between}
-use Rattle.sbp_journal.specs.Wire.{Terms, free, terms, waits}
+use Rattle.sbp_journal.specs.Transactions.{Sending, Transaction, begun_by, between}
+use Rattle.sbp_journal.specs.Wire.{Terms, begun_in, free, rests, terms, times_out, waits}
 use Rattle.sbp_journal.specs.declared.note.Note.TheVariants as notes
 use Rattle.sbp_laws.specs.Packets.{answered_at, is_under_way}
 use Rattle.sbp_world.proofs.Hosts.PointerRuns.{Awaits, awaits_of}
 use Rattle.sbp_world.proofs.Hosts.Remaining.{remains}
 use Rattle.sbp_world.proofs.Hosts.SentMoments.{sent_below, serials_from}
 use Rattle.sbp_world.proofs.Lists.BegunBy.{IsBegun, IsHeld, begun_of, held_by, transaction_of}
-use Rattle.sbp_world.proofs.Lists.FedHeld.{IsNewer, got_frees, waits_since}
+use Rattle.sbp_world.proofs.Lists.FedHeld.{IsNewer, got_frees, same_self, waits_since}
 use Rattle.sbp_world.proofs.Lists.FedOnce.{IsReply, reply_by}
 use Rattle.sbp_world.proofs.Lists.ManageTerms.{same_some}
 
@@ -74,3 +74,37 @@ module _ (later earlier : List Moment) (got own : ℕ) (c : SerialsCount (later 
 
   pub never_again : ⊥
   never_again = by_since (waits_since later E c u now.kind own (ap (λ x. (terms ms).held x) same ∙ now.held))
+
+-- ---- a transaction that timed out
+module _ (later earlier : List Moment) (own : ℕ) (packet : Sending) (c : SerialsCount (later ++ said (notes.TimedOut own) ∷ earlier)) (sent_then : (terms earlier).sent own ≡ Some packet) (under : is_under_way (terms (later ++ said (notes.TimedOut own) ∷ earlier)) own ≡ true) where
+  abbrev L : List Moment
+  L = said (notes.TimedOut own) ∷ earlier
+
+  then_late : SerialsCount L
+  then_late = serials_from later L c
+
+  own_below : own ≤ (terms L).count
+  own_below =
+      let a = sent_below earlier own packet (serials_from (said (notes.TimedOut own) ∷ []) earlier then_late) sent_then in
+      let b = (remains (said (notes.TimedOut own) ∷ []) earlier then_late).count in
+      omega (arith, a, b)
+
+  sent_at_last : (terms (later ++ L)).sent own ≡ Some packet
+  sent_at_last =
+      (remains later L c).sent own own_below
+      ∙ ((remains (said (notes.TimedOut own) ∷ []) earlier then_late).sent own (sent_below earlier own packet (serials_from (said (notes.TimedOut own) ∷ []) earlier then_late) sent_then) ∙ sent_then)
+
+  still : Awaits (terms (later ++ L)) packet own
+  still = awaits_of (terms (later ++ L)) packet own sent_at_last under
+
+  rested : (terms L).held still.u ≡ rests
+  rested =
+      ap (λ (u : Option Transaction). (times_out u (terms earlier)).held still.u) (ap begun_in sent_then ∙ still.begun)
+      ∙ ap (λ b. cond b rests ((terms earlier).held still.u)) (same_self still.u)
+
+  not_since : ((terms L).held still.u ≡ waits still.kind own) ⊎ IsNewer L (later ++ L) own → ⊥
+  not_since (inl e) = let x : rests ≡ waits still.kind own = sym rested ∙ e in cc
+  not_since (inr n) = let a = n.above in let b = own_below in omega (arith, a, b)
+
+  pub never_late : ⊥
+  never_late = not_since (waits_since later L c still.u still.kind own still.held)

@@ -18,7 +18,7 @@ use Rattle.sbp_laws.specs.Packets.{closed_by}
 use Rattle.sbp_world.proofs.Hosts.Remaining.{remains}
 use Rattle.sbp_world.proofs.Hosts.SentMoments.{sent_below, serials_from}
 
-same_self : (u : Transaction) → is_same u u ≡ true
+pub same_self : (u : Transaction) → is_same u u ≡ true
 unfolding is_same
 same_self u =
     let a : (u.generation == u.generation) ≡ true = grind (arith, nat_tests) in

@@ -193,14 +193,14 @@ module _ (start : List Disk) where
       by false h = absurd (unanswered t.reply place (over_none (target_at start past)) h.0)
 
   late_next : (own : ℕ) (past : List Moment) → Next (said (notes.TimedOut own)) past
-  late_next own past place serial = by (is_serial (sender_in ((known_at start past).wire.sent own)) 0)
+  late_next own past place serial = by (is_serial (sender_in ((known_at start past).wire.sent own)) 0) refl
     where
       t : Target
       t = over (target_at start past)
 
-      by : (b : Bool) → Has (cond b (replied own Expired t) t) place serial → Has (target_at start past) place serial ⊎ (own ≡ serial)
-      by true h = inr (answers own Expired t (over_none (target_at start past)) place serial h)
-      by false h = absurd (unanswered t.reply place (over_none (target_at start past)) h.0)
+      by : (b : Bool) → is_serial (sender_in ((known_at start past).wire.sent own)) 0 ≡ b → Has (cond b (replied own Expired t) t) place serial → Has (target_at start past) place serial ⊎ ((own ≡ serial) × (is_serial (sender_in ((known_at start past).wire.sent own)) 0 ≡ true))
+      by true e h = inr (answers own Expired t (over_none (target_at start past)) place serial h, e)
+      by false e h = absurd (unanswered t.reply place (over_none (target_at start past)) h.0)
 
   note_next : (note : Note) (past : List Moment) → Next (said note) past
   note_next (notes.Begin initiators ready) past = λ place serial h. inl h

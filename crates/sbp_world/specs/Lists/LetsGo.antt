@@ -9,8 +9,8 @@ use Rattle.sbp_journal.specs.Run.{Moment, said}
 use Rattle.sbp_journal.specs.Transactions.{Kind, part_of, request}
 use Rattle.sbp_journal.specs.Wire.{terms}
 use Rattle.sbp_journal.specs.declared.note.Note.TheVariants as notes
-use Rattle.sbp_laws.specs.Packets.{answered_at, is_under_way}
-use Rattle.sbp_laws.specs.Targets.{Agent, Reply, Target, agent_at, for_nobody, is_nothing, known_at, over, purpose_of, target_at}
+use Rattle.sbp_laws.specs.Packets.{answered_at, is_under_way, sender_in}
+use Rattle.sbp_laws.specs.Targets.{Agent, Reply, Target, agent_at, for_nobody, is_nothing, is_serial, known_at, over, purpose_of, target_at}
 
 -- An agent has one main transaction at most: none where it waits for none by its phase, and none while it asks for one.
 pub record HasOneMain (a : Agent) : Type 0 where
@@ -59,7 +59,7 @@ SentForLaw =
 -- A moment closes a transaction of the target: the answer to its request is got, or it times out.
 abbrev pub IsClosing : List Disk → Moment → List Moment → (serial : ℕ) → Type 0
 IsClosing start (said (notes.Got response)) past serial = answered_at (known_at start past).wire response ≡ Some serial
-IsClosing start (said (notes.TimedOut own)) past serial = own ≡ serial
+IsClosing start (said (notes.TimedOut own)) past serial = (own ≡ serial) × (is_serial (sender_in ((known_at start past).wire.sent own)) 0 ≡ true)
 IsClosing start moment past serial = ⊥
 
 -- One did.
@@ -79,13 +79,7 @@ pub record WasReset (start : List Disk) (place serial : ℕ) (later before : Lis
   pub waited : (agent_at (target_at start (until ++ before)) place).main ≡ Some serial
   pub cut : IsCut (agent_at (target_at start (moment ∷ until ++ before)) place)
 
--- a request timed out
-pub record WasLate (past : List Moment) (serial : ℕ) : Type 0 where
-  pub since : List Moment
-  pub earlier : List Moment
-  pub is : since ++ said (notes.TimedOut serial) ∷ earlier ≡ past
-
--- In every history a request that was the main transaction of the agent of a place, is nobody's as the turn ends, and is under way still: its agent was put into RESET since, or it timed out.
+-- In every history a request that was the main transaction of the agent of a place, is nobody's as the turn ends, and is under way still: its agent was put into RESET since.
 abbrev pub NobodyWaitsLaw : Type 0
 NobodyWaitsLaw =
-    (start : List Disk) (later before : List Moment) (place serial : ℕ) → SerialsCount (later ++ before) → (agent_at (target_at start before) place).main ≡ Some serial → purpose_of (over (target_at start (later ++ before))) serial ≡ for_nobody → is_under_way (terms (later ++ before)) serial ≡ true → WasReset start place serial later before ⊎ WasLate (later ++ before) serial
+    (start : List Disk) (later before : List Moment) (place serial : ℕ) → SerialsCount (later ++ before) → (agent_at (target_at start before) place).main ≡ Some serial → purpose_of (over (target_at start (later ++ before))) serial ≡ for_nobody → is_under_way (terms (later ++ before)) serial ≡ true → WasReset start place serial later before
