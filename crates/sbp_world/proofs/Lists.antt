@@ -530,3 +530,4 @@ pub mod AsGot
 pub mod OpenGots
 pub mod TurnCalls
 pub mod ResetStays
+pub mod CutOffs

@@ -1,6 +1,6 @@
 -- The slot of an ORB whose list was cut before the ORB had ended: no ORB of that list ends from then on, so no status of it is taken, and its slot is used by it or rests while
 -- its initiator stays in the generation. So no ORB of another list was prepared in that slot.
-use Rattle.std.proofs.Common.{arith, ◌≡◌, ◌∙◌, refl, sym, ap, subst, inl, inr, ◌⊎◌, ◌≤◌, ℕ, suc, nat_eq, Bool, true, false, cond, List, [], ◌∷◌, ◌++◌, Option, Some, None}
+use Rattle.std.proofs.Common.{arith, ◌≡◌, ◌∙◌, refl, sym, ap, subst, inl, inr, ◌⊎◌, ◌<◌, ◌≤◌, ℕ, suc, nat_eq, Bool, true, false, cond, List, [], ◌∷◌, ◌++◌, Option, Some, None}
 use Rattle.std.proofs.lemmas.Bool.Decides.{nat_tests}
 use Rattle.sbp_journal.specs.declared.note.Note.TheVariants as notes
 use Rattle.sbp_journal.specs.declared.note.NoteBuffer.{NoteBuffer}
@@ -134,10 +134,7 @@ module _ (wild : ℕ → Bool) (i : ℕ) (own : wild i ≡ false) (mid before : 
         let c : (terms (leads ∷ (back ++ before))).generation 0 ≤ (terms (mid ++ before)).generation 0 = subst (λ ms. (terms (leads ∷ (back ++ before))).generation 0 ≤ (terms ms).generation 0) whole (generation_grows front (leads ∷ (back ++ before)) 0 rises_there) in
         omega (arith, a, b, c, current)
 
-  module _ (n k slot : ℕ) (cut : is_cut before i n ≡ true) (unended : ends before i n ≤ k) (untaken : (list number : ℕ) → ends (mid ++ before) i list ≤ number → taken_at (mid ++ before) i list number ≡ None) (held : HasSlot before i slot (orb n k)) where
-    untaken_now : taken_at (mid ++ before) i n k ≡ None
-    untaken_now = let as_then = cut_ends wild i n own mid before passes cut in untaken n k (omega (arith, as_then, unended))
-
+  module _ (n k slot : ℕ) (untaken : taken_at (mid ++ before) i n k ≡ None) (held : HasSlot before i slot (orb n k)) where
     -- so no ORB of another list has its slot
     module _ (other l at : ℕ) (apart : other ≡ n → ⊥) where
       put_before : prepared_in before i at ≡ Some (orb other l) → at ≡ slot → ⊥
@@ -152,7 +149,7 @@ module _ (wild : ℕ → Bool) (i : ℕ) (own : wild i ≡ false) (mid before : 
           (passes_from wild p.front (later ++ before) (subst (PassLaw wild) (sym joined) passes))
           (rises_then other l p.cdb p.buffer p.front p.back p.is)
           (append_generation other l p.cdb p.buffer p.front p.back p.is) n k slot
-          (untaken_before p.front (later ++ before) i n k (ap (λ ms. taken_at ms i n k) joined ∙ untaken_now)) held other l at p.there apart
+          (untaken_before p.front (later ++ before) i n k (ap (λ ms. taken_at ms i n k) joined ∙ untaken)) held other l at p.there apart
 
       by_moment : (prepared_in before i at ≡ Some (orb other l)) ⊎ WasPut mid before i other l at → at ≡ slot → ⊥
       by_moment (inl e) = put_before e
@@ -162,6 +159,29 @@ module _ (wild : ℕ → Bool) (i : ℕ) (own : wild i ≡ false) (mid before : 
       cut_apart there = by_moment (was_put before i other l at mid there)
 
     -- and no ORB of a list that is open
-    pub open_apart : (open_list l at : ℕ) → IsOpen (mid ++ before) i open_list → prepared_in (mid ++ before) i at ≡ Some (orb open_list l) → at ≡ slot → ⊥
-    open_apart open_list l at opened there =
-        cut_apart open_list l at (λ e. no (sym opened.uncut ∙ (ap (is_cut (mid ++ before) i) e ∙ cut_stays mid before i n cut))) there
+    pub open_apart : is_cut (mid ++ before) i n ≡ true → (open_list l at : ℕ) → IsOpen (mid ++ before) i open_list → prepared_in (mid ++ before) i at ≡ Some (orb open_list l) → at ≡ slot → ⊥
+    open_apart cut open_list l at opened there = cut_apart open_list l at (λ e. no (sym opened.uncut ∙ (ap (is_cut (mid ++ before) i) e ∙ cut))) there
+
+-- ---- where its list was cut before, no status of it was taken since
+pub untaken_since : (wild : ℕ → Bool) (i : ℕ) → wild i ≡ false → (mid before : List Moment) → PassLaw wild (mid ++ before) → (n k : ℕ) → is_cut before i n ≡ true → ends before i n ≤ k → ((list number : ℕ) → ends (mid ++ before) i list ≤ number → taken_at (mid ++ before) i list number ≡ None) → taken_at (mid ++ before) i n k ≡ None
+untaken_since wild i own mid before passes n k cut unended untaken = let as_then = cut_ends wild i n own mid before passes cut in untaken n k (omega (arith, as_then, unended))
+
+-- ---- an ORB in a slot while its initiator is ahead of the target: the initiator prepares no other one till the target has caught up
+module _ (i : ℕ) (mid before : List Moment) (rises : Rises (mid ++ before)) (begins : Begins i (mid ++ before)) (ahead : (terms (mid ++ before)).generation 0 < (terms before).generation (suc i)) where
+  module _ (n k slot : ℕ) where
+    none_put : WasPut mid before i n k slot → ⊥
+    none_put p =
+        let leads = said (notes.Append i n k p.cdb p.buffer) in
+        let joined : p.front ++ leads ∷ (p.back ++ before) ≡ mid ++ before = split p.front (leads ∷ p.back) before ∙ ap (λ ms. ms ++ before) p.is in
+        let there = subst Rises (sym joined) rises in
+        let a = generation_grows p.back before (suc i) (each_from _ p.front (leads ∷ (p.back ++ before)) there).1 in
+        let b = (each_from _ p.front (leads ∷ (p.back ++ before)) (subst (Begins i) (sym joined) begins)).0 (own_number i) in
+        let c : (terms (leads ∷ (p.back ++ before))).generation 0 ≤ (terms (mid ++ before)).generation 0 = subst (λ ms. (terms (leads ∷ (p.back ++ before))).generation 0 ≤ (terms ms).generation 0) joined (generation_grows p.front (leads ∷ (p.back ++ before)) 0 there) in
+        omega (arith, a, b, c, ahead)
+
+    pub put_before_ahead : prepared_in (mid ++ before) i slot ≡ Some (orb n k) → prepared_in before i slot ≡ Some (orb n k)
+    put_before_ahead there = by (was_put before i n k slot mid there)
+      where
+        by : (prepared_in before i slot ≡ Some (orb n k)) ⊎ WasPut mid before i n k slot → prepared_in before i slot ≡ Some (orb n k)
+        by (inl e) = e
+        by (inr p) = absurd (none_put p)

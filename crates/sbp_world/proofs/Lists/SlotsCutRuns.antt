@@ -18,7 +18,7 @@ use Rattle.sbp_world.proofs.Lists.Joins.{Begins}
 use Rattle.sbp_world.proofs.Lists.Beside.{tame_or_few_before}
 use Rattle.sbp_world.proofs.Lists.Passing.{PassLaw}
 use Rattle.sbp_world.proofs.Lists.Rises.{Rises}
-use Rattle.sbp_world.proofs.Lists.SlotsCut.{open_apart}
+use Rattle.sbp_world.proofs.Lists.SlotsCut.{open_apart, untaken_since}
 use Rattle.sbp_world.proofs.Lists.StatusRested.{Grounds}
 use Rattle.sbp_world.proofs.Lists.StatusRuns.{rises_of}
 use Rattle.sbp_world.proofs.Lists.TameWalks.{still_after, still_between}
@@ -31,9 +31,10 @@ no e = cc
 
 apart_at : (wild : ℕ → Bool) (i : ℕ) → wild i ≡ false → (past : List Moment) → PassLaw wild past → Rises past → Begins i past → ((n k : ℕ) → ends past i n ≤ k → taken_at past i n k ≡ None) → AreCutApart past i
 apart_at wild i own past passes rises begins untaken later before is n k slot cut unended held current list number opened there =
-    open_apart wild i own later before (subst (PassLaw wild) (sym is) passes) (subst Rises (sym is) rises) (subst (Begins i) (sym is) begins)
-    (subst (λ ms. (terms ms).generation 0 ≤ (terms before).generation (suc i)) (sym is) current) n k slot cut unended
-    (subst (λ ms. (m l : ℕ) → ends ms i m ≤ l → taken_at ms i m l ≡ None) (sym is) untaken) held list number slot
+    let still = subst (PassLaw wild) (sym is) passes in
+    open_apart wild i own later before still (subst Rises (sym is) rises) (subst (Begins i) (sym is) begins)
+    (subst (λ ms. (terms ms).generation 0 ≤ (terms before).generation (suc i)) (sym is) current) n k slot
+    (untaken_since wild i own later before still n k cut unended (subst (λ ms. (m l : ℕ) → ends ms i m ≤ l → taken_at ms i m l ≡ None) (sym is) untaken)) held (cut_stays later before i n cut) list number slot
     (subst (λ ms. IsOpen ms i list) (sym is) opened) (ap (λ ms. prepared_in ms i slot) is ∙ there) refl
 
 abbrev AllApart : (ℕ → Bool) → List Moment → WorldState → Type 0
