@@ -1,8 +1,6 @@
 -- Which requests of the target have no owner any more while they are under way, by where they go in an initiator's memory (NCITS 325-1998, AGENT_RESET, ABORT TASK SET, resets; command block ORB and page tables):
 -- a request for the page table or the buffer of a slot is the main transaction of an agent, or an ORB had the slot whose list was cut before the ORB had ended.
-use Rattle.std.specs.Prelude.{◌≡◌, ◌⊎◌, ◌<◌, ◌≤◌, ℕ, suc, true, List, ◌++◌, length, Option, Some, None}
-use Rattle.bus_memory.specs.declared.window.Window.{Window}
-use Rattle.bus_memory.specs.declared.window.Window.TheVariants as windows
+use Rattle.std.specs.Prelude.{◌≡◌, ◌⊎◌, ◌<◌, ◌≤◌, ℕ, suc, true, List, ◌++◌, length, Some}
 use Rattle.bus_memory.specs.Windows.{window_at}
 use Rattle.rbc_disk.specs.Disk.{Disk}
 use Rattle.sbp_journal.specs.Addresses.{Access}
@@ -17,13 +15,8 @@ use Rattle.sbp_world.specs.Telling.{holder}
 use Rattle.sbp_world.specs.Worlds.{WorldState}
 use Rattle.sbp_world.specs.Lists.Closes.{UnderFrom, WhereTameOrFew}
 use Rattle.sbp_world.specs.Lists.Needs.{IsCalm, initiator_in}
+use Rattle.sbp_world.specs.Lists.OwnReads.{data_slot}
 use Rattle.sbp_world.specs.Lists.SlotsStay.{HasSlot}
-
--- the slot whose page table or buffer an address is in
-abbrev pub data_slot : Option Window → Option ℕ
-data_slot (Some (windows.Table slot)) = Some slot
-data_slot (Some (windows.Buffer slot)) = Some slot
-data_slot _ = None
 
 -- a request of the target to an initiator is under way, and goes there
 pub record IsInSlot (past : List Moment) (i slot serial : ℕ) : Type 0 where
