@@ -531,3 +531,4 @@ pub mod OpenGots
 pub mod TurnCalls
 pub mod ResetStays
 pub mod CutOffs
+pub mod NobodyElsewhere
