@@ -532,3 +532,4 @@ pub mod TurnCalls
 pub mod ResetStays
 pub mod CutOffs
 pub mod NobodyElsewhere
+pub mod NobodyRuns
