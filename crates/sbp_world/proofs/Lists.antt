@@ -533,3 +533,4 @@ pub mod ResetStays
 pub mod CutOffs
 pub mod NobodyElsewhere
 pub mod NobodyRuns
+pub mod CutOffSteps

@@ -19,7 +19,7 @@ use Rattle.sbp_world.specs.Settling.{after_all}
 use Rattle.sbp_world.specs.Wire.Wires.{Stands}
 use Rattle.sbp_world.specs.Worlds.{Scene, WorldState, begun}
 use Rattle.sbp_world.specs.Hosts.Runs.{more_deliveries}
-use Rattle.sbp_world.proofs.Agents.Management.Landing.{past_terms}
+use Rattle.sbp_world.proofs.Agents.Management.Holding.{past_terms}
 use Rattle.sbp_world.proofs.Agents.Management.Still.{hist}
 use Rattle.sbp_world.specs.Lists.AtGots.{AtGot}
 use Rattle.sbp_world.specs.Lists.Closes.{Always, AreUntaken, OpenListsLaw, Under, UnderFrom, WhereTameOrFew}
