@@ -238,6 +238,7 @@ module _ (wild : ℕ → Bool) (start : List Disk) (past : List Moment) (w : Wor
       access = x.access;
       is = ap (λ so. access_in (packet_in so)) (sym same_sent) ∙ x.is;
       stands = x.stands;
+      reads = x.reads;
     }
 
     -- ---- its agent was put to RESET

@@ -1,6 +1,7 @@
 -- What the target gets in answer to a request of nobody begins elsewhere than in the slot of an ORB of an open list: a request that goes there is under way, and is the main transaction of an agent, or an ORB had the slot whose list was cut.
 use Rattle.std.proofs.Common.{arith, ◌≡◌, ◌∙◌, refl, sym, ap, subst, inl, inr, ◌⊎◌, ◌<◌, ◌≤◌, ◌==◌, ◌&&◌, nat_eq, ℕ, suc, Bool, true, false, cond, List, [], ◌∷◌, length, Option, Some, None}
 use Rattle.std.proofs.lemmas.Bool.Decides.{nat_tests}
+use Rattle.bus_memory.specs.declared.window.Window.TheVariants as windows
 use Rattle.bus_memory.specs.Windows.{window_at}
 use Rattle.bus_transactions.specs.Packets.{SerialsCount}
 use Rattle.rbc_disk.specs.Disk.{Disk}
@@ -66,24 +67,37 @@ module _ (past : List Moment) (c : SerialsCount past) (serial own : ℕ) (closed
 
   module _ (i slot : ℕ) where
     -- it goes to the slot
-    pub closed_in_slot : IsCurrent past serial → sender_in (t.sent serial) ≡ Some (suc i) → receiver_in (t.sent serial) ≡ Some 0 → (access : Access) → access_at t own ≡ Some access → data_slot (window_at access.offset) ≡ Some slot → IsInSlot past i slot own
-    closed_in_slot current from to access is stands = record {
+    pub closed_in_slot : IsCurrent past serial → sender_in (t.sent serial) ≡ Some (suc i) → receiver_in (t.sent serial) ≡ Some 0 → (access : Access) → access_at t own ≡ Some access → data_slot (window_at access.offset) ≡ Some slot → (window_at access.offset ≡ Some (windows.Buffer slot) → access.is_write ≡ false) → IsInSlot past i slot own
+    closed_in_slot current from to access is stands reads = record {
       from = ap sender_in begun.sent ∙ ap Some (sym nodes.requester ∙ same_some q.to 0 (sym (ap receiver_in reply.sent) ∙ to));
       to = ap receiver_in begun.sent ∙ ap Some (sym nodes.responder ∙ same_some q.from (suc i) (sym (ap sender_in reply.sent) ∙ from));
       under_way = closed_under_way current;
       access = access;
       is = is;
       stands = stands;
+      reads = reads;
     }
 
-    -- where it does not, the response begins elsewhere
-    module _ (none : sender_in (t.sent serial) ≡ Some (suc i) → receiver_in (t.sent serial) ≡ Some 0 → (access : Access) → access_at t own ≡ Some access → data_slot (window_at access.offset) ≡ Some slot → ⊥) where
+    -- where it does not, the response begins elsewhere, or has no bytes
+    module _ (bytes : (access : Access) → access_at t own ≡ Some access → access.is_write ≡ true → payload_at t serial ≡ []) (none : sender_in (t.sent serial) ≡ Some (suc i) → receiver_in (t.sent serial) ≡ Some 0 → (access : Access) → access_at t own ≡ Some access → data_slot (window_at access.offset) ≡ Some slot → (window_at access.offset ≡ Some (windows.Buffer slot) → access.is_write ≡ false) → ⊥) where
+      table_not : (at : ℕ) → window_at at ≡ Some (windows.Table slot) → window_at at ≡ Some (windows.Buffer slot) → ⊥
+      table_not at e f = let x : Some (windows.Table slot) ≡ Some (windows.Buffer slot) = sym e ∙ f in cc
+
       read_at : (b d : Bool) → is_serial (sender_in (t.sent serial)) (suc i) ≡ b → is_serial (receiver_in (t.sent serial)) 0 ≡ d → (a : Option Access) → access_at t own ≡ a → AllElsewhere slot (cond (b && d) (moved_by a (payload_at t serial)) [])
       read_at false d f g a e = tt
       read_at true false f g a e = tt
       read_at true true f g None e = tt
-      read_at true true f g (Some access) e =
-          let n = none (is_its_serial (sender_in (t.sent serial)) (suc i) f) (is_its_serial (receiver_in (t.sent serial)) 0 g) access e in (record { table = λ w. n (ap data_slot w); buffer = λ w. absurd (n (ap data_slot w)) }, tt)
+      read_at true true f g (Some access) e = (record { table = table; buffer = λ w. by w access.is_write refl }, tt)
+        where
+          not_there : data_slot (window_at access.offset) ≡ Some slot → (window_at access.offset ≡ Some (windows.Buffer slot) → access.is_write ≡ false) → ⊥
+          not_there = none (is_its_serial (sender_in (t.sent serial)) (suc i) f) (is_its_serial (receiver_in (t.sent serial)) 0 g) access e
+
+          table : window_at access.offset ≡ Some (windows.Table slot) → ⊥
+          table w = not_there (ap data_slot w) (λ z. absurd (table_not access.offset w z))
+
+          by : window_at access.offset ≡ Some (windows.Buffer slot) → (writes : Bool) → access.is_write ≡ writes → payload_at t serial ≡ []
+          by w true h = bytes access e h
+          by w false h = absurd (not_there (ap data_slot w) (λ z. h))
 
       pub begins_elsewhere : AllElsewhere slot (read_by t i serial (Some own))
       begins_elsewhere = read_at (is_serial (sender_in (t.sent serial)) (suc i)) (is_serial (receiver_in (t.sent serial)) 0) refl refl (access_at t own) refl
@@ -98,6 +112,8 @@ pub record OffFacts (wild : ℕ → Bool) (start : List Disk) (past : List Momen
   pub untaken : (i : ℕ) → i < count → wild i ≡ false → (n k : ℕ) → ends past i n ≤ k → taken_at past i n k ≡ None
   pub off : (i : ℕ) → i < count → wild i ≡ false → (slot serial : ℕ) → IsInSlot past i slot serial → IsMainAt start past serial ⊎ WasCutOff past i slot
   pub ours : (serial i : ℕ) → sender_in ((terms past).sent serial) ≡ Some (suc i) → i < count
+  -- what answers a write has no bytes
+  pub bytes : (serial own : ℕ) → answered_at (terms past) serial ≡ Some own → (access : Access) → access_at (terms past) own ≡ Some access → access.is_write ≡ true → payload_at (terms past) serial ≡ []
 
 -- of a response that is current
 abbrev pub IsUnownedNow : (ℕ → Bool) → List Disk → List Moment → ℕ → Type 0
@@ -107,9 +123,9 @@ IsUnownedNow wild start past serial =
 module _ (wild : ℕ → Bool) (start : List Disk) (past : List Moment) (count : ℕ) (f : OffFacts wild start past count) where
   pub unowned_here : (serial : ℕ) → IsUnownedNow wild start past serial
   unowned_here serial current i slot list number request own opened there closed nobody =
-      begins_elsewhere past f.counts serial request closed i slot
-      (λ from to access is stands.
-      let x = closed_in_slot past f.counts serial request closed i slot current from to access is stands in
+      begins_elsewhere past f.counts serial request closed i slot (f.bytes serial request closed)
+      (λ from to access is stands reads.
+      let x = closed_in_slot past f.counts serial request closed i slot current from to access is stands reads in
       let inside = f.ours serial i from in
       not_there inside x (f.off i inside own slot request x))
     where

@@ -44,6 +44,7 @@ use Rattle.sbp_world.proofs.Lists.StatusRested.{Grounds}
 use Rattle.sbp_world.proofs.Lists.StatusRuns.{rises_of}
 use Rattle.sbp_world.proofs.Lists.TameWalks.{from_after, from_between}
 use Rattle.sbp_world.proofs.Lists.Walks.{Step, Walks}
+use Rattle.sbp_world.proofs.Lists.WriteAnswers.{no_bytes}
 
 -- ---- as a line begins
 module _ (start : List Disk) (line : ℕ) (event : Event) (past : List Moment) where
@@ -108,6 +109,7 @@ walk wild units ready has start past s later t step p =
       untaken = λ i b own. (step.so_far i own).0 i b (reached.calm i own);
       off = λ i b own slot serial x. (step.so_far i own).1 i slot serial b (reached.calm i own) x;
       ours = ours_of s.world stands;
+      bytes = λ serial own closed access is writes. no_bytes s.world stands serial own closed access is writes;
     })) p
 
 first : (wild : ℕ → Bool) (line : ℕ) (run : Run) → P run.start.disks wild (moments_behind line run []) (beginning run).world
