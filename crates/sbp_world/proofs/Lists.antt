@@ -534,3 +534,4 @@ pub mod CutOffs
 pub mod NobodyElsewhere
 pub mod NobodyRuns
 pub mod CutOffSteps
+pub mod SentLinks
