@@ -535,3 +535,4 @@ pub mod NobodyElsewhere
 pub mod NobodyRuns
 pub mod CutOffSteps
 pub mod SentLinks
+pub mod SentPurposes
