@@ -536,3 +536,4 @@ pub mod NobodyRuns
 pub mod CutOffSteps
 pub mod SentLinks
 pub mod SentPurposes
+pub mod SentApart

@@ -106,11 +106,11 @@ place_there : (place : ℕ) → place < 2 → window_at (start_of (windows.Manag
 place_there place small = window_here (new_memory []) (start_of (windows.Management place)) (windows.Management place) small (omega arith) (omega arith)
 
 -- it reads elsewhere, or writes
-data Aims (access : Access) : Type 0 where
+pub data Aims (access : Access) : Type 0 where
   elsewhere : NoData access.offset → Aims access
   writes : access.is_write ≡ true → Aims access
 
-aims_by : (phase : Phase) (op : Operation) (access : Access) → AccessOf phase op access → IsInAPlace op → Aims access
+pub aims_by : (phase : Phase) (op : Operation) (access : Access) → AccessOf phase op access → IsInAPlace op → Aims access
 aims_by phases.Orb op access a p =
     elsewhere (subst (λ (x : Access). NoData x.offset) (sym a) (subst NoData (sym p.orb) (no_data (start_of (windows.Management p.place)) (windows.Management p.place) (place_there p.place p.small) (place_data p.place))))
 aims_by (phases.HighEui orb) op access a p = elsewhere (subst (λ (x : Access). NoData x.offset) (sym a) (no_data high_eui_at windows.Rom rom_high rom_data))

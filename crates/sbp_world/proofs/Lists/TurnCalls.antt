@@ -56,5 +56,6 @@ pub record TurnFrom (wild : ℕ → Bool) (past : List Moment) (before : WorldSt
   pub w : WorldState
   pub target : w.target ≡ before.target
   pub places : w.places ≡ before.places
+  pub bus : w.generations ≡ before.generations
   pub begins : (hist later w ≡ hist past before) ⊎ ((line : ℕ) × ((event : Event) × (hist later w ≡ asked line event ∷ hist past before)))
   pub turn : TurnCalls wild later w v
