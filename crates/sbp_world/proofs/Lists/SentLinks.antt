@@ -3,6 +3,7 @@ use Rattle.std.proofs.Common.{arith, ◌≡◌, ◌∙◌, refl, sym, ap, subst,
 use Rattle.std.proofs.lemmas.Bool.Decides.{nat_tests}
 use Rattle.async_packet.specs.Labels.{LabelParts}
 use Rattle.sbp_bus.specs.Generations.{GenerationsState, node_of, topology_at}
+use Rattle.rbc_disk.specs.Disk.{Disk}
 use Rattle.sbp_journal.specs.Outgoings.{OutboxState}
 use Rattle.sbp_journal.specs.Run.{Moment, said}
 use Rattle.sbp_journal.specs.Transactions.{Sending}
@@ -12,6 +13,7 @@ use Rattle.sbp_journal.specs.declared.note.Note.TheVariants as notes
 use Rattle.sbp_journal.specs.declared.outbox.Outgoing.{Outgoing}
 use Rattle.sbp_journal.specs.declared.side.Side.{Side}
 use Rattle.sbp_journal.specs.declared.side.Side.TheVariants as sides
+use Rattle.sbp_laws.specs.Targets.{target_at}
 use Rattle.sbp_target.specs.Calls.{alone}
 use Rattle.sbp_world.specs.Handing.{handed_out}
 use Rattle.sbp_world.specs.Sending.{asked as asked_for, posted, sent as sends, sent_all, sent_to}
@@ -21,6 +23,7 @@ use Rattle.sbp_world.proofs.Agents.Management.Still.{hist}
 use Rattle.sbp_world.specs.Hosts.Handing.{AreOthers, IsOther}
 use Rattle.sbp_world.proofs.Hosts.Remaining.{gets_same, ignores_that_same, times_out_same}
 use Rattle.sbp_world.proofs.Hosts.SentMoments.{sending, sent_now}
+use Rattle.sbp_world.proofs.Lists.MainAnswers.{sent_none}
 use Rattle.sbp_world.proofs.Lists.StatusOffice.{sides_generations}
 use Rattle.sbp_world.proofs.Lists.TurnCalls.{IsCalled}
 use Rattle.sbp_world.proofs.Lists.Turns.{First, got_it, ignored_it, key_it, late_it, seen_it, tick_it}
@@ -97,6 +100,49 @@ module _ (One : Outgoing → Type 0) (g : GenerationsState) (past : List Moment)
       by (inl f) = goes packet u bus a.0 f
       by (inr f) = inr f
 
+-- ---- behind a packet that was sent no reply waits
+module _ (start : List Disk) (past : List Moment) where
+  abbrev Quiet : WorldState → Type 0
+  Quiet u = (target_at start (hist past u)).reply ≡ None
+
+  posted_quiet : (to : ℕ) (bytes : List ℕ) (u : WorldState) → Quiet (posted 0 to false bytes u)
+  unfolding posted
+  posted_quiet to bytes u = sent_none start (hist past u) (u.store.last + 1) (topology_at u.generations 0).generation 0 to bytes
+
+  waits_quiet : (number to node peer : ℕ) (label : Option LabelParts) (u : WorldState) → Quiet u → Quiet (asked_for number to node peer label u)
+  waits_quiet number to node peer None u e = e
+  waits_quiet number to node peer (Some label) u e = e
+
+  to_quiet : (o : Option ℕ) (packet : Outgoing) (u : WorldState) → Quiet u → Quiet (sent_to o 0 packet u)
+  to_quiet None packet u e = e
+  to_quiet (Some to) packet u e = waits_quiet (u.store.last + 1) to 0 packet.to packet.label (posted 0 to false packet.bytes u) (posted_quiet to packet.bytes u)
+
+  all_quiet : (packets : List Outgoing) (u : WorldState) → Quiet u → Quiet (sent_all 0 packets u)
+  unfolding sent_all sends
+  all_quiet [] u e = e
+  all_quiet (packet ∷ later) u e = all_quiet later (sends 0 packet u) (to_quiet (node_of u.generations 0 packet.to) packet u e)
+
+  module _ (serial : ℕ) (q : Sending) where
+    abbrev There : WorldState → Type 0
+    There u = (terms (hist past u)).sent serial ≡ Some q
+
+    new_to : (o : Option ℕ) (packet : Outgoing) (u : WorldState) → There (sent_to o 0 packet u) → There u ⊎ Quiet (sent_to o 0 packet u)
+    new_to None packet u e = inl e
+    new_to (Some to) packet u e = inr (waits_quiet (u.store.last + 1) to 0 packet.to packet.label (posted 0 to false packet.bytes u) (posted_quiet to packet.bytes u))
+
+    pub new_quiet : (packets : List Outgoing) (u : WorldState) → There (sent_all 0 packets u) → There u ⊎ Quiet (sent_all 0 packets u)
+    unfolding sent_all sends
+    new_quiet [] u e = inl e
+    new_quiet (packet ∷ later) u e = by (new_quiet later (sends 0 packet u) e)
+      where
+        first_new : There u ⊎ Quiet (sends 0 packet u) → There u ⊎ Quiet (sent_all 0 later (sends 0 packet u))
+        first_new (inl f) = inl f
+        first_new (inr f) = inr (all_quiet later (sends 0 packet u) f)
+
+        by : There (sends 0 packet u) ⊎ Quiet (sent_all 0 later (sends 0 packet u)) → There u ⊎ Quiet (sent_all 0 later (sends 0 packet u))
+        by (inl f) = first_new (new_to (node_of u.generations 0 packet.to) packet u f)
+        by (inr f) = inr f
+
 -- ---- what is told sends no packet
 module _ (past : List Moment) where
   abbrev Sends : WorldState → ℕ → Option Sending
@@ -134,19 +180,30 @@ first_sent _ tick_it ms = refl
 first_sent _ (key_it unit) ms = refl
 
 -- ---- a call
-module _ (One : Outgoing → Type 0) (past : List Moment) (w v : WorldState) (c : IsCalled past w v) (all : AllOf One (alone c.call w.target).outbox.packets) (serial : ℕ) (q : Sending) where
-  pub called_from : (terms (hist past v)).sent serial ≡ Some q → ((terms (hist past w)).sent serial ≡ Some q) ⊎ FromPacket One c.u.generations q
-  called_from e = by (all_from One c.u.generations past serial q outbox.packets told_there (sides_generations 0 outbox.sides c.u) all (subst (λ x. (terms (hist past x)).sent serial ≡ Some q) c.is e))
+module _ (start : List Disk) (past : List Moment) (w v : WorldState) (c : IsCalled past w v) (serial : ℕ) (q : Sending) (sent : (terms (hist past v)).sent serial ≡ Some q) (new : (terms (hist past w)).sent serial ≡ Some q → ⊥) where
+  abbrev outbox : OutboxState
+  outbox = (alone c.call w.target).outbox
+
+  abbrev told_there : WorldState
+  told_there = told_all 0 outbox.sides c.u
+
+  back : (terms (hist past told_there)).sent serial ≡ Some q → ⊥
+  back e = new (ap (λ (s : ℕ → Option Sending). s serial) (sym (all_sent past 0 outbox.sides c.u c.others ∙ (ap (λ ms. (terms ms).sent) c.fresh ∙ first_sent c.first c.starts (hist past w)))) ∙ e)
+
+  there : (terms (hist past (handed_out 0 0 outbox c.u))).sent serial ≡ Some q
+  there = subst (λ x. (terms (hist past x)).sent serial ≡ Some q) c.is sent
+
+  -- it is one of the packets that were handed out
+  pub called_from : (One : Outgoing → Type 0) → AllOf One outbox.packets → FromPacket One c.u.generations q
+  called_from One all = by (all_from One c.u.generations past serial q outbox.packets told_there (sides_generations 0 outbox.sides c.u) all there)
     where
-      outbox : OutboxState
-      outbox = (alone c.call w.target).outbox
+      by : ((terms (hist past told_there)).sent serial ≡ Some q) ⊎ FromPacket One c.u.generations q → FromPacket One c.u.generations q
+      by (inl f) = absurd (back f)
+      by (inr f) = f
 
-      told_there : WorldState
-      told_there = told_all 0 outbox.sides c.u
-
-      back : (terms (hist past told_there)).sent ≡ (terms (hist past w)).sent
-      back = all_sent past 0 outbox.sides c.u c.others ∙ (ap (λ ms. (terms ms).sent) c.fresh ∙ first_sent c.first c.starts (hist past w))
-
-      by : ((terms (hist past told_there)).sent serial ≡ Some q) ⊎ FromPacket One c.u.generations q → ((terms (hist past w)).sent serial ≡ Some q) ⊎ FromPacket One c.u.generations q
-      by (inl f) = inl (ap (λ (s : ℕ → Option Sending). s serial) (sym back) ∙ f)
-      by (inr f) = inr f
+  pub called_quiet : (target_at start (hist past v)).reply ≡ None
+  called_quiet = subst (λ x. (target_at start (hist past x)).reply ≡ None) (sym c.is) (by (new_quiet start past serial q outbox.packets told_there there))
+    where
+      by : ((terms (hist past told_there)).sent serial ≡ Some q) ⊎ Quiet start past (handed_out 0 0 outbox c.u) → (target_at start (hist past (handed_out 0 0 outbox c.u))).reply ≡ None
+      by (inl f) = absurd (back f)
+      by (inr f) = f
