@@ -214,17 +214,17 @@ module _ (wild more : ℕ → Bool) (calm : (i : ℕ) → more i ≡ false → w
   all_but (said note ∷ past) managed = (note_but note past managed.0, all_but past managed.1)
 
 -- ---- at each place of a run
-record Kit (start : List Disk) (past : List Moment) (w : WorldState) : Type 0 where
-  ground : Ground start past w
-  office : OfficeSoAt start past w
-  based : IsTameOrFew past → (i : ℕ) → i < length w.initiators → IsCalm past i → EachMoment (BasedAt i) past
-  shorts : AreShort past
+pub record Kit (start : List Disk) (past : List Moment) (w : WorldState) : Type 0 where
+  pub ground : Ground start past w
+  pub office : OfficeSoAt start past w
+  pub based : IsTameOrFew past → (i : ℕ) → i < length w.initiators → IsCalm past i → EachMoment (BasedAt i) past
+  pub shorts : AreShort past
 
 abbrev ManagedSo : List Disk → List Moment → WorldState → Type 0
 ManagedSo start past w = IsTameOrFew past → EachMoment (ManagedAsGot (injectors past) start) past
 
 module _ (short : ShortLaw) where
-  kit_everywhere : EveryPlace Kit
+  pub kit_everywhere : EveryPlace Kit
   kit_everywhere =
       let shorts = shorts_everywhere short in
       let known = logins_known short in
