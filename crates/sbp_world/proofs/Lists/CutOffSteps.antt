@@ -35,7 +35,6 @@ use Rattle.sbp_world.proofs.Lists.CutOffs.{had_later, off_stays}
 use Rattle.sbp_world.proofs.Lists.DataWaits.{under_way_now}
 use Rattle.sbp_world.proofs.Lists.FedHeld.{IsNewer, waits_since}
 use Rattle.sbp_world.proofs.Lists.Gots.{Next, next, next_line, same_still}
-use Rattle.sbp_world.proofs.Lists.Judging.{grown}
 use Rattle.sbp_world.proofs.Lists.MainStays.{has_one}
 use Rattle.sbp_world.proofs.Lists.NobodyWaits.{main_or_reset, waits_over}
 use Rattle.sbp_world.proofs.Lists.Passing.{PassLaw}
@@ -88,38 +87,52 @@ front_since base at (note ∷ front) q (x ∷ since) moment until e =
     let same = head_of x (said note) (since ++ moment ∷ until) (map said front ++ base) e in
     more_since x since moment until (subst IsUngot (sym same) (quiet_ungot note q.0)) (front_since base at front q.1 since moment until (tail_of x (said note) (since ++ moment ∷ until) (map said front ++ base) e))
 
-since_of : (before now : List Moment) (n : Next before now) (since : List Moment) (moment : Moment) (until : List Moment) → since ++ moment ∷ until ≡ (grown before now n).new → Since since moment until
-since_of before now (same_still e) since moment until x = none_there since moment until x
-since_of before now (next front q m is) since moment until x = front_since (m ∷ []) (λ s o u. one_since s o u m) front q since moment until x
-since_of before now (next_line front q note line event is) since moment until x = front_since (said note ∷ asked line event ∷ []) (λ s o u. two_since s o u (said note) line event) front q since moment until x
+-- the moments that a turn adds
+record Parted (before now : List Moment) : Type 0 where
+  new : List Moment
+  is : new ++ before ≡ now
+  parts : (since : List Moment) (moment : Moment) (until : List Moment) → since ++ moment ∷ until ≡ new → Since since moment until
+
+parted : (before now : List Moment) → Next before now → Parted before now
+parted before now (same_still e) = record { new = []; is = sym e; parts = λ since moment until x. none_there since moment until x }
+parted before now (next front q m is) = record {
+  new = map said front ++ m ∷ [];
+  is = append_assoc (map said front) (m ∷ []) before ∙ is;
+  parts = λ since moment until x. front_since (m ∷ []) (λ s o u. one_since s o u m) front q since moment until x;
+}
+parted before now (next_line front q note line event is) = record {
+  new = map said front ++ said note ∷ asked line event ∷ [];
+  is = append_assoc (map said front) (said note ∷ asked line event ∷ []) before ∙ is;
+  parts = λ since moment until x. front_since (said note ∷ asked line event ∷ []) (λ s o u. two_since s o u (said note) line event) front q since moment until x;
+}
 
 -- ---- a request that was under way before and is so still
 module _ (later before : List Moment) (c : SerialsCount (later ++ before)) (serial : ℕ) (old : serial ≤ (terms before).count) (rises : Rises (later ++ before)) (young : (packet : Sending) → (terms before).sent serial ≡ Some packet → packet.generation ≤ (terms before).generation packet.from) where
-  abbrev now : List Moment
-  now = later ++ before
+  abbrev ms : List Moment
+  ms = later ++ before
 
-  sent_same : (terms now).sent serial ≡ (terms before).sent serial
+  sent_same : (terms ms).sent serial ≡ (terms before).sent serial
   sent_same = (remains later before c).sent serial old
 
-  module _ (packet : Sending) (sent : (terms now).sent serial ≡ Some packet) (from : packet.from ≡ 0) (under : is_under_way (terms now) serial ≡ true) where
+  module _ (packet : Sending) (sent : (terms ms).sent serial ≡ Some packet) (from : packet.from ≡ 0) (under : is_under_way (terms ms) serial ≡ true) where
     sent_then : (terms before).sent serial ≡ Some packet
     sent_then = sym sent_same ∙ sent
 
-    pub generation_same : (terms now).generation 0 ≡ (terms before).generation 0
+    pub generation_same : (terms ms).generation 0 ≡ (terms before).generation 0
     generation_same =
-        let a = under_way_now (terms now) serial packet sent under ∙ ap (terms now).generation from in
+        let a = under_way_now (terms ms) serial packet sent under ∙ ap (terms ms).generation from in
         let b = young packet sent_then in
         let e : (terms before).generation packet.from ≡ (terms before).generation 0 = ap (terms before).generation from in
         let d = generation_grows later before 0 rises in
         omega (arith, a, b, e, d)
 
-    awaits : Awaits (terms now) packet serial
-    awaits = awaits_of (terms now) packet serial sent under
+    awaits : Awaits (terms ms) packet serial
+    awaits = awaits_of (terms ms) packet serial sent under
 
     held_then : (terms before).held awaits.u ≡ waits awaits.kind serial
     held_then = by (waits_since later before c awaits.u awaits.kind serial awaits.held)
       where
-        by : ((terms before).held awaits.u ≡ waits awaits.kind serial) ⊎ IsNewer before now serial → (terms before).held awaits.u ≡ waits awaits.kind serial
+        by : ((terms before).held awaits.u ≡ waits awaits.kind serial) ⊎ IsNewer before ms serial → (terms before).held awaits.u ≡ waits awaits.kind serial
         by (inl e) = e
         by (inr n) = let a = n.above in absurd (omega (arith, a, old))
 
@@ -127,7 +140,7 @@ module _ (later before : List Moment) (c : SerialsCount (later ++ before)) (seri
     now_then =
         let x = transaction_of packet awaits.u awaits.begun in
         let a = awaits.now in
-        let r : (terms now).generation awaits.u.requester ≡ (terms now).generation 0 = ap (terms now).generation (x.requester ∙ from) in
+        let r : (terms ms).generation awaits.u.requester ≡ (terms ms).generation 0 = ap (terms ms).generation (x.requester ∙ from) in
         let s : (terms before).generation awaits.u.requester ≡ (terms before).generation 0 = ap (terms before).generation (x.requester ∙ from) in
         let g = generation_same in
         let e : (terms before).generation awaits.u.requester ≡ awaits.u.generation = s ∙ (sym g ∙ (sym r ∙ a)) in
@@ -195,11 +208,14 @@ module _ (wild : ℕ → Bool) (start : List Disk) (past : List Moment) (w : Wor
   abbrev now : List Moment
   now = hist later v
 
+  moments : Parted before now
+  moments = parted before now f.next
+
   abbrev new : List Moment
-  new = (grown before now f.next).new
+  new = moments.new
 
   is : new ++ before ≡ now
-  is = (grown before now f.next).is
+  is = moments.is
 
   back : (F : List Moment → Type 0) → F now → F (new ++ before)
   back F h = subst F (sym is) h
@@ -290,7 +306,7 @@ module _ (wild : ℕ → Bool) (start : List Disk) (past : List Moment) (w : Wor
             absurd (reset_not (agent_at (over (target_at start before)) m.place).machine.phase at sent_phase)
 
         was_off : WasCutOff now i slot
-        was_off = by_since (since_of before now f.next r.since r.moment r.until r.is)
+        was_off = by_since (moments.parts r.since r.moment r.until r.is)
 
       main_goes : IsMainAt start now serial ⊎ WasCutOff now i slot
       main_goes = by (main_or_reset start new before m.place serial counts_here under m.waits)

@@ -45,7 +45,7 @@ module _ (wild : ℕ → Bool) (i : ℕ) (own : wild i ≡ false) (past : List M
     off_apart = by off.had
 
 -- ---- it stays so while the target is in its generation
-had_later : (past now before : List Moment) (i slot n k : ℕ) → (terms now).generation 0 ≡ (terms past).generation 0 → HadSlot past before i slot (orb n k) → HadSlot now before i slot (orb n k)
+pub had_later : (past now before : List Moment) (i slot n k : ℕ) → (terms now).generation 0 ≡ (terms past).generation 0 → HadSlot past before i slot (orb n k) → HadSlot now before i slot (orb n k)
 had_later past now before i slot n k same (in_generation held current) = in_generation held (subst (λ g. g ≤ (terms before).generation (suc i)) (sym same) current)
 had_later past now before i slot n k same (ahead had later) = ahead had (subst (λ g. g < (terms before).generation (suc i)) (sym same) later)
 

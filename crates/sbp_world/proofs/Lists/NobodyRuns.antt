@@ -84,10 +84,10 @@ V start past w = AreUntaken past w × AreCutOff start past w
 abbrev P : List Disk → (ℕ → Bool) → List Moment → WorldState → Type 0
 P start wild past w = EachMoment (AtGot (IsUnownedNow wild start)) past
 
-ours_of : {past : List Moment} (w : WorldState) (h : Stands past w) (serial i : ℕ) → sender_in ((terms (hist past w)).sent serial) ≡ Some (suc i) → i < length w.initiators
-ours_of w h serial i e = by ((terms (hist _ w)).sent serial) refl e
+ours_of : (past : List Moment) (w : WorldState) (h : Stands past w) (serial i : ℕ) → sender_in ((terms (hist past w)).sent serial) ≡ Some (suc i) → i < length w.initiators
+ours_of past w h serial i e = by ((terms (hist past w)).sent serial) refl e
   where
-    by : (so : Option Sending) → (terms (hist _ w)).sent serial ≡ so → sender_in so ≡ Some (suc i) → i < length w.initiators
+    by : (so : Option Sending) → (terms (hist past w)).sent serial ≡ so → sender_in so ≡ Some (suc i) → i < length w.initiators
     by None f g = absurd (let x : None ≡ Some (suc i) = g in cc)
     by (Some q) f g =
         let ours = h.is.knows.ours serial q (ap (λ (t : Terms). t.sent serial) (past_terms w h) ∙ f) in
@@ -108,7 +108,7 @@ walk wild units ready has start past s later t step p =
       begins = step.known.begins;
       untaken = λ i b own. (step.so_far i own).0 i b (reached.calm i own);
       off = λ i b own slot serial x. (step.so_far i own).1 i slot serial b (reached.calm i own) x;
-      ours = ours_of s.world stands;
+      ours = ours_of past s.world stands;
       bytes = λ serial own closed access is writes. no_bytes s.world stands serial own closed access is writes;
     })) p
 

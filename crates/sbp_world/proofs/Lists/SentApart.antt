@@ -48,7 +48,7 @@ use Rattle.sbp_world.proofs.Lists.ManageTerms.{none_is, same_some}
 use Rattle.sbp_world.proofs.Lists.OfficeAsks.{HasOpOf}
 use Rattle.sbp_world.proofs.Lists.OfficeWrites.{OfficeSoAt, op_placed}
 use Rattle.sbp_world.proofs.Lists.OrbsRead.{access_there}
-use Rattle.sbp_world.proofs.Lists.Sites.{Site, Waiting, agent_waiting}
+use Rattle.sbp_world.proofs.Lists.Sites.{Site, Waiting, waiting as agent_waiting}
 
 same_access : (a b : Access) → Some a ≡ Some b → a ≡ b
 same_access a b e = cc

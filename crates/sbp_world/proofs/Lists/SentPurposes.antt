@@ -64,7 +64,7 @@ module _ (units ready : ℕ) (has : 0 < units) (start : List Disk) {past : List 
   abbrev ids : ℕ → ℕ
   ids = t.ids (t.generation 0)
 
-  awaits : Awaits t q serial
+  pub awaits : Awaits t q serial
   awaits = awaits_of t q serial sent under
 
   pub asks : IsAsking q awaits.u
