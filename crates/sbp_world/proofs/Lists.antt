@@ -437,6 +437,10 @@ pub mod AheadSince
 pub mod AheadWaits
 pub mod AnswerChecks
 pub mod SentGots
+pub mod SentOwned
+pub mod SentOwnedFollows
+pub mod SentOwnedLives
+pub mod SentOwnedParts
 pub mod WasReads
 pub mod WriteAnswers
 pub mod AnswerGots
