@@ -173,6 +173,8 @@ pub mod LiveUnrefused
 pub mod LoginShapes
 pub mod MainAnswers
 pub mod MainLater
+pub mod MainSlots
+pub mod MainSlotsRuns
 pub mod MainSteps
 pub mod MainStays
 pub mod Looks

@@ -88,7 +88,7 @@ nowhere : window_at 0 ≡ None
 unfolding window_at
 nowhere = refl
 
-no_start : NoData 0
+pub no_start : NoData 0
 no_start slot d = none_is slot (sym (ap data_slot nowhere) ∙ d)
 
 module _ (slot : ℕ) (small : slot < 32) (cmd : Cmd) (f : IsFilled slot cmd) (left done limit : ℕ) (l : 0 < limit) where
@@ -122,13 +122,13 @@ module _ (past : List Moment) (i n : ℕ) where
   kept_not orb e = absurd (let no : aheads.Kept orb ≡ aheads.Idle = e in cc)
 
   -- a buffer that is laid out
-  buffer_data : (k : ℕ) (cmd : Cmd) → command_at past i n k ≡ Some cmd → slot_at past i n k < 32 → Filled k → (segments : List Segment) → IsBufferOf (command_at past i n k) (slot_at past i n k) segments → (left done limit : ℕ) → 0 < limit → (s : ℕ) → data_slot (window_at (cut_to left (chunk_from segments done limit)).offset) ≡ Some s → s ≡ slot_at past i n k
+  pub buffer_data : (k : ℕ) (cmd : Cmd) → command_at past i n k ≡ Some cmd → slot_at past i n k < 32 → Filled k → (segments : List Segment) → IsBufferOf (command_at past i n k) (slot_at past i n k) segments → (left done limit : ℕ) → 0 < limit → (s : ℕ) → data_slot (window_at (cut_to left (chunk_from segments done limit)).offset) ≡ Some s → s ≡ slot_at past i n k
   buffer_data k cmd command small filled segments buffer left done limit l s d =
       let laid : segments ≡ laid_out (slot_at past i n k) cmd cmd.segments = subst (λ x. IsBufferOf x (slot_at past i n k) segments) command buffer in
       chunk_data (slot_at past i n k) small cmd (filled cmd command) left done limit l s (subst (λ (ss : List Segment). data_slot (window_at (cut_to left (chunk_from ss done limit)).offset) ≡ Some s) laid d)
 
   -- a write goes to the FIFO, or where it is asked for
-  write_data : (is_status : Bool) (fifo at s : ℕ) → NoData fifo → data_slot (window_at (cond is_status fifo at)) ≡ Some s → data_slot (window_at at) ≡ Some s
+  pub write_data : (is_status : Bool) (fifo at s : ℕ) → NoData fifo → data_slot (window_at (cond is_status fifo at)) ≡ Some s → data_slot (window_at at) ≡ Some s
   write_data true fifo at s none d = absurd (none s d)
   write_data false fifo at s none d = d
 
@@ -183,7 +183,7 @@ module _ (units ready : ℕ) (has : 0 < units) (start : List Disk) {past : List 
   same_initiator a b e = cc
 
   -- the FIFO of a live login of an initiator that injected none is in no slot
-  fifo_data : (place : ℕ) → place < 8 → is_open_at w place ≡ true → IsCalm ms (initiator_in w place) → NoData (fifo_in (term_login T place))
+  pub fifo_data : (place : ℕ) → place < 8 → is_open_at w place ≡ true → IsCalm ms (initiator_in w place) → NoData (fifo_in (term_login T place))
   fifo_data place b is_open calm slot d =
       let x : IsOpened ms w place = opens place b (up_state _ (listing_up (machine_at w place).phase is_open)) in
       let tables : T.table ≡ w.target.logins = ap (λ (o : Office). o.table) (over_keeps (target_at start ms)) ∙ h.at.agrees.table in

@@ -40,12 +40,12 @@ use Rattle.sbp_world.proofs.Lists.ManageTerms.{same_some}
 use Rattle.sbp_world.proofs.Lists.ReadSlots.{is_in, stands, under_as}
 use Rattle.sbp_world.proofs.Lists.Sites.{IsPrepared, Site, Waiting, waiting as agent_waiting}
 
-same_access : (a b : Access) → Some a ≡ Some b → a ≡ b
+pub same_access : (a b : Access) → Some a ≡ Some b → a ≡ b
 same_access a b e = cc
 
 -- ---- windows
 -- an address in a page table or a buffer is in no ORB
-orb_none : (offset slot s : ℕ) → s < 32 → offset ≡ start_of (windows.Orb s) → data_slot (window_at offset) ≡ Some slot → ⊥
+pub orb_none : (offset slot s : ℕ) → s < 32 → offset ≡ start_of (windows.Orb s) → data_slot (window_at offset) ≡ Some slot → ⊥
 orb_none offset slot s b e f =
     let here = ap window_at e ∙ window_here (new_memory []) (start_of (windows.Orb s)) (windows.Orb s) b (omega arith) (omega arith) in
     let none : None ≡ Some slot = sym (ap data_slot here) ∙ f in
