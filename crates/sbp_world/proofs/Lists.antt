@@ -518,7 +518,10 @@ pub mod PlaceOwners
 pub mod PointersHeld
 pub mod PointersTaken
 pub mod PointersGot
+pub mod TurnAway
+pub mod TurnCuts
 pub mod TurnShapes
+pub mod TurnWalk
 pub mod PointersTurn
 pub mod RepliesStayUp
 pub mod SendsLeave

@@ -1,5 +1,5 @@
 -- What a turn of a run is to the target: it leaves the target, and no packet of it is sent; a unit gets a key; or it is one call of the target, behind the first note of the turn, and what the call hands out.
-use Rattle.std.proofs.Common.{◌≡◌, ◌⊎◌, ℕ, Bool, List, ◌∷◌, Some}
+use Rattle.std.proofs.Common.{◌≡◌, ◌⊎◌, ℕ, Bool, false, true, List, ◌∷◌, Some}
 use Rattle.label_table.specs.Layer.{Layer}
 use Rattle.sbp_journal.specs.Run.{Moment, asked, said}
 use Rattle.sbp_journal.specs.Transactions.{Sending}
@@ -7,7 +7,7 @@ use Rattle.sbp_journal.specs.Wire.{terms}
 use Rattle.sbp_journal.specs.declared.event.Event.{Event}
 use Rattle.sbp_journal.specs.declared.note.Note.{Note}
 use Rattle.sbp_journal.specs.declared.note.Note.TheVariants as notes
-use Rattle.sbp_target.specs.Calls.{Call, alone}
+use Rattle.sbp_target.specs.Calls.{Call, alone, sees}
 use Rattle.sbp_target.specs.Receiving.{with_key}
 use Rattle.sbp_target.specs.declared.purpose.Purpose.{Purpose}
 use Rattle.sbp_target.proofs.Histories.Calling.{Good}
@@ -24,6 +24,11 @@ use Rattle.sbp_world.proofs.Lists.Turns.{First}
 abbrev pub NoneSent : List Moment → WorldState → WorldState → Type 0
 NoneSent past w v = (serial : ℕ) (sending : Sending) → (terms (hist past v)).sent serial ≡ Some sending → sending.from ≡ 0 → (terms (hist past w)).sent serial ≡ Some sending
 
+-- the call sees a generation
+abbrev pub is_sight : Call → Bool
+is_sight (sees generation id) = true
+is_sight _ = false
+
 -- one call of the target, in a world behind the first note
 pub record IsCalled (past : List Moment) (w v : WorldState) : Type 0 where
   pub good : Good w.target
@@ -33,6 +38,8 @@ pub record IsCalled (past : List Moment) (w v : WorldState) : Type 0 where
   pub starts : First first
   pub fresh : hist past u ≡ said first ∷ hist past w
   pub places : u.places ≡ w.places
+  -- the target knows the nodes as before, where it sees no generation
+  pub bus : is_sight call ≡ false → u.generations ≡ w.generations
   pub target : u.target ≡ (alone call w.target).node
   pub layer : Layer Purpose
   pub called : Called w good ⊥ (λ p m. IsFull m) full_closed layer (alone call w.target)
@@ -49,5 +56,6 @@ pub record TurnFrom (wild : ℕ → Bool) (past : List Moment) (before : WorldSt
   pub w : WorldState
   pub target : w.target ≡ before.target
   pub places : w.places ≡ before.places
+  pub bus : w.generations ≡ before.generations
   pub begins : (hist later w ≡ hist past before) ⊎ ((line : ℕ) × ((event : Event) × (hist later w ≡ asked line event ∷ hist past before)))
   pub turn : TurnCalls wild later w v
