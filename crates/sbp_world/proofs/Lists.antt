@@ -422,7 +422,6 @@ pub mod UnderwayHosts
 pub mod UnderwayMoments
 pub mod UnderwayRuns
 pub mod UnrunLaws
-pub mod UnrunRuns
 pub mod UnrunTerms
 pub mod UnrunTurns
 pub mod UnrunWalk
