@@ -533,3 +533,11 @@ pub mod OpenGots
 pub mod TurnCalls
 pub mod ResetStays
 pub mod CutOffs
+pub mod NobodyElsewhere
+pub mod NobodyRuns
+pub mod CutOffSteps
+pub mod SentLinks
+pub mod SentPurposes
+pub mod SentApart
+pub mod SentInTurn
+pub mod CutOffRuns

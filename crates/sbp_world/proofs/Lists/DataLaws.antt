@@ -50,7 +50,7 @@ all_office start past w dry own shorts known beside i inside calm =
     )
 
 module _ (short : ShortLaw) where
-  dry_by : Under (WhereTameOrFew AllOfficeDry)
+  pub dry_by : Under (WhereTameOrFew AllOfficeDry)
   dry_by =
       let shorts = shorts_everywhere short in
       let done = logins_known short in
@@ -61,7 +61,7 @@ module _ (short : ShortLaw) where
             all_office run.start.disks _ _ (dry_everywhere.between line run r has small size next most told m so_far) (nodes_everywhere.between line run r has small size next most told m so_far) (shorts.between line run r has small size next most told m so_far) (done.between line run r has small size next most told m so_far);
       }
 
-  untaken_by : Under (WhereTameOrFew AreUntaken)
+  pub untaken_by : Under (WhereTameOrFew AreUntaken)
   untaken_by = places.untaken_law opened_known.laws.pointers opened_known.laws.begun (here_beside short) (placed_beside short)
 
   names_by : Under (WhereTameOrFew AreNames)

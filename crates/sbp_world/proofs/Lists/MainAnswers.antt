@@ -46,7 +46,7 @@ main_among from (a ∷ agents) place serial e = by (λ h. main_among (from + 1) 
     by more false g true h = absurd (let f : for_agent from Ahead ≡ for_agent place Main = h in cc)
     by more false g false h = let x = more h in let p = x.place_is in record { k = suc x.k; place_is = omega arith; waits = x.waits }
 
-main_of : (t : Target) (place serial : ℕ) → purpose_of t serial ≡ for_agent place Main → (agent_at t place).main ≡ Some serial
+pub main_of : (t : Target) (place serial : ℕ) → purpose_of t serial ≡ for_agent place Main → (agent_at t place).main ≡ Some serial
 main_of t place serial e = by (is_serial t.manages serial) e
   where
     by : (b : Bool) → cond b for_manager (purpose_among 0 t.agents serial) ≡ for_agent place Main → (agent_at t place).main ≡ Some serial
@@ -237,6 +237,14 @@ module _ (start : List Disk) where
   note_next (notes.Key unit) past = olds (said (notes.Key unit)) past (keys (event_of past) unit (target_at start past))
   note_next (notes.Unsolicited i) past = λ place serial h. inl h
   note_next note past = let t = target_at start past in olds (said note) past (rests t (target_at start (said note ∷ past)) (going note t))
+
+  -- behind a packet that is sent no reply waits
+  pub sent_none : (past : List Moment) (serial generation from to : ℕ) (bytes : List ℕ) → (target_at start (said (notes.Sent serial generation from to bytes) ∷ past)).reply ≡ None
+  sent_none past serial generation from to bytes =
+      let t = target_at start past in
+      let x = taken_on None t.reply t in
+      let writes = is_write_access (access_in_bytes bytes) in
+      cond_none (from == 0) (sent_as (part_of bytes) writes serial x) x (sends_as (part_of bytes) writes serial x ∙ over_none t) (over_none t)
 
   next : (m : Moment) (past : List Moment) → Next m past
   next (asked line event) past = let t = target_at start past in olds (asked line event) past (rests t (over t) (over_none t))

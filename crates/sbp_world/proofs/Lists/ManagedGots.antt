@@ -106,11 +106,11 @@ place_there : (place : ℕ) → place < 2 → window_at (start_of (windows.Manag
 place_there place small = window_here (new_memory []) (start_of (windows.Management place)) (windows.Management place) small (omega arith) (omega arith)
 
 -- it reads elsewhere, or writes
-data Aims (access : Access) : Type 0 where
+pub data Aims (access : Access) : Type 0 where
   elsewhere : NoData access.offset → Aims access
   writes : access.is_write ≡ true → Aims access
 
-aims_by : (phase : Phase) (op : Operation) (access : Access) → AccessOf phase op access → IsInAPlace op → Aims access
+pub aims_by : (phase : Phase) (op : Operation) (access : Access) → AccessOf phase op access → IsInAPlace op → Aims access
 aims_by phases.Orb op access a p =
     elsewhere (subst (λ (x : Access). NoData x.offset) (sym a) (subst NoData (sym p.orb) (no_data (start_of (windows.Management p.place)) (windows.Management p.place) (place_there p.place p.small) (place_data p.place))))
 aims_by (phases.HighEui orb) op access a p = elsewhere (subst (λ (x : Access). NoData x.offset) (sym a) (no_data high_eui_at windows.Rom rom_high rom_data))
@@ -214,17 +214,17 @@ module _ (wild more : ℕ → Bool) (calm : (i : ℕ) → more i ≡ false → w
   all_but (said note ∷ past) managed = (note_but note past managed.0, all_but past managed.1)
 
 -- ---- at each place of a run
-record Kit (start : List Disk) (past : List Moment) (w : WorldState) : Type 0 where
-  ground : Ground start past w
-  office : OfficeSoAt start past w
-  based : IsTameOrFew past → (i : ℕ) → i < length w.initiators → IsCalm past i → EachMoment (BasedAt i) past
-  shorts : AreShort past
+pub record Kit (start : List Disk) (past : List Moment) (w : WorldState) : Type 0 where
+  pub ground : Ground start past w
+  pub office : OfficeSoAt start past w
+  pub based : IsTameOrFew past → (i : ℕ) → i < length w.initiators → IsCalm past i → EachMoment (BasedAt i) past
+  pub shorts : AreShort past
 
 abbrev ManagedSo : List Disk → List Moment → WorldState → Type 0
 ManagedSo start past w = IsTameOrFew past → EachMoment (ManagedAsGot (injectors past) start) past
 
 module _ (short : ShortLaw) where
-  kit_everywhere : EveryPlace Kit
+  pub kit_everywhere : EveryPlace Kit
   kit_everywhere =
       let shorts = shorts_everywhere short in
       let known = logins_known short in

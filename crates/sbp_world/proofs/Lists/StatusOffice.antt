@@ -253,7 +253,7 @@ side_generations weight (sides.Cleared unit) w = refl
 side_generations weight (sides.Unsolicited place) w = refl
 side_generations weight (sides.Unsent place) w = refl
 
-sides_generations : (weight : ℕ) (told : List Side) (w : WorldState) → (told_all weight told w).generations ≡ w.generations
+pub sides_generations : (weight : ℕ) (told : List Side) (w : WorldState) → (told_all weight told w).generations ≡ w.generations
 unfolding told_all
 sides_generations weight [] w = refl
 sides_generations weight (side ∷ later) w = sides_generations weight later (told_side weight side w) ∙ side_generations weight side w

@@ -1,6 +1,7 @@
 -- Which requests of the target have no owner any more while they are under way, by where they go in an initiator's memory (NCITS 325-1998, AGENT_RESET, ABORT TASK SET, resets; command block ORB and page tables):
--- a request for the page table or the buffer of a slot is the main transaction of an agent, or an ORB had the slot whose list was cut before the ORB had ended.
-use Rattle.std.specs.Prelude.{◌≡◌, ◌⊎◌, ◌<◌, ◌≤◌, ℕ, suc, true, List, ◌++◌, length, Some}
+-- a request for the page table or the buffer of a slot, but for a write into the buffer, is the main transaction of an agent, or an ORB had the slot whose list was cut before the ORB had ended.
+use Rattle.std.specs.Prelude.{◌≡◌, ◌⊎◌, ◌<◌, ◌≤◌, ℕ, suc, false, true, List, ◌++◌, length, Some}
+use Rattle.bus_memory.specs.declared.window.Window.TheVariants as windows
 use Rattle.bus_memory.specs.Windows.{window_at}
 use Rattle.rbc_disk.specs.Disk.{Disk}
 use Rattle.sbp_journal.specs.Addresses.{Access}
@@ -18,7 +19,7 @@ use Rattle.sbp_world.specs.Lists.Needs.{IsCalm, initiator_in}
 use Rattle.sbp_world.specs.Lists.OwnReads.{data_slot}
 use Rattle.sbp_world.specs.Lists.SlotsStay.{HasSlot}
 
--- a request of the target to an initiator is under way, and goes there
+-- a request of the target to an initiator is under way, and goes to the page table or the buffer of a slot, but for a write into the buffer
 pub record IsInSlot (past : List Moment) (i slot serial : ℕ) : Type 0 where
   pub from : sender_in ((terms past).sent serial) ≡ Some 0
   pub to : receiver_in ((terms past).sent serial) ≡ Some (suc i)
@@ -26,6 +27,7 @@ pub record IsInSlot (past : List Moment) (i slot serial : ℕ) : Type 0 where
   pub access : Access
   pub is : access_at (terms past) serial ≡ Some access
   pub stands : data_slot (window_at access.offset) ≡ Some slot
+  pub reads : window_at access.offset ≡ Some (windows.Buffer slot) → access.is_write ≡ false
 
 -- An ORB had a slot at a moment, used or at rest, and the target is now in no later generation than its initiator was in then; or the initiator was ahead of it.
 pub data HadSlot (past before : List Moment) (i slot : ℕ) (one : Orb) : Type 0 where
