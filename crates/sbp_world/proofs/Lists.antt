@@ -424,7 +424,6 @@ pub mod UnderwayHosts
 pub mod UnderwayMoments
 pub mod UnderwayRuns
 pub mod UnrunLaws
-pub mod UnrunRuns
 pub mod UnrunTerms
 pub mod UnrunTurns
 pub mod UnrunWalk
@@ -524,7 +523,10 @@ pub mod PlaceOwners
 pub mod PointersHeld
 pub mod PointersTaken
 pub mod PointersGot
+pub mod TurnAway
+pub mod TurnCuts
 pub mod TurnShapes
+pub mod TurnWalk
 pub mod PointersTurn
 pub mod RepliesStayUp
 pub mod SendsLeave

@@ -51,7 +51,7 @@ module _ (F : ℕ → Machine → Type 0) (closed : IsClosed F) (past : List Mom
         by (inr cut) = was_cut cut
 
 -- ---- any call of the target
-module _ (past : List Moment) (w u : WorldState) (places : u.places ≡ w.places) (g : Good w.target) (Given : Type 0) (F : ℕ → Machine → Type 0) (closed : IsClosed F) (layer : Layer Purpose) (node : NodeState) (outbox : OutboxState) (p n : ℕ) (list_is : (holder w p).list ≡ Some n) (up : IsUp (machine_at w p)) (over : (desk_at node p).agent.phase ≡ phases.Reset) where
+module _ (w : WorldState) (g : Good w.target) (Given : Type 0) (F : ℕ → Machine → Type 0) (closed : IsClosed F) (layer : Layer Purpose) (node : NodeState) (outbox : OutboxState) (p : ℕ) (up : IsUp (machine_at w p)) (over : (desk_at node p).agent.phase ≡ phases.Reset) where
   reset_not : (m : Machine) → IsUp m → m.phase ≡ phases.Reset → ⊥
   reset_not m h e = let z : true ≡ false = sym (ap (λ (x : Phase). is_reset (state_in x)) e) ∙ h in cc
 
@@ -67,7 +67,11 @@ module _ (past : List Moment) (w u : WorldState) (places : u.places ≡ w.places
             let apart : p ≡ q → ⊥ = λ f. let z : nat_eq p q ≡ true = grind (arith, nat_tests) in let y : true ≡ false = sym z ∙ e in cc in
             reset_not (machine_at w p) up (sym (ap (λ (m : Machine). m.phase) (a.same p apart)) ∙ over)
 
-  pub call_is_cut : Called w g Given F closed layer (scene node outbox) → is_cut (hist past (handed_out 0 0 outbox u)) (initiator_in w p) n ≡ true
-  call_is_cut (rests c) = reset_is_cut F closed past w u places node outbox c p n list_is (reset_not (machine_at w p) up) over
-  call_is_cut (acts q b h a) = absurd (steps_not q b (is_busy (machine_at w q).phase ≡ true) a)
-  call_is_cut (points q b a) = absurd (steps_not q b (Unit {0}) a)
+  -- no agent makes a step in it
+  pub call_rests : Called w g Given F closed layer (scene node outbox) → Cutting F closed (machine_at w) (scene node outbox)
+  call_rests (rests c) = c
+  call_rests (acts q b h a) = absurd (steps_not q b (is_busy (machine_at w q).phase ≡ true) a)
+  call_rests (points q b a) = absurd (steps_not q b (Unit {0}) a)
+
+  pub call_is_cut : (past : List Moment) (u : WorldState) → u.places ≡ w.places → (n : ℕ) → (holder w p).list ≡ Some n → Called w g Given F closed layer (scene node outbox) → is_cut (hist past (handed_out 0 0 outbox u)) (initiator_in w p) n ≡ true
+  call_is_cut past u places n list_is called = reset_is_cut F closed past w u places node outbox (call_rests called) p n list_is (reset_not (machine_at w p) up) over

@@ -12,8 +12,9 @@ use Rattle.sbp_world.specs.Lists.Closes.{Always, Under}
 use Rattle.sbp_world.specs.Lists.Needs.{initiator_in, is_open_at}
 use Rattle.sbp_world.specs.Lists.Running.{Unrun, UnrunLaw}
 use Rattle.sbp_world.proofs.Lists.Busy.{busy_list}
+use Rattle.sbp_world.proofs.Lists.TurnWalk.{AreNumbered}
 use Rattle.sbp_world.proofs.Lists.UnrunTurns.{AreBusy, IsBusyFor}
-use Rattle.sbp_world.proofs.Lists.UnrunWalk.{AreNumbered, Nothing, busy_walk, first_busy}
+use Rattle.sbp_world.proofs.Lists.UnrunWalk.{Nothing, busy_walk, first_busy}
 use Rattle.sbp_world.proofs.Lists.Walks.{walked_after, walked_between}
 
 unrun_of : (ms : List Moment) (w : WorldState) → AreBusy (injectors ms) ms w → Unrun ms w
