@@ -545,3 +545,5 @@ pub mod CutOffSteps
 pub mod SentLinks
 pub mod SentPurposes
 pub mod SentApart
+pub mod SentInTurn
+pub mod CutOffRuns
