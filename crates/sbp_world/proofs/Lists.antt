@@ -216,6 +216,7 @@ pub mod ManageWrites
 pub mod ManageYoung
 pub mod ManagedGots
 pub mod NobodyGots
+pub mod NobodySince
 pub mod Named
 pub mod NamedWrites
 pub mod Naming

@@ -15,6 +15,7 @@ use Rattle.sbp_world.specs.Lists.DataWrites.{DataSentLaw}
 use Rattle.sbp_world.specs.Lists.FedRuns.{RunsSinceLaw}
 use Rattle.sbp_world.specs.Lists.Live.{LiveLaw}
 use Rattle.sbp_world.specs.Lists.OneUp.{OneUpLaw}
+use Rattle.sbp_world.specs.Lists.NobodyGots.{NobodyAsGotLaw}
 use Rattle.sbp_world.specs.Lists.Opened.{LogoutsLaw}
 use Rattle.sbp_world.specs.Lists.LawfulLists.{ListsLaw}
 use Rattle.sbp_world.specs.Lists.OwnGots.{OwnAsGotLaw}
@@ -118,8 +119,9 @@ waits_law = reads_as_got_law open_lists_law
 pub since_law : RunsSinceLaw
 since_law = runs_since_law open_lists_law
 
-pub feeds_law : ReadAndFedLaw
-feeds_law = read_and_fed_law open_lists_law one_up ahead_gots managed_gots
+-- by what is said of requests of nobody
+pub feeds_law : NobodyAsGotLaw → ReadAndFedLaw
+feeds_law nobody = read_and_fed_law open_lists_law one_up ahead_gots managed_gots nobody
 
 -- how ORBs and their data were read
 pub brought_law : (line : ℕ) (run : Run) → IsRun run → 0 < run.units → run.units ≤ 4 → length run.start.disks ≡ run.units → IsTameOrFew (history_of line run) → AreBrought (injectors (history_of line run)) run.start.disks (history_of line run)
