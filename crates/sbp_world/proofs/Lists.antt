@@ -512,6 +512,7 @@ pub mod NamedPlaces
 pub mod EndNames
 pub mod RunNames
 pub mod CarriedEnds
+pub mod CarriedWhole
 pub mod OneUp
 pub mod SendsLast
 pub mod TurnOrders

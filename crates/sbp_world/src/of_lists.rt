@@ -5,6 +5,7 @@ ghost use Rattle.sbp_world.specs.Lists.Bases.{BasesLaw};
 ghost use Rattle.sbp_world.specs.Lists.Brings.{BringsLaw};
 ghost use Rattle.sbp_world.specs.Lists.CarriedEnds.{WereReadLaw};
 ghost use Rattle.sbp_world.specs.Lists.CarriedRuns.{RunsReadLaw};
+ghost use Rattle.sbp_world.specs.Lists.CarriedWhole.{CarriedRunLaw};
 ghost use Rattle.sbp_world.specs.Lists.FedRuns.{BesideLaw, RunsFedLaw, RunsSinceLaw};
 ghost use Rattle.sbp_world.specs.Lists.GotOnce.{GotOnceLaw};
 ghost use Rattle.sbp_world.specs.Lists.ManagedGots.{ManagedAsGotLaw};
@@ -261,6 +262,15 @@ pub fn what_is_got_since_spares_the_orb_read_ahead()
 #[tactic(auto, using(crate::proofs::Lists::Clauses::feeds_law))]
 pub fn orbs_that_run_were_read_and_fed()
     ensures { NobodyAsGotLaw → ReadAndFedLaw }
+{}
+
+/// In every run in which no initiator injected packets, or few logins were given (`IsTameOrFew`), the carried law holds of the initiators
+/// that injected none: of how the ORB of each run and of each end was read, of what each command runs with, of where commands run, and
+/// of what each answer that is taken was written by; where what is got in answer to nobody begins elsewhere than in the slots of ORBs
+/// of open lists.
+#[tactic(auto, using(crate::proofs::Lists::Clauses::carried_law))]
+pub fn runs_keep_the_carried_law()
+    ensures { NobodyAsGotLaw → CarriedRunLaw }
 {}
 
 /// In every run, where lists were open as they should be before: a response that closed the transaction of a request that was sent,

@@ -10,6 +10,7 @@ use Rattle.sbp_world.proofs.Lists.Executes.{ends_read_law, runs_fed_law, runs_re
 use Rattle.sbp_world.proofs.Lists.ListsProved.{closing}
 use Rattle.sbp_world.specs.Lists.AnswerLengths.{AnswerLengthsLaw}
 use Rattle.sbp_world.specs.Lists.CarriedEnds.{WereReadLaw}
+use Rattle.sbp_world.specs.Lists.CarriedWhole.{CarriedRunLaw}
 use Rattle.sbp_world.specs.Lists.Closes.{OpenListsLaw}
 use Rattle.sbp_world.specs.Lists.DataWrites.{DataSentLaw}
 use Rattle.sbp_world.specs.Lists.FedRuns.{RunsSinceLaw}
@@ -26,6 +27,7 @@ use Rattle.sbp_world.proofs.Lists.AnswerLengths.{answer_lengths_law}
 use Rattle.sbp_world.proofs.Lists.AheadGots.{ahead_as_got_law}
 use Rattle.sbp_world.proofs.Lists.AheadWaits.{waits_as_got_law}
 use Rattle.sbp_world.proofs.Lists.CarriedEnds.{were_read_law}
+use Rattle.sbp_world.proofs.Lists.CarriedWhole.{carried_run_law}
 use Rattle.sbp_world.proofs.Lists.DataLaws as data_laws
 use Rattle.sbp_world.proofs.Lists.DataLaws.{data_sent_law, data_held_law}
 use Rattle.sbp_world.proofs.Lists.FedJoins.{runs_since_law}
@@ -122,6 +124,10 @@ since_law = runs_since_law open_lists_law
 -- by what is said of requests of nobody
 pub feeds_law : NobodyAsGotLaw → ReadAndFedLaw
 feeds_law nobody = read_and_fed_law open_lists_law one_up ahead_gots managed_gots nobody
+
+-- the carried law
+pub carried_law : NobodyAsGotLaw → CarriedRunLaw
+carried_law nobody = carried_run_law (feeds_law nobody) reads_law answers_hold
 
 -- how ORBs and their data were read
 pub brought_law : (line : ℕ) (run : Run) → IsRun run → 0 < run.units → run.units ≤ 4 → length run.start.disks ≡ run.units → IsTameOrFew (history_of line run) → AreBrought (injectors (history_of line run)) run.start.disks (history_of line run)
