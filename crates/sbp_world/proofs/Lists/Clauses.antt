@@ -121,13 +121,16 @@ waits_law = reads_as_got_law open_lists_law
 pub since_law : RunsSinceLaw
 since_law = runs_since_law open_lists_law
 
--- by what is said of requests of nobody
-pub feeds_law : NobodyAsGotLaw → ReadAndFedLaw
-feeds_law nobody = read_and_fed_law open_lists_law one_up ahead_gots managed_gots nobody
+-- what answers nobody
+pub nobody_as_got : NobodyAsGotLaw
+nobody_as_got = ?
+
+pub feeds_law : ReadAndFedLaw
+feeds_law = read_and_fed_law open_lists_law one_up ahead_gots managed_gots nobody_as_got
 
 -- the carried law
-pub carried_law : NobodyAsGotLaw → CarriedRunLaw
-carried_law nobody = carried_run_law (feeds_law nobody) reads_law answers_hold
+pub carried_law : CarriedRunLaw
+carried_law = carried_run_law feeds_law reads_law answers_hold
 
 -- how ORBs and their data were read
 pub brought_law : (line : ℕ) (run : Run) → IsRun run → 0 < run.units → run.units ≤ 4 → length run.start.disks ≡ run.units → IsTameOrFew (history_of line run) → AreBrought (injectors (history_of line run)) run.start.disks (history_of line run)
