@@ -5,6 +5,7 @@ ghost use Rattle.sbp_world.specs.Lists.Bases.{BasesLaw};
 ghost use Rattle.sbp_world.specs.Lists.Brings.{BringsLaw};
 ghost use Rattle.sbp_world.specs.Lists.CarriedEnds.{WereReadLaw};
 ghost use Rattle.sbp_world.specs.Lists.CarriedRuns.{RunsReadLaw};
+ghost use Rattle.sbp_world.specs.Lists.CarriedWhole.{CarriedRunLaw};
 ghost use Rattle.sbp_world.specs.Lists.FedRuns.{BesideLaw, RunsFedLaw, RunsSinceLaw};
 ghost use Rattle.sbp_world.specs.Lists.GotOnce.{GotOnceLaw};
 ghost use Rattle.sbp_world.specs.Lists.ManagedGots.{ManagedAsGotLaw};
@@ -257,11 +258,18 @@ pub fn what_is_got_since_spares_the_orb_read_ahead()
 /// In every run in which no initiator injected packets, or few logins were given (`IsTameOrFew`), the response that brought the ORB of
 /// each run of an initiator that injected none, as the carried law has it, is the one behind which its agent turned to it, and as each
 /// packet was got since then the agent waited for an answer of the initiator: the buffer and the data of the command are those by all
-/// that the target got of the initiator since the response, where what answers no agent begins elsewhere than in the ORB's slot; and
-/// so they are wherever what answers nobody does.
+/// that the target got of the initiator since the response, so the carried law holds of the run.
 #[tactic(auto, using(crate::proofs::Lists::Clauses::feeds_law))]
 pub fn orbs_that_run_were_read_and_fed()
     ensures { ReadAndFedLaw }
+{}
+
+/// In every run in which no initiator injected packets, or few logins were given (`IsTameOrFew`), the carried law holds of the initiators
+/// that injected none: of how the ORB of each run and of each end was read, of what each command runs with, of where commands run, and
+/// of what each answer that is taken was written by.
+#[tactic(auto, using(crate::proofs::Lists::Clauses::carried_law))]
+pub fn runs_keep_the_carried_law()
+    ensures { CarriedRunLaw }
 {}
 
 /// In every run, where lists were open as they should be before: a response that closed the transaction of a request that was sent,
