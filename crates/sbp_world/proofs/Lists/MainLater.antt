@@ -11,7 +11,7 @@ use Rattle.sbp_journal.specs.Transactions.{Part}
 use Rattle.sbp_laws.specs.Packets.{access_in_bytes}
 use Rattle.sbp_laws.specs.Targets.{Agent, Target, agent_at, for_agent, for_manager, for_nobody, is_serial, is_write_access, new_agent, over, purpose_among, purpose_of, sends_of, sent_as, sent_for, taken_on, target_at, wants, wants_it}
 use Rattle.sbp_world.specs.Agents.Crews.{agent_in}
-use Rattle.sbp_world.specs.Lists.LetsGo.{IsAnswered, IsCut, IsSentFor, MainStaysLaw, NobodysLaw, SentForLaw, WasLetGo, as_ahead, as_main, as_management, as_unsolicited}
+use Rattle.sbp_world.specs.Lists.LetsGo.{IsAnswered, IsCut, MainStaysLaw, WasLetGo}
 use Rattle.sbp_world.proofs.Lists.MainStays.{over_or_answered, stays_or}
 use Rattle.std.proofs.lemmas.Bool.Decides.{nat_tests}
 
