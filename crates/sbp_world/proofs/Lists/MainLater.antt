@@ -1,18 +1,13 @@
 -- In every history what was the main transaction of the agent of a place is that still, or the agent let it go by a reply or in RESET; and what a request of the target is for as it is sent.
-use Rattle.std.proofs.Common.{arith, get_or-set_same, ◌≡◌, ◌∙◌, refl, sym, ap, subst, inl, inr, ◌⊎◌, ◌==◌, ◌||◌, ℕ, zero, suc, ◌+◌, Bool, true, false, cond, List, [], ◌∷◌, ◌++◌, Option, Some, None}
-use Rattle.std.specs.Prelude.{position, slice_set}
-use Rattle.std.proofs.lemmas.List.Quantifiers.{position-Some}
+use Rattle.std.proofs.Common.{arith, ◌≡◌, ◌∙◌, refl, sym, ap, inl, inr, ◌⊎◌, ◌==◌, ℕ, zero, suc, ◌+◌, Bool, true, false, cond, List, [], ◌∷◌, ◌++◌, Option, Some, None}
 use Rattle.command_agent.specs.declared.step.Which.{Which}
 use Rattle.command_agent.specs.declared.step.Which.TheVariants.{Ahead, Main}
-use Rattle.orb_layout.specs.declared.ask.Ask.TheVariants.{Nothing}
 use Rattle.rbc_disk.specs.Disk.{Disk}
 use Rattle.sbp_journal.specs.Run.{Moment}
-use Rattle.sbp_journal.specs.Transactions.{Part}
-use Rattle.sbp_laws.specs.Packets.{access_in_bytes}
-use Rattle.sbp_laws.specs.Targets.{Agent, Target, agent_at, for_agent, for_manager, for_nobody, is_serial, is_write_access, new_agent, over, purpose_among, purpose_of, sends_of, sent_as, sent_for, taken_on, target_at, wants, wants_it}
+use Rattle.sbp_laws.specs.Targets.{Agent, Target, agent_at, for_agent, for_manager, for_nobody, is_serial, purpose_among, purpose_of, target_at}
 use Rattle.sbp_world.specs.Agents.Crews.{agent_in}
 use Rattle.sbp_world.specs.Lists.LetsGo.{IsAnswered, IsCut, MainStaysLaw, WasLetGo}
-use Rattle.sbp_world.proofs.Lists.MainStays.{over_or_answered, stays_or}
+use Rattle.sbp_world.proofs.Lists.MainStays.{stays_or}
 use Rattle.std.proofs.lemmas.Bool.Decides.{nat_tests}
 
 no : {A : Type 0} → false ≡ true → A

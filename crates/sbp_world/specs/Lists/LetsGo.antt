@@ -6,11 +6,10 @@ use Rattle.command_agent.specs.Machine.{is_sent}
 use Rattle.bus_transactions.specs.Packets.{SerialsCount}
 use Rattle.rbc_disk.specs.Disk.{Disk}
 use Rattle.sbp_journal.specs.Run.{Moment, said}
-use Rattle.sbp_journal.specs.Transactions.{Kind, part_of, request}
 use Rattle.sbp_journal.specs.Wire.{terms}
 use Rattle.sbp_journal.specs.declared.note.Note.TheVariants as notes
 use Rattle.sbp_laws.specs.Packets.{answered_at, is_under_way, sender_in}
-use Rattle.sbp_laws.specs.Targets.{Agent, Reply, Target, agent_at, for_nobody, is_nothing, is_serial, known_at, over, purpose_of, target_at}
+use Rattle.sbp_laws.specs.Targets.{Agent, Reply, agent_at, for_nobody, is_nothing, is_serial, known_at, over, purpose_of, target_at}
 
 -- An agent has one main transaction at most: none where it waits for none by its phase, and none while it asks for one.
 pub record HasOneMain (a : Agent) : Type 0 where
