@@ -1,21 +1,18 @@
 -- After each line of a run the terms of its history are the states of the two ends of its world.
-use Rattle.std.proofs.Common.{◌≡◌, ◌∙◌, refl, sym, subst, ◌<◌, ◌≤◌, ℕ, true, List, [], length, Some, None}
+use Rattle.std.proofs.Common.{◌≡◌, refl, sym, subst, ◌<◌, ◌≤◌, ℕ, true, List, [], length}
 use Rattle.command_agent.specs.declared.phase.Phase.{Phase}
 use Rattle.command_agent.specs.declared.phase.Phase.TheVariants as phases
 use Rattle.rbc_disk.specs.Disk.{Disk}
 use Rattle.sbp_journal.specs.Run.{Moment}
-use Rattle.sbp_laws.specs.CarriedBytes.{open_list}
 use Rattle.sbp_world.specs.Agents.Alike.{has_list}
 use Rattle.sbp_world.specs.Histories.{history_of}
 use Rattle.sbp_world.specs.Hosts.Runs.{IsRun}
-use Rattle.sbp_world.specs.Lists.Closes.{OpenListsLaw}
 use Rattle.sbp_world.specs.Lists.FewLogins.{IsTameOrFew}
 use Rattle.sbp_world.specs.Lists.Needs.{IsCalm, IsOpenAt, initiator_in, machine_at}
 use Rattle.sbp_world.specs.Lists.OneUp.{AreApart}
 use Rattle.sbp_world.specs.Making.{ready_logins}
 use Rattle.sbp_world.specs.Runs.{Run, after, beginning}
-use Rattle.sbp_world.specs.Telling.{holder}
-use Rattle.sbp_world.specs.Wire.States.{AreClosed, AreInitiators, AreOpenLists, AreStates, HasOpen, IsOpenList, IsTarget}
+use Rattle.sbp_world.specs.Wire.States.{AreClosed, AreInitiators, AreOpenLists, AreStates, IsTarget}
 use Rattle.sbp_world.specs.Worlds.{Scene, WorldState}
 use Rattle.sbp_world.proofs.Agents.AskedRuns.{asked_run_law}
 use Rattle.sbp_world.proofs.Agents.CrewRuns.{agents_run_law, serials_law}
@@ -120,7 +117,6 @@ module _ (line : ℕ) (run : Run) (r : IsRun run) (has : 0 < run.units) (small :
 
     pub are_open_lists : AreOpenLists start past s.world
     are_open_lists =
-        let ms = hist holds.past s.world in
         subst (λ ms. AreOpenLists start ms s.world) holds.is
         (open_at run.units logins has start holds.past s.world holds.holds site
         (subst (λ ms. AreNaming start ms s.world) (sym holds.is) naming)
