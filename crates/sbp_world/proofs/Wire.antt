@@ -56,4 +56,5 @@ pub mod Spent
 pub mod OnceHere
 pub mod Brings
 pub mod Entries
+pub mod States
 pub mod Keeping

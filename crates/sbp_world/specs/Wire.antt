@@ -3,4 +3,5 @@ pub mod Wires
 pub mod History
 pub mod Journal
 pub mod Lines
+pub mod States
 pub mod Keeping

@@ -36,6 +36,7 @@ use Rattle.sbp_world.proofs.Hosts.SentMoments.{sent_below}
 use Rattle.sbp_world.specs.Lists.Lists.{orbs}
 use Rattle.sbp_world.specs.Lists.Needs.{IsCalm, IsOpenAt, initiator_in, machine_at}
 use Rattle.sbp_world.specs.Lists.OneUp.{AreApart}
+use Rattle.sbp_world.specs.Lists.Opened.{IsUp}
 use Rattle.sbp_world.specs.Lists.FewLogins.{IsTameOrFew}
 use Rattle.sbp_world.proofs.Lists.LiveRuns.{goes_calm}
 use Rattle.sbp_world.proofs.Lists.Awaited.{Awaits, waits_as}
@@ -48,7 +49,7 @@ use Rattle.sbp_world.proofs.Lists.PointersHeld.{AllHold, ends_turn, is_alive, no
 use Rattle.sbp_world.proofs.Lists.PointersRuns.{AreNaming, NamesList, alive_list}
 use Rattle.sbp_world.proofs.Lists.ReadSlots.{under_as}
 use Rattle.sbp_world.proofs.Lists.SendsLast.{AllSends}
-use Rattle.sbp_world.proofs.Lists.SendsLeave.{Leaves, SameIds, beyond_down, one_open, over_leaves, same_initiator, sends_ids, sends_leave, sends_lists, sends_named, then_left}
+use Rattle.sbp_world.proofs.Lists.SendsLeave.{Leaves, SameIds, beyond_down, no_open, one_open, over_leaves, same_initiator, sends_ids, sends_leave, sends_lists, sends_named, then_left}
 use Rattle.sbp_world.proofs.Lists.Sites.{Site, Waiting, waiting, who_up}
 use Rattle.sbp_world.proofs.Lists.StillTurns.{Ground, site_at}
 use Rattle.sbp_world.proofs.Lists.TurnSends.{SentLast, since_turn}
@@ -124,20 +125,96 @@ module _ (start : List Disk) where
   over_left ns past q =
       let t = target_at start (map said ns ++ past) in then_left (target_at start past) t (over t) (sends_leave start ns past q) (over_leaves t)
 
--- ---- behind a turn
-module _ (units ready : ℕ) (has : 0 < units) (start : List Disk) (past : List Moment) (v : WorldState) {lines : ℕ} (h : Holding units ready start past lines v) (q : Ground start (hist past v) v) (beside : IsTameOrFew (hist past v)) (naming : AreNaming start (hist past v) v) (apart : AreApart (hist past v) v) (place : ℕ) (b : place < 8) (which : Which) (serial i : ℕ) (r : ReadsOf start (hist past v) place which serial i) (last : SentLast (hist past v) serial) where
+-- ---- which list is open, by the history before the last packets of a turn
+module _ (units ready : ℕ) (has : 0 < units) (start : List Disk) (past : List Moment) (v : WorldState) {lines : ℕ} (h : Holding units ready start past lines v) (site : Site start past v) (then : List Moment) (behind : List Note) (sends : AllSends behind) (is : map said behind ++ then ≡ hist past v) where
   abbrev now : List Moment
   now = hist past v
 
   abbrev T : Target
   T = over (target_at start now)
 
-  -- before the packet
-  abbrev then : List Moment
-  then = before_sent now serial
-
   abbrev t : Target
   t = target_at start then
+
+  leaves : Leaves t T
+  leaves = subst (λ ms. Leaves t (over (target_at start ms))) is (over_left start behind then sends)
+
+  hold : AllHold t.agents T.agents
+  hold = subst (λ ms. AllHold t.agents (over (target_at start ms)).agents) is (over_hold start behind then sends)
+
+  phase_same : (p : ℕ) → p < 8 → (agent_at T p).machine.phase ≡ (machine_at v p).phase
+  phase_same p c = (site.agents.are.each p c).machine.phase
+
+  initiator_same : (p : ℕ) → term_initiator T (terms now) p ≡ term_initiator t (terms then) p
+  initiator_same p =
+      let ids = subst (λ ms. SameIds (terms then) (terms ms)) is (sends_ids behind then sends) in same_initiator (terms then) (terms now) t T ids leaves.table p
+
+  -- an agent that is out of RESET, by that history, is so at its place, which is its initiator's
+  up_at : (p : ℕ) → p < 8 → is_up (agent_in t.agents p).machine ≡ true → is_up (machine_at v p) ≡ true
+  up_at p c u = ap (λ (phase : Phase). not (is_reset (state_in phase))) (sym (phase_same p c)) ∙ leaves.up p u
+
+  owner : (p : ℕ) (c : p < 8) → is_up (machine_at v p) ≡ true → term_initiator t (terms then) p ≡ initiator_in v p
+  owner p c u = sym (initiator_same p) ∙ (who_up units ready has start v h site p c (up_state (is_reset (state_in (machine_at v p).phase)) u)).same
+
+  up_of : (i j k : ℕ) → 0 + j ≡ k → is_up (agent_in t.agents j).machine ≡ true → term_initiator t (terms then) k ≡ i → (j < 8) × IsUp v i j
+  up_of i j k at u e = by (nat_lt j 8) refl
+    where
+      same : k ≡ j
+      same = omega (arith, at)
+
+      by : (x : Bool) → nat_lt j 8 ≡ x → (j < 8) × IsUp v i j
+      by true f =
+          let c : j < 8 = grind (arith, nat_tests) in
+          let there = up_at j c u in
+          (c, record { up = there; own = sym (owner j c there) ∙ (ap (term_initiator t (terms then)) (sym same) ∙ e) })
+      by false f =
+          let far : 8 ≤ j = grind (arith, nat_tests) in
+          beyond_down T.agents j ((j < 8) × IsUp v i j) (let z = site.agents.are.size in omega (arith, z, far)) (leaves.up j u)
+
+  -- An initiator of whose agents none is out of RESET has no open list.
+  pub none_open : (i : ℕ) → ((place : ℕ) → place < 8 → IsUp v i place → ⊥) → open_list start then i ≡ None
+  none_open i none = no_open then (terms then) t i 0 t.agents (λ j k at u e. let x = up_of i j k at u e in none j x.0 x.1)
+
+  -- The list of an agent that is not about to be dead is the open one of its initiator.
+  module _ (naming : AreNaming start now v) (apart : AreApart now v) (place : ℕ) (b : place < 8) (alive : is_alive (machine_at v place).phase ≡ true) (calm : IsCalm now (initiator_in v place)) (o : IsOpenAt now v place) where
+    abbrev i : ℕ
+    i = initiator_in v place
+
+    held : ((agent_at T place).pointer ≡ (agent_at t place).pointer) × (is_alive (agent_at t place).machine.phase ≡ true)
+    held = hold place (ap is_alive (phase_same place b) ∙ alive)
+
+    abbrev name : NamesList now i o.n (agent_at T place).pointer
+    name = naming place b alive calm o.n o.list
+
+    list_is : list_in (pointed_in then i (agent_at t place).pointer) ≡ Some o.n
+    list_is =
+        let so = slot_of name.address in
+        let here : named_in now i so ≡ named_in then i so = subst (λ ms. named_in ms i so ≡ named_in then i so) is (sends_named behind then i so sends) in
+        ap (λ p. list_in (pointed_in then i p)) (sym held.0 ∙ name.is) ∙ (ap list_in (sym here) ∙ name.list)
+
+    -- the place is the initiator's, and no other one of it has an agent out of RESET
+    up_here : is_up (agent_in t.agents place).machine ≡ true
+    up_here = listing_up (agent_in t.agents place).machine.phase (alive_list (agent_in t.agents place).machine.phase held.1)
+
+    own : term_initiator t (terms then) place ≡ i
+    own = owner place b (up_at place b up_here)
+
+    alone : (j k : ℕ) → 0 + j ≡ k → is_up (agent_in t.agents j).machine ≡ true → term_initiator t (terms then) k ≡ i → j ≡ place
+    alone j k at u e =
+        let x = up_of i j k at u e in
+        apart i place j calm b x.0 (record { up = up_at place b up_here; own = refl }) x.1
+
+    pub open_is : open_list start then i ≡ Some o.n
+    open_is = one_open then (terms then) t i o.n 0 t.agents place place (let z : 0 + place ≡ place = omega arith in z) up_here own list_is alone
+
+    pub latest_is : suc o.n ≡ lists then i
+    latest_is = o.still.latest ∙ subst (λ ms. lists ms i ≡ lists then i) is (sends_lists behind then i sends)
+
+-- ---- behind a turn
+module _ (units ready : ℕ) (has : 0 < units) (start : List Disk) (past : List Moment) (v : WorldState) {lines : ℕ} (h : Holding units ready start past lines v) (q : Ground start (hist past v) v) (beside : IsTameOrFew (hist past v)) (naming : AreNaming start (hist past v) v) (apart : AreApart (hist past v) v) (place : ℕ) (b : place < 8) (which : Which) (serial i : ℕ) (r : ReadsOf start (hist past v) place which serial i) (last : SentLast (hist past v) serial) where
+  -- before the packet
+  abbrev then : List Moment
+  then = before_sent (hist past v) serial
 
   site : Site start past v
   site = site_at start past v q
@@ -148,10 +225,10 @@ module _ (units ready : ℕ) (has : 0 < units) (start : List Disk) (past : List 
   i_is : i ≡ initiator_in v place
   i_is = same_number i (initiator_in v place) (sym r.to ∙ asked.to)
 
-  calm : IsCalm now (initiator_in v place)
-  calm = subst (IsCalm now) i_is r.calm
+  calm : IsCalm (hist past v) (initiator_in v place)
+  calm = subst (IsCalm (hist past v)) i_is r.calm
 
-  abbrev o : IsOpenAt now v place
+  abbrev o : IsOpenAt (hist past v) v place
   o = (q.lists beside).listed place b asked.is_open calm
 
   same_access : (a c : Access) → Some a ≡ Some c → a ≡ c
@@ -161,7 +238,7 @@ module _ (units ready : ℕ) (has : 0 < units) (start : List Disk) (past : List 
   reads = ap (λ (x : Access). x.is_write) (same_access asked.access r.access (sym asked.is ∙ r.is)) ∙ r.reads
 
   abbrev fifo : ℕ
-  fifo = fifo_in (term_login T place)
+  fifo = fifo_in (term_login (over (target_at start (hist past v))) place)
 
   alive : is_alive (machine_at v place).phase ≡ true
   alive = by which asked.asks
@@ -170,70 +247,17 @@ module _ (units ready : ℕ) (has : 0 < units) (start : List Disk) (past : List 
       by Main a = main_alive asked.status fifo asked.access reads (machine_at v place).phase (machine_at v place) asked.is_open a
       by Ahead a =
           let goes = q.along.all place b asked.is_open calm o.n o.list in
-          ahead_alive asked.status fifo asked.access reads (machine_at v place).phase (machine_at v place) (orbs now (initiator_in v place) o.n) goes.progress asked.is_open goes.along.ahead a
-
-  leaves : Leaves t T
-  leaves = subst (λ ms. Leaves t (over (target_at start ms))) last.is (over_left start last.behind then last.are_sends)
-
-  hold : AllHold t.agents T.agents
-  hold = subst (λ ms. AllHold t.agents (over (target_at start ms)).agents) last.is (over_hold start last.behind then last.are_sends)
-
-  phase_same : (p : ℕ) → p < 8 → (agent_at T p).machine.phase ≡ (machine_at v p).phase
-  phase_same p c = (site.agents.are.each p c).machine.phase
-
-  held : ((agent_at T place).pointer ≡ (agent_at t place).pointer) × (is_alive (agent_at t place).machine.phase ≡ true)
-  held = hold place (ap is_alive (phase_same place b) ∙ alive)
-
-  abbrev name : NamesList now (initiator_in v place) o.n (agent_at T place).pointer
-  name = naming place b alive calm o.n o.list
-
-  list_is : list_in (pointed_in then i (agent_at t place).pointer) ≡ Some o.n
-  list_is =
-      let so = slot_of name.address in
-      let here : named_in now i so ≡ named_in then i so = subst (λ ms. named_in ms i so ≡ named_in then i so) last.is (sends_named last.behind then i so last.are_sends) in
-      ap (λ p. list_in (pointed_in then i p)) (sym held.0 ∙ name.is)
-      ∙ (ap list_in (sym here) ∙ subst (λ j. list_in (named_in now j so) ≡ Some o.n) (sym i_is) name.list)
-
-  initiator_same : (p : ℕ) → term_initiator T (terms now) p ≡ term_initiator t (terms then) p
-  initiator_same p =
-      let ids = subst (λ ms. SameIds (terms then) (terms ms)) last.is (sends_ids last.behind then last.are_sends) in same_initiator (terms then) (terms now) t T ids leaves.table p
-
-  -- the place is the initiator's, and no other one of it has an agent out of RESET
-  up_at : (p : ℕ) → p < 8 → is_up (agent_in t.agents p).machine ≡ true → is_up (machine_at v p) ≡ true
-  up_at p c u = ap (λ (phase : Phase). not (is_reset (state_in phase))) (sym (phase_same p c)) ∙ leaves.up p u
-
-  owner : (p : ℕ) (c : p < 8) → is_up (machine_at v p) ≡ true → term_initiator t (terms then) p ≡ initiator_in v p
-  owner p c u = sym (initiator_same p) ∙ (who_up units ready has start v h site p c (up_state (is_reset (state_in (machine_at v p).phase)) u)).same
-
-  up_here : is_up (agent_in t.agents place).machine ≡ true
-  up_here = listing_up (agent_in t.agents place).machine.phase (alive_list (agent_in t.agents place).machine.phase held.1)
-
-  own : term_initiator t (terms then) place ≡ i
-  own = owner place b (up_at place b up_here) ∙ sym i_is
-
-  alone : (j k : ℕ) → 0 + j ≡ k → is_up (agent_in t.agents j).machine ≡ true → term_initiator t (terms then) k ≡ i → j ≡ place
-  alone j k at u e = by (nat_lt j 8) refl
-    where
-      same : k ≡ j
-      same = omega (arith, at)
-
-      by : (x : Bool) → nat_lt j 8 ≡ x → j ≡ place
-      by true f =
-          let c : j < 8 = grind (arith, nat_tests) in
-          let there = up_at j c u in
-          let of_it : initiator_in v j ≡ i = sym (owner j c there) ∙ (ap (term_initiator t (terms then)) (sym same) ∙ e) in
-          apart i place j r.calm b c (record { up = up_at place b up_here; own = sym i_is }) (record { up = there; own = of_it })
-      by false f =
-          let far : 8 ≤ j = grind (arith, nat_tests) in
-          beyond_down T.agents j (j ≡ place) (let z = site.agents.are.size in omega (arith, z, far)) (leaves.up j u)
+          ahead_alive asked.status fifo asked.access reads (machine_at v place).phase (machine_at v place) (orbs (hist past v) (initiator_in v place) o.n) goes.progress asked.is_open goes.along.ahead a
 
   pub opened_last : IsOpenThen start then i
   opened_last = record {
     n = o.n;
-    opened = one_open then (terms then) t i o.n 0 t.agents place place (let z : 0 + place ≡ place = omega arith in z) up_here own list_is alone;
+    opened =
+        subst (λ j. open_list start then j ≡ Some o.n) (sym i_is)
+        (open_is units ready has start past v h site then last.behind last.are_sends last.is naming apart place b alive calm o);
     latest =
-        subst (λ j. suc o.n ≡ lists now j) (sym i_is) o.still.latest
-        ∙ subst (λ ms. lists ms i ≡ lists then i) last.is (sends_lists last.behind then i last.are_sends);
+        subst (λ j. suc o.n ≡ lists then j) (sym i_is)
+        (latest_is units ready has start past v h site then last.behind last.are_sends last.is naming apart place b alive calm o);
   }
 
 -- ---- a turn

@@ -167,7 +167,7 @@ sends_lists [] past i q = refl
 sends_lists (notes.Sent serial generation from to bytes ∷ ns) past i q = sends_lists ns past i q.1
 sends_lists (note ∷ ns) past i q = absurd q.0
 
--- ---- the open list of an initiator that has one agent out of RESET
+-- ---- the open list of an initiator that has one agent out of RESET, or none
 new_down : (p : ℕ) (A : Type 0) → is_up (agent_in [] p).machine ≡ true → A
 new_down zero A e = untrue e
 new_down (suc p) A e = untrue e
@@ -177,11 +177,11 @@ beyond_down [] p A l e = new_down p A e
 beyond_down (a ∷ agents) zero A l e = absurd (omega (arith, l))
 beyond_down (a ∷ agents) (suc p) A l e = beyond_down agents p A (omega (arith, l)) e
 
-module _ (past : List Moment) (wire : Terms) (target : Target) (i n : ℕ) where
-  passed : (place : ℕ) (a : Agent) (agents : List Agent) → (is_up a.machine ≡ true → initiator_at target wire place ≡ i → ⊥) → open_among past wire target i (place + 1) agents ≡ Some n → open_among past wire target i place (a ∷ agents) ≡ Some n
-  passed place a agents other rest = by (is_up a.machine) (nat_eq (initiator_at target wire place) i) refl refl
+module _ (past : List Moment) (wire : Terms) (target : Target) (i : ℕ) where
+  passed : (found : Option ℕ) (place : ℕ) (a : Agent) (agents : List Agent) → (is_up a.machine ≡ true → initiator_at target wire place ≡ i → ⊥) → open_among past wire target i (place + 1) agents ≡ found → open_among past wire target i place (a ∷ agents) ≡ found
+  passed found place a agents other rest = by (is_up a.machine) (nat_eq (initiator_at target wire place) i) refl refl
     where
-      by : (x y : Bool) → is_up a.machine ≡ x → nat_eq (initiator_at target wire place) i ≡ y → cond (is_up a.machine && nat_eq (initiator_at target wire place) i) (list_of past i a) (open_among past wire target i (place + 1) agents) ≡ Some n
+      by : (x y : Bool) → is_up a.machine ≡ x → nat_eq (initiator_at target wire place) i ≡ y → cond (is_up a.machine && nat_eq (initiator_at target wire place) i) (list_of past i a) (open_among past wire target i (place + 1) agents) ≡ found
       by true true e f = absurd (other e (grind (arith, nat_tests)))
       by true false e f =
           ap (λ b. cond (b && nat_eq (initiator_at target wire place) i) (list_of past i a) (open_among past wire target i (place + 1) agents)) e
@@ -189,13 +189,21 @@ module _ (past : List Moment) (wire : Terms) (target : Target) (i n : ℕ) where
       by false y e f =
           ap (λ b. cond (b && nat_eq (initiator_at target wire place) i) (list_of past i a) (open_among past wire target i (place + 1) agents)) e ∙ rest
 
-  pub one_open : (place : ℕ) (agents : List Agent) (k p : ℕ) → place + k ≡ p → is_up (agent_in agents k).machine ≡ true → initiator_at target wire p ≡ i → list_of past i (agent_in agents k) ≡ Some n → ((j q : ℕ) → place + j ≡ q → is_up (agent_in agents j).machine ≡ true → initiator_at target wire q ≡ i → j ≡ k) → open_among past wire target i place agents ≡ Some n
-  one_open place [] k p at up own list alone = new_down k (open_among past wire target i place [] ≡ Some n) up
-  one_open place (a ∷ agents) zero p at up own list alone =
-      let here : place ≡ p = omega (arith, at) in
-      let z : nat_eq (initiator_at target wire place) i ≡ true = let y = ap (initiator_at target wire) here ∙ own in grind (arith, nat_tests) in
-      ap (λ b. cond (b && nat_eq (initiator_at target wire place) i) (list_of past i a) (open_among past wire target i (place + 1) agents)) up
-      ∙ (ap (λ b. cond (true && b) (list_of past i a) (open_among past wire target i (place + 1) agents)) z ∙ list)
-  one_open place (a ∷ agents) (suc k) p at up own list alone =
-      passed place a agents (λ e f. let z = alone 0 place (omega arith) e f in omega (arith, z))
-      (one_open (place + 1) agents k p (omega (arith, at)) up own list (λ j q b u o. let e = alone (suc j) q (omega (arith, b)) u o in omega (arith, e)))
+  -- of one that has none out of RESET
+  pub no_open : (place : ℕ) (agents : List Agent) → ((j q : ℕ) → place + j ≡ q → is_up (agent_in agents j).machine ≡ true → initiator_at target wire q ≡ i → ⊥) → open_among past wire target i place agents ≡ None
+  no_open place [] none = refl
+  no_open place (a ∷ agents) none =
+      passed None place a agents (none 0 place (omega arith))
+      (no_open (place + 1) agents (λ j q b u o. none (suc j) q (omega (arith, b)) u o))
+
+  module _ (n : ℕ) where
+    pub one_open : (place : ℕ) (agents : List Agent) (k p : ℕ) → place + k ≡ p → is_up (agent_in agents k).machine ≡ true → initiator_at target wire p ≡ i → list_of past i (agent_in agents k) ≡ Some n → ((j q : ℕ) → place + j ≡ q → is_up (agent_in agents j).machine ≡ true → initiator_at target wire q ≡ i → j ≡ k) → open_among past wire target i place agents ≡ Some n
+    one_open place [] k p at up own list alone = new_down k (open_among past wire target i place [] ≡ Some n) up
+    one_open place (a ∷ agents) zero p at up own list alone =
+        let here : place ≡ p = omega (arith, at) in
+        let z : nat_eq (initiator_at target wire place) i ≡ true = let y = ap (initiator_at target wire) here ∙ own in grind (arith, nat_tests) in
+        ap (λ b. cond (b && nat_eq (initiator_at target wire place) i) (list_of past i a) (open_among past wire target i (place + 1) agents)) up
+        ∙ (ap (λ b. cond (true && b) (list_of past i a) (open_among past wire target i (place + 1) agents)) z ∙ list)
+    one_open place (a ∷ agents) (suc k) p at up own list alone =
+        passed (Some n) place a agents (λ e f. let z = alone 0 place (omega arith) e f in omega (arith, z))
+        (one_open (place + 1) agents k p (omega (arith, at)) up own list (λ j q b u o. let e = alone (suc j) q (omega (arith, b)) u o in omega (arith, e)))

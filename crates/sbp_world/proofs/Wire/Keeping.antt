@@ -9,12 +9,15 @@ use Rattle.sbp_world.proofs.Lists.GrantRuns.{few_logins_law}
 use Rattle.sbp_world.proofs.Standing.{begins, goes_on, settles}
 use Rattle.sbp_world.proofs.Wire.Entries.{bus_law}
 use Rattle.sbp_world.proofs.Wire.Runs.{all_runs}
+use Rattle.sbp_world.proofs.Wire.States.{are_open_lists, are_states}
+use Rattle.sbp_world.specs.Histories.{history_of}
 use Rattle.sbp_world.specs.Hosts.Runs.{IsRun}
 use Rattle.sbp_world.specs.Lines.{Happens}
 use Rattle.sbp_world.specs.Making.{new_world}
 use Rattle.sbp_world.specs.Runs.{AreEntries, Run, StandsFor, beginning}
 use Rattle.sbp_world.specs.Settling.{HasSettled, Settles}
 use Rattle.sbp_world.specs.Wire.Keeping.{BeginsLawfully, HasLaws, IsLikeAScripts, KeepsLaws, SettlesLawfully, StandsLawfully}
+use Rattle.sbp_world.specs.Wire.States.{AreOpenLists, AreStates}
 use Rattle.sbp_world.specs.Worlds.{Scene, WorldState, scene, without_notes}
 
 laws_of : (run : Run) → AreEntries (beginning run) run.entries → (first : ℕ) → IsLikeAScripts run → HasLaws first run
@@ -33,8 +36,17 @@ laws_of run are first is =
       lengths = λ some most. lengths_law.lengths first run bounds some most (sym is.media);
     }
 
+-- the scene that stands for a run is the one behind its lines
 lawfully : (run : Run) (s : Scene) → StandsFor run s → StandsLawfully run s
-lawfully run s stands = record { stands = stands; has_laws = laws_of run stands.lines }
+lawfully run s stands =
+    let bounds : IsLikeAScripts run → IsRun run = λ is. record { few = is.few; short = is.count; entries = stands.lines; lines = is.lines } in
+    record {
+      stands = stands;
+      has_laws = laws_of run stands.lines;
+      states = λ first is some most. subst (AreStates run.start.disks (history_of first run)) (sym stands.state) (are_states first run (bounds is) some most (sym is.media));
+      open_lists = λ first is some most tame.
+          subst (λ (x : Scene). AreOpenLists run.start.disks (history_of first run) x.world) (sym stands.state) (are_open_lists first run (bounds is) some most (sym is.media) tame);
+    }
 
 pub begins_lawfully : (initiators : ℕ) (ready : Bool) (units : ℕ) (world : WorldState) → world ≡ new_world initiators ready units → BeginsLawfully initiators ready units world
 begins_lawfully initiators ready units world e start =

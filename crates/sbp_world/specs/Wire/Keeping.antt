@@ -19,6 +19,7 @@ use Rattle.sbp_world.specs.Runs.{Run, StandsFor, entry, with_entry}
 use Rattle.sbp_world.specs.Wire.History.{IsOfWire}
 use Rattle.sbp_world.specs.Wire.Journal.{journal_run}
 use Rattle.sbp_world.specs.Wire.Lines.{AreLines}
+use Rattle.sbp_world.specs.Wire.States.{AreOpenLists, AreStates}
 use Rattle.sbp_world.specs.Worlds.{Scene, WorldState}
 
 -- A run is such as a script's: it has at most four initiators, a medium for each unit, fewer than 2^32 - 2 lines, and the lines have the
@@ -45,10 +46,13 @@ pub record HasLaws (first : ℕ) (run : Run) : Type 0 where
   pub answers : 0 < run.units → run.units ≤ 4 → IsTameOrFew (history_of first run) → AnswersHold (injectors (history_of first run)) run.start.disks (history_of first run)
   pub lengths : 0 < run.units → run.units ≤ 4 → IsTameOrFew (history_of first run) → (i : ℕ) → i < run.initiators → injectors (history_of first run) i ≡ false → EachMoment (LengthOf run.start.disks i) (history_of first run)
 
--- A world and its media stand for a run, which has the laws where it is such as a script's.
+-- A world and its media stand for a run, which has the laws where it is such as a script's. Where it has then one to four units, the terms of its journal are the states of the two ends of
+-- this world; and where besides no initiator injected packets or few logins were given, the lists that are open are those of the places.
 pub record StandsLawfully (run : Run) (s : Scene) : Type 0 where
   pub stands : StandsFor run s
   pub has_laws : (first : ℕ) → IsLikeAScripts run → HasLaws first run
+  pub states : (first : ℕ) → IsLikeAScripts run → 0 < run.units → run.units ≤ 4 → AreStates run.start.disks (history_of first run) s
+  pub open_lists : (first : ℕ) → IsLikeAScripts run → 0 < run.units → run.units ≤ 4 → IsTameOrFew (history_of first run) → AreOpenLists run.start.disks (history_of first run) s.world
 
 -- A new world does so for the run before any line after `begin`, over any media.
 abbrev pub BeginsLawfully : ℕ → Bool → ℕ → WorldState → Type 0
