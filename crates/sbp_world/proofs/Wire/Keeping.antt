@@ -3,6 +3,8 @@ use Rattle.std.specs.Prelude.{◌≡◌, ℕ, Bool, List, [], Result, Ok, Err, I
 use Rattle.std.proofs.Common.{◌∙◌, ap, subst, sym}
 use Rattle.rbc_disk.specs.Disk.{Disk}
 use Rattle.sbp_journal.specs.declared.event.Event.{Event}
+use Rattle.sbp_laws.specs.Lawful.{injectors}
+use Rattle.sbp_laws.proofs.InTime.{in_time_law}
 use Rattle.sbp_world.proofs.Lists.Clauses.{answers_hold, brought_law, carried_law, lengths_law, lists_law, reads_law}
 use Rattle.sbp_world.proofs.Lists.Executes.{due_runs_law}
 use Rattle.sbp_world.proofs.Lists.GrantRuns.{few_logins_law}
@@ -29,6 +31,7 @@ laws_of run are first is =
       due = λ some most. due_runs_law.after_lines first run bounds some most (sym is.media);
       few_logins = λ some most. few_logins_law.few first run bounds some most (sym is.media);
       on_lists = λ some most. lists_law.lists first run bounds some most (sym is.media);
+      in_time = λ some most tame. in_time_law (injectors (history_of first run)) run.start.disks (history_of first run) (lists_law.lists first run bounds some most (sym is.media) tame);
       brought = λ some most. brought_law first run bounds some most (sym is.media);
       carried = λ some most. carried_law first run bounds some most (sym is.media);
       reads = λ some most. reads_law.after_lines first run bounds some most (sym is.media);
