@@ -5,7 +5,9 @@ use Rattle.sbp_journal.specs.declared.event.Event.{Event}
 use Rattle.sbp_world.specs.Histories.{history_of}
 use Rattle.sbp_world.specs.Runs.{AreEntries, Entry, Run, StandsFor, after, beginning}
 use Rattle.sbp_world.specs.Worlds.{WorldState}
+use Rattle.rbc_disk.specs.Disk.{Disk}
 use Rattle.rbc_disk.specs.Held.{Held}
+use Rattle.sbp_journal.specs.Run.{Moment}
 use Rattle.sbp_laws.specs.CarriedLaw.{CarriedLaw, RunsWhereDue}
 use Rattle.sbp_laws.specs.Lawful.{injectors}
 use Rattle.sbp_laws.specs.OnLists.{LawfulOnLists}
@@ -19,11 +21,14 @@ use Rattle.sbp_world.specs.Lists.AnswerLengths.{LengthOf}
 use Rattle.sbp_world.specs.Lists.AnswersHold.{AnswersHold}
 use Rattle.sbp_world.specs.Lists.Brought.{AreBrought}
 use Rattle.sbp_world.specs.Lists.CarriedEnds.{WereRead}
+use Rattle.sbp_world.specs.Lists.FewLogins.{IsTameOrFew}
 use Rattle.sbp_world.specs.Wire.History.{IsOfWire}
 use Rattle.sbp_world.specs.Wire.Journal.{journal_run}
 use Rattle.sbp_world.specs.Wire.Lines.{AreLines}
+use Rattle.sbp_world.specs.Wire.States.{AreOpenLists, AreStates}
 use Rattle.sbp_world.proofs.Wire.Entries.{bus_law}
 use Rattle.sbp_world.proofs.Wire.Runs.{all_runs}
+use Rattle.sbp_world.proofs.Wire.States.{are_open_lists, are_states}
 use Rattle.sbp_world.specs.Hosts.Runs.{IsRun}
 use Rattle.sbp_world.specs.Hosts.Statuses.Finished.{TakesStatuses}
 use Rattle.sbp_world.proofs.Hosts.Statuses.Finished.{finished_law, once_taken_law}
@@ -49,79 +54,67 @@ entries_few line run happened e few =
     omega (arith, all, rest, few)
 
 -- ---- the laws
+module _ (line : ℕ) (run : Run) (few : run.initiators ≤ 4) (count : length run.entries ≤ 65535) (all : AreEntries (beginning run) run.entries) (lines : AreLines run run.entries) where
+  abbrev past : List Moment
+  past = history_of line run
 
-pub run_of_wire : (line : ℕ) (run : Run) → run.initiators ≤ 4 → length run.entries ≤ 65535 → AreEntries (beginning run) run.entries → AreLines run run.entries → IsOfWire (history_of line run)
-run_of_wire line run few count all lines =
-    let most : length run.entries + 2 < 2 ^ 32 = omega arith in
-    (all_runs.runs line run few most all lines).has_laws
+  abbrev wild : ℕ → Bool
+  wild = injectors past
 
-pub run_on_bus : (line : ℕ) (run : Run) (start : Held) → run.start ≡ start → run.units ≡ length start.disks → run.initiators ≤ 4 → length run.entries ≤ 65535 → AreEntries (beginning run) run.entries → AreLines run run.entries → LawfulOnTheBus (injectors (history_of line run)) (journal_run line run)
-run_on_bus line run start same units few count all lines =
-    let most : length run.entries + 2 < 2 ^ 32 = omega arith in
-    bus_law.lawful line run few (units ∙ ap (λ m. length m.disks) (sym same)) most all lines
+  short : length run.entries + 2 < 2 ^ 32
+  short = omega arith
 
-pub run_takes : (line : ℕ) (run : Run) → run.initiators ≤ 4 → length run.entries ≤ 65535 → AreEntries (beginning run) run.entries → AreLines run run.entries → TakesStatuses (history_of line run)
-run_takes line run few count all lines =
-    let is : IsRun run = record { few = few; short = omega arith; entries = all; lines = lines } in
-    record {
-      each = finished_law.each line run is (injectors (history_of line run));
-      taken = finished_law.taken line run is;
-      once = once_taken_law.once line run is;
-    }
+  is : IsRun run
+  is = record { few = few; short = short; entries = all; lines = lines }
 
-pub run_on_lists : (line : ℕ) (run : Run) (start : Held) → run.start ≡ start → run.units ≡ length start.disks → 0 < run.units → run.units ≤ 4 → run.initiators ≤ 4 → length run.entries ≤ 65535 → AreEntries (beginning run) run.entries → AreLines run run.entries
-    → LawfulOnLists (injectors (history_of line run)) start.disks (history_of line run)
-run_on_lists line run start same units some most few count all lines =
-    let is : IsRun run = record { few = few; short = omega arith; entries = all; lines = lines } in
-    let size : length run.start.disks ≡ run.units = ap (λ (h : Held). length h.disks) same ∙ sym units in
-    subst (λ s. LawfulOnLists (injectors (history_of line run)) s (history_of line run)) (ap (λ (h : Held). h.disks) same)
-    (lists_law.lists line run is some most size (inr (few_logins_law.few line run is some most size (omega arith))))
+  run_of_wire : IsOfWire past
+  run_of_wire = (all_runs.runs line run few short all lines).has_laws
 
-pub run_is_due : (line : ℕ) (run : Run) (start : Held) → run.start ≡ start → run.units ≡ length start.disks → 0 < run.units → run.units ≤ 4 → run.initiators ≤ 4 → length run.entries ≤ 65535 → AreEntries (beginning run) run.entries → AreLines run run.entries
-    → (wild : ℕ → Bool) → EachTurn (RunsWhereDue wild start.disks) (history_of line run)
-run_is_due line run start same units some most few count all lines wild =
-    let is : IsRun run = record { few = few; short = omega arith; entries = all; lines = lines } in
-    let size : length run.start.disks ≡ run.units = ap (λ (h : Held). length h.disks) same ∙ sym units in
-    subst (λ s. EachTurn (RunsWhereDue wild s) (history_of line run)) (ap (λ (h : Held). h.disks) same) (due_runs_law.after_lines line run is some most size wild)
+  run_takes : TakesStatuses past
+  run_takes = record { each = finished_law.each line run is wild; taken = finished_law.taken line run is; once = once_taken_law.once line run is }
 
-pub run_brought : (line : ℕ) (run : Run) (start : Held) → run.start ≡ start → run.units ≡ length start.disks → 0 < run.units → run.units ≤ 4 → run.initiators ≤ 4 → length run.entries ≤ 65535 → AreEntries (beginning run) run.entries → AreLines run run.entries
-    → AreBrought (injectors (history_of line run)) start.disks (history_of line run)
-run_brought line run start same units some most few count all lines =
-    let is : IsRun run = record { few = few; short = omega arith; entries = all; lines = lines } in
-    let size : length run.start.disks ≡ run.units = ap (λ (h : Held). length h.disks) same ∙ sym units in
-    subst (λ s. AreBrought (injectors (history_of line run)) s (history_of line run)) (ap (λ (h : Held). h.disks) same)
-    (brought_law line run is some most size (inr (few_logins_law.few line run is some most size (omega arith))))
+  -- by what the media held at first
+  module _ (start : Held) (same : run.start ≡ start) (units : run.units ≡ length start.disks) where
+    run_on_bus : LawfulOnTheBus wild (journal_run line run)
+    run_on_bus = bus_law.lawful line run few (units ∙ ap (λ m. length m.disks) (sym same)) short all lines
 
-pub run_carried : (line : ℕ) (run : Run) (start : Held) → run.start ≡ start → run.units ≡ length start.disks → 0 < run.units → run.units ≤ 4 → run.initiators ≤ 4 → length run.entries ≤ 65535 → AreEntries (beginning run) run.entries → AreLines run run.entries
-    → CarriedLaw (injectors (history_of line run)) start.disks (history_of line run)
-run_carried line run start same units some most few count all lines =
-    let is : IsRun run = record { few = few; short = omega arith; entries = all; lines = lines } in
-    let size : length run.start.disks ≡ run.units = ap (λ (h : Held). length h.disks) same ∙ sym units in
-    subst (λ s. CarriedLaw (injectors (history_of line run)) s (history_of line run)) (ap (λ (h : Held). h.disks) same)
-    (carried_law line run is some most size (inr (few_logins_law.few line run is some most size (omega arith))))
+    over : (F : List Disk → Type 0) → F run.start.disks → F start.disks
+    over F h = subst F (ap (λ (held : Held). held.disks) same) h
 
-pub run_reads : (line : ℕ) (run : Run) (start : Held) → run.start ≡ start → run.units ≡ length start.disks → 0 < run.units → run.units ≤ 4 → run.initiators ≤ 4 → length run.entries ≤ 65535 → AreEntries (beginning run) run.entries → AreLines run run.entries
-    → WereRead (injectors (history_of line run)) start.disks (history_of line run)
-run_reads line run start same units some most few count all lines =
-    let is : IsRun run = record { few = few; short = omega arith; entries = all; lines = lines } in
-    let size : length run.start.disks ≡ run.units = ap (λ (h : Held). length h.disks) same ∙ sym units in
-    subst (λ s. WereRead (injectors (history_of line run)) s (history_of line run)) (ap (λ (h : Held). h.disks) same)
-    (reads_law.after_lines line run is some most size (inr (few_logins_law.few line run is some most size (omega arith))))
+    -- of a machine of one to four units
+    module _ (some : 0 < run.units) (most : run.units ≤ 4) where
+      size : length run.start.disks ≡ run.units
+      size = ap (λ (h : Held). length h.disks) same ∙ sym units
 
-pub run_answers : (line : ℕ) (run : Run) (start : Held) → run.start ≡ start → run.units ≡ length start.disks → 0 < run.units → run.units ≤ 4 → run.initiators ≤ 4 → length run.entries ≤ 65535 → AreEntries (beginning run) run.entries → AreLines run run.entries
-    → AnswersHold (injectors (history_of line run)) start.disks (history_of line run)
-run_answers line run start same units some most few count all lines =
-    let is : IsRun run = record { few = few; short = omega arith; entries = all; lines = lines } in
-    let size : length run.start.disks ≡ run.units = ap (λ (h : Held). length h.disks) same ∙ sym units in
-    subst (λ s. AnswersHold (injectors (history_of line run)) s (history_of line run)) (ap (λ (h : Held). h.disks) same)
-    (answers_hold line run is some most size (inr (few_logins_law.few line run is some most size (omega arith))))
+      given : IsTameOrFew past
+      given = inr (few_logins_law.few line run is some most size (omega arith))
 
-pub run_lengths : (line : ℕ) (run : Run) (start : Held) → run.start ≡ start → run.units ≡ length start.disks → 0 < run.units → run.units ≤ 4 → run.initiators ≤ 4 → length run.entries ≤ 65535 → AreEntries (beginning run) run.entries → AreLines run run.entries
-    → (i : ℕ) → i < run.initiators → injectors (history_of line run) i ≡ false → EachMoment (LengthOf start.disks i) (history_of line run)
-run_lengths line run start same units some most few count all lines i inside calm =
-    let is : IsRun run = record { few = few; short = omega arith; entries = all; lines = lines } in
-    let size : length run.start.disks ≡ run.units = ap (λ (h : Held). length h.disks) same ∙ sym units in
-    subst (λ s. EachMoment (LengthOf s i) (history_of line run)) (ap (λ (h : Held). h.disks) same) (lengths_law.lengths line run is some most size (inr (few_logins_law.few line run is some most size (omega arith))) i inside calm)
+      run_is_due : (others : ℕ → Bool) → EachTurn (RunsWhereDue others start.disks) past
+      run_is_due others = over (λ disks. EachTurn (RunsWhereDue others disks) past) (due_runs_law.after_lines line run is some most size others)
+
+      run_on_lists : LawfulOnLists wild start.disks past
+      run_on_lists = over (λ disks. LawfulOnLists wild disks past) (lists_law.lists line run is some most size given)
+
+      run_brought : AreBrought wild start.disks past
+      run_brought = over (λ disks. AreBrought wild disks past) (brought_law line run is some most size given)
+
+      run_carried : CarriedLaw wild start.disks past
+      run_carried = over (λ disks. CarriedLaw wild disks past) (carried_law line run is some most size given)
+
+      run_reads : WereRead wild start.disks past
+      run_reads = over (λ disks. WereRead wild disks past) (reads_law.after_lines line run is some most size given)
+
+      run_answers : AnswersHold wild start.disks past
+      run_answers = over (λ disks. AnswersHold wild disks past) (answers_hold line run is some most size given)
+
+      run_lengths : (i : ℕ) → i < run.initiators → wild i ≡ false → EachMoment (LengthOf start.disks i) past
+      run_lengths i inside calm = over (λ disks. EachMoment (LengthOf disks i) past) (lengths_law.lengths line run is some most size given i inside calm)
+
+      run_states : AreStates start.disks past (after (beginning run) run.entries)
+      run_states = over (λ disks. AreStates disks past (after (beginning run) run.entries)) (are_states line run is some most size)
+
+      run_open_lists : AreOpenLists start.disks past (after (beginning run) run.entries).world
+      run_open_lists = over (λ disks. AreOpenLists disks past (after (beginning run) run.entries).world) (are_open_lists line run is some most size given)
 
 -- ---- a run of the machine
 
@@ -130,7 +123,7 @@ pub has_run : (line : ℕ) (run : Run) (start media : Held) (world : WorldState)
     → StandsFor run (scene_of world media) → AreLines run run.entries → HasRun start happened (journal run) media
 has_run line run start media world happened same units some most few count events stands lines =
     let left : media ≡ (after (beginning run) run.entries).media = ap (λ s. s.media) stands.state in
-    let lawful = run_on_lists line run start same units some most few count stands.lines lines in
+    let lawful = run_on_lists line run few count stands.lines lines start same units some most in
     record {
       line = line;
       run = run;
@@ -143,14 +136,16 @@ has_run line run start media world happened same units some most few count event
       media_fit = run_fits run start media same few stands.lines left;
       leaves = run_leaves line run start media same few stands.lines left;
       of_wire = run_of_wire line run few count stands.lines lines;
-      on_the_bus = run_on_bus line run start same units few count stands.lines lines;
+      on_the_bus = run_on_bus line run few count stands.lines lines start same units;
       statuses = run_takes line run few count stands.lines lines;
-      due = run_is_due line run start same units some most few count stands.lines lines;
+      due = run_is_due line run few count stands.lines lines start same units some most;
       on_lists = lawful;
-      brought = run_brought line run start same units some most few count stands.lines lines;
-      carried = run_carried line run start same units some most few count stands.lines lines;
-      reads = run_reads line run start same units some most few count stands.lines lines;
-      answers = run_answers line run start same units some most few count stands.lines lines;
-      lengths = run_lengths line run start same units some most few count stands.lines lines;
+      brought = run_brought line run few count stands.lines lines start same units some most;
+      carried = run_carried line run few count stands.lines lines start same units some most;
+      reads = run_reads line run few count stands.lines lines start same units some most;
+      answers = run_answers line run few count stands.lines lines start same units some most;
+      lengths = run_lengths line run few count stands.lines lines start same units some most;
+      states = run_states line run few count stands.lines lines start same units some most;
+      open_lists = run_open_lists line run few count stands.lines lines start same units some most;
       in_time = in_time_law (injectors (history_of line run)) start.disks (history_of line run) lawful;
     }

@@ -18,6 +18,7 @@ use Rattle.sbp_world.specs.Lists.Brought.{AreBrought}
 use Rattle.sbp_world.specs.Lists.CarriedEnds.{WereRead}
 use Rattle.sbp_world.specs.Wire.History.{IsOfWire}
 use Rattle.sbp_world.specs.Wire.Journal.{journal_run}
+use Rattle.sbp_world.specs.Wire.States.{AreOpenLists, AreStates}
 use Rattle.sbp_world.specs.Hosts.Statuses.Finished.{TakesStatuses}
 use Rattle.script_runner.specs.Events.{events_of, journal}
 
@@ -26,7 +27,7 @@ use Rattle.script_runner.specs.Events.{events_of, journal}
 -- keeps the laws of the wire, and its journal the part of the laws that is of the bus; the statuses that it takes are those that are due, and so
 -- are the commands that run; and it keeps the laws of lists, of the initiators that injected no packets, which read so in the order of time, and the carried
 -- law: what they had run, and what ended, was read as it says, and brought by reads, and commands run with what was read; and each answer that they take has its length, is what was written
--- of it, and is the plain disk's.
+-- of it, and is the plain disk's. The terms of its journal are the states of the nodes as it ends.
 pub record HasRun (start : Held) (happened : List (ℕ × Event)) (notes : List Note) (now : Held) : Type 0 where
   pub line : ℕ
   pub run : Run
@@ -48,6 +49,8 @@ pub record HasRun (start : Held) (happened : List (ℕ × Event)) (notes : List 
   pub reads : WereRead (injectors (history_of line run)) start.disks (history_of line run)
   pub answers : AnswersHold (injectors (history_of line run)) start.disks (history_of line run)
   pub lengths : (i : ℕ) → i < run.initiators → injectors (history_of line run) i ≡ false → EachMoment (LengthOf start.disks i) (history_of line run)
+  pub states : AreStates start.disks (history_of line run) (after (beginning run) run.entries)
+  pub open_lists : AreOpenLists start.disks (history_of line run) (after (beginning run) run.entries).world
   pub in_time : ReadsInTime (injectors (history_of line run)) (history_of line run)
 
 -- No run begins: there is no event and no note, and the media are as they were.
