@@ -1,8 +1,7 @@
 -- The terms of a history are the states of the two ends of a world (NCITS 325-1998, command block agents and linked lists of ORBs): what the laws read off a journal of an
 -- initiator's lists, slots and session is what that initiator has, and what they read off it of the agents, the logins, the operation and the units is what the target has. So the list that is open
 -- by the terms, of an initiator that injected no packets, is the one that the place of its agent has.
-use Rattle.std.specs.Prelude.{◌≡◌, ◌≢◌, ◌<◌, ℕ, suc, true, List, length, Some, None}
-use Rattle.command_agent.specs.declared.phase.Phase.TheVariants as phases
+use Rattle.std.specs.Prelude.{◌≡◌, ◌<◌, ℕ, suc, true, List, length, Some, None}
 use Rattle.rbc_disk.specs.Disk.{Disk}
 use Rattle.sbp_journal.specs.Run.{Moment}
 use Rattle.sbp_laws.specs.CarriedBytes.{open_list}
@@ -17,7 +16,7 @@ use Rattle.sbp_world.specs.Agents.Management.Terms.{IsManagementAt}
 use Rattle.sbp_world.specs.Agents.Units.{AreUnitsAt}
 use Rattle.sbp_world.specs.Hosts.Core.{host_core, own_core}
 use Rattle.sbp_world.specs.Hosts.Worlds.{IsHost}
-use Rattle.sbp_world.specs.Lists.Needs.{IsCalm, initiator_in, is_open_at, machine_at}
+use Rattle.sbp_world.specs.Lists.Needs.{IsCalm, initiator_in, is_open_at}
 use Rattle.sbp_world.specs.Lists.Opened.{IsUp}
 use Rattle.sbp_world.specs.Telling.{holder}
 use Rattle.sbp_world.specs.Worlds.{Scene, WorldState, initiator_at}
@@ -55,11 +54,6 @@ pub record AreStates (start : List Disk) (past : List Moment) (s : Scene) : Type
 
 -- ---- the lists that are open, of the initiators that injected no packets
 
--- The agent of a place has a list open, and is not about to be DEAD behind the status block that it writes.
-pub record HasOpen (w : WorldState) (place : ℕ) : Type 0 where
-  pub is_open : is_open_at w place ≡ true
-  pub stays : (machine_at w place).phase ≢ phases.WritingLastStatus
-
 -- The list that the place has is the one that is open by the terms, and the latest one that its initiator began.
 pub record IsOpenList (start : List Disk) (past : List Moment) (w : WorldState) (place : ℕ) : Type 0 where
   pub n : ℕ
@@ -67,6 +61,6 @@ pub record IsOpenList (start : List Disk) (past : List Moment) (w : WorldState) 
   pub opened : open_list start past (initiator_in w place) ≡ Some n
   pub latest : suc n ≡ lists past (initiator_in w place)
 
--- So it is of each place with such an agent.
+-- So it is of each place whose agent has a list open, and so is not in RESET and not DEAD.
 abbrev pub AreOpenLists : List Disk → List Moment → WorldState → Type 0
-AreOpenLists start past w = (place : ℕ) → place < 8 → HasOpen w place → IsCalm past (initiator_in w place) → IsOpenList start past w place
+AreOpenLists start past w = (place : ℕ) → place < 8 → is_open_at w place ≡ true → IsCalm past (initiator_in w place) → IsOpenList start past w place
