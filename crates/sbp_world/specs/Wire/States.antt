@@ -23,23 +23,32 @@ use Rattle.sbp_world.specs.Worlds.{Scene, WorldState, initiator_at}
 
 -- ---- what holds of every initiator, also of one that injected packets
 
--- An initiator's terms are its own: its present list, how far that is linked, its waiting ORBs, and its slots, free, in use, resting and pinned; and its session, the operation under way, and what it
--- has counted.
+-- An initiator's terms are its own.
 pub record AreInitiators (past : List Moment) (w : WorldState) : Type 0 where
+  -- its present list, how far that is linked, its waiting ORBs, and its slots, free, in use, resting and pinned
   pub hosts : (i : ℕ) → i < length w.initiators → IsHost past i (initiator_at w i)
+  -- its session, the operation under way, how many login numbers and management writes it used, its running number, and whether it wrote ORB_POINTER for its present list
   pub sessions : (i : ℕ) → i < length w.initiators → host_core (host_at past i) ≡ own_core (initiator_at w i)
 
--- The target's terms are its own. Its agents: the phase of each, and, as far as that reads them still, its present ORB, the next pointer that it got last, its doorbell mark and the bytes that it keeps; the
--- pointer that it took last; its transactions, each one the request of its serial, which asks for what the phase has under way; and what each request of the target is for that is under way. Its logins: the initiator of each place, the table of logins,
--- the keys, the operation and its request. The registers that are enabled, each at a live login. And its units, with what their media hold.
+-- ---- and of the target
+
+-- The target's terms are its own.
 pub record IsTarget (start : List Disk) (past : List Moment) (s : Scene) : Type 0 where
+  -- each agent: its phase, and as far as this reads them still, its present ORB, the next pointer that it got last, its doorbell mark and the bytes that it keeps; the pointer that it took last; and
+  -- its transactions, by the serials of their requests
   pub agents : AreAgentsAt start past s.world
+  -- each of these requests asks for what the agent has under way
   pub asked : AreAskedAt start past
+  -- what each request is for that is under way
   pub purposes : ArePurposedAt start past s.world
+  -- the initiator of each place
   pub places : AreHeldAt start past s.world
+  -- the table of logins, the keys, the operation and its request
   pub management : IsManagementAt start past s.world.target
+  -- the registers for unsolicited status that are enabled, each at a live login
   pub enabled : AreTermsOf (target_at start past).enabled s.world.target
   pub live : AreLive s.world.target
+  -- the units, with what their media hold
   pub units : AreUnitsAt start past s.world.target s.media.disks
 
 -- Where no agent of an initiator is out of RESET, no list of it is open by the terms.
