@@ -6,13 +6,13 @@ use Rattle.sbp_world.specs.Histories.{history_of}
 use Rattle.sbp_world.specs.Runs.{AreEntries, Entry, Run, StandsFor, after, beginning}
 use Rattle.sbp_world.specs.Worlds.{WorldState}
 use Rattle.rbc_disk.specs.Held.{Held}
-use Rattle.sbp_laws.specs.CarriedLaw.{RunsWhereDue}
+use Rattle.sbp_laws.specs.CarriedLaw.{CarriedLaw, RunsWhereDue}
 use Rattle.sbp_laws.specs.Lawful.{injectors}
 use Rattle.sbp_laws.specs.OnLists.{LawfulOnLists}
 use Rattle.sbp_laws.specs.OnTheBus.{LawfulOnTheBus}
 use Rattle.sbp_laws.specs.Turns.{EachMoment, EachTurn}
 use Rattle.sbp_laws.proofs.InTime.{in_time_law}
-use Rattle.sbp_world.proofs.Lists.Clauses.{answers_hold, brought_law, lengths_law, lists_law, reads_law}
+use Rattle.sbp_world.proofs.Lists.Clauses.{answers_hold, brought_law, carried_law, lengths_law, lists_law, reads_law}
 use Rattle.sbp_world.proofs.Lists.Executes.{due_runs_law}
 use Rattle.sbp_world.proofs.Lists.GrantRuns.{few_logins_law}
 use Rattle.sbp_world.specs.Lists.AnswerLengths.{LengthOf}
@@ -92,6 +92,14 @@ run_brought line run start same units some most few count all lines =
     subst (λ s. AreBrought (injectors (history_of line run)) s (history_of line run)) (ap (λ (h : Held). h.disks) same)
     (brought_law line run is some most size (inr (few_logins_law.few line run is some most size (omega arith))))
 
+pub run_carried : (line : ℕ) (run : Run) (start : Held) → run.start ≡ start → run.units ≡ length start.disks → 0 < run.units → run.units ≤ 4 → run.initiators ≤ 4 → length run.entries ≤ 65535 → AreEntries (beginning run) run.entries → AreLines run run.entries
+    → CarriedLaw (injectors (history_of line run)) start.disks (history_of line run)
+run_carried line run start same units some most few count all lines =
+    let is : IsRun run = record { few = few; short = omega arith; entries = all; lines = lines } in
+    let size : length run.start.disks ≡ run.units = ap (λ (h : Held). length h.disks) same ∙ sym units in
+    subst (λ s. CarriedLaw (injectors (history_of line run)) s (history_of line run)) (ap (λ (h : Held). h.disks) same)
+    (carried_law line run is some most size (inr (few_logins_law.few line run is some most size (omega arith))))
+
 pub run_reads : (line : ℕ) (run : Run) (start : Held) → run.start ≡ start → run.units ≡ length start.disks → 0 < run.units → run.units ≤ 4 → run.initiators ≤ 4 → length run.entries ≤ 65535 → AreEntries (beginning run) run.entries → AreLines run run.entries
     → WereRead (injectors (history_of line run)) start.disks (history_of line run)
 run_reads line run start same units some most few count all lines =
@@ -140,6 +148,7 @@ has_run line run start media world happened same units some most few count event
       due = run_is_due line run start same units some most few count stands.lines lines;
       on_lists = lawful;
       brought = run_brought line run start same units some most few count stands.lines lines;
+      carried = run_carried line run start same units some most few count stands.lines lines;
       reads = run_reads line run start same units some most few count stands.lines lines;
       answers = run_answers line run start same units some most few count stands.lines lines;
       lengths = run_lengths line run start same units some most few count stands.lines lines;

@@ -6,7 +6,7 @@ use Rattle.sbp_journal.specs.declared.note.Note.{Note}
 use Rattle.media_laws.specs.Media.{LeavesMedia, media_after}
 use Rattle.sbp_world.specs.Histories.{history_of}
 use Rattle.sbp_world.specs.Runs.{AreEntries, Run, after, beginning}
-use Rattle.sbp_laws.specs.CarriedLaw.{RunsWhereDue}
+use Rattle.sbp_laws.specs.CarriedLaw.{CarriedLaw, RunsWhereDue}
 use Rattle.sbp_laws.specs.Lawful.{injectors}
 use Rattle.sbp_laws.specs.InTime.{ReadsInTime}
 use Rattle.sbp_laws.specs.OnLists.{LawfulOnLists}
@@ -24,9 +24,9 @@ use Rattle.script_runner.specs.Events.{events_of, journal}
 -- A run of the machine, over exactly these events and from what the media held at first: its notes, and what it leaves of the media. That is
 -- what the notes alone say of them: each medium holds what the disk fold gives, and each failing run raised its count. And its history
 -- keeps the laws of the wire, and its journal the part of the laws that is of the bus; the statuses that it takes are those that are due, and so
--- are the commands that run; and it keeps the laws of lists, of the initiators that injected no packets, which read so in the order of time; what
--- they had run, and what ended, was read as the carried law says, and brought by reads; and each answer that they take has its length, is what was written of it, and is
--- the plain disk's.
+-- are the commands that run; and it keeps the laws of lists, of the initiators that injected no packets, which read so in the order of time, and the carried
+-- law: what they had run, and what ended, was read as it says, and brought by reads, and commands run with what was read; and each answer that they take has its length, is what was written
+-- of it, and is the plain disk's.
 pub record HasRun (start : Held) (happened : List (ℕ × Event)) (notes : List Note) (now : Held) : Type 0 where
   pub line : ℕ
   pub run : Run
@@ -44,6 +44,7 @@ pub record HasRun (start : Held) (happened : List (ℕ × Event)) (notes : List 
   pub due : (wild : ℕ → Bool) → EachTurn (RunsWhereDue wild start.disks) (history_of line run)
   pub on_lists : LawfulOnLists (injectors (history_of line run)) start.disks (history_of line run)
   pub brought : AreBrought (injectors (history_of line run)) start.disks (history_of line run)
+  pub carried : CarriedLaw (injectors (history_of line run)) start.disks (history_of line run)
   pub reads : WereRead (injectors (history_of line run)) start.disks (history_of line run)
   pub answers : AnswersHold (injectors (history_of line run)) start.disks (history_of line run)
   pub lengths : (i : ℕ) → i < run.initiators → injectors (history_of line run) i ≡ false → EachMoment (LengthOf start.disks i) (history_of line run)

@@ -218,6 +218,7 @@ pub mod ManageWrites
 pub mod ManageYoung
 pub mod ManagedGots
 pub mod NobodyGots
+pub mod NobodySince
 pub mod Named
 pub mod NamedWrites
 pub mod Naming
@@ -516,6 +517,7 @@ pub mod NamedPlaces
 pub mod EndNames
 pub mod RunNames
 pub mod CarriedEnds
+pub mod CarriedWhole
 pub mod OneUp
 pub mod SendsLast
 pub mod TurnOrders

@@ -36,6 +36,7 @@ pub mod OrbReads
 pub mod CarriedRuns
 pub mod Brought
 pub mod CarriedEnds
+pub mod CarriedWhole
 pub mod OneUp
 pub mod SendsLast
 pub mod EndReads

@@ -160,6 +160,7 @@ pub use of_lists::reads_are_own_or_elsewhere;
 pub use of_lists::reads_are_sent_behind_appends;
 pub use of_lists::registers_are_of_the_login;
 pub use of_lists::responses_are_got_once;
+pub use of_lists::runs_keep_the_carried_law;
 pub use of_lists::sessions_have_their_logins;
 pub use of_lists::slots_are_held_for_data;
 pub use of_lists::slots_of_cut_lists_are_apart;

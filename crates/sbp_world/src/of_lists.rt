@@ -5,6 +5,7 @@ ghost use Rattle.sbp_world.specs.Lists.Bases.{BasesLaw};
 ghost use Rattle.sbp_world.specs.Lists.Brings.{BringsLaw};
 ghost use Rattle.sbp_world.specs.Lists.CarriedEnds.{WereReadLaw};
 ghost use Rattle.sbp_world.specs.Lists.CarriedRuns.{RunsReadLaw};
+ghost use Rattle.sbp_world.specs.Lists.CarriedWhole.{CarriedRunLaw};
 ghost use Rattle.sbp_world.specs.Lists.FedRuns.{BesideLaw, RunsFedLaw, RunsSinceLaw};
 ghost use Rattle.sbp_world.specs.Lists.GotOnce.{GotOnceLaw};
 ghost use Rattle.sbp_world.specs.Lists.ManagedGots.{ManagedAsGotLaw};
@@ -41,6 +42,7 @@ ghost use Rattle.sbp_world.specs.Lists.EndsWell.{GoodEndsLaw};
 ghost use Rattle.sbp_world.specs.Lists.DataEnds.{AnswersEndLaw};
 ghost use Rattle.sbp_world.specs.Lists.AnswersCarried.{AnswersBroughtLaw};
 ghost use Rattle.sbp_world.specs.Lists.AnswersHold.{AnswersHoldLaw};
+ghost use Rattle.sbp_world.specs.Lists.CutOff.{CutOffLaw, MainSlotsLaw};
 ghost use Rattle.sbp_world.specs.Lists.CutSlots.{CutSlotsLaw};
 ghost use Rattle.sbp_world.specs.Lists.DataGots.{DataGotsLaw, ServedGotLaw};
 ghost use Rattle.sbp_world.specs.Lists.DataHolds.{DataHeldLaw};
@@ -58,6 +60,7 @@ ghost use Rattle.sbp_world.specs.Lists.Opened.{LogoutsLaw};
 ghost use Rattle.sbp_world.specs.Lists.LawfulLists.{ListsLaw};
 ghost use Rattle.sbp_world.specs.Lists.SendsLast.{SendsLastLaw};
 ghost use Rattle.sbp_world.specs.Lists.LetsGo.{MainStaysLaw, NobodyWaitsLaw};
+ghost use Rattle.sbp_world.specs.Lists.NobodyGots.{NobodyAsGotLaw};
 ghost use Rattle.sbp_world.specs.Lists.CarriedOrbs.{CarriedOrbsLaw};
 
 /// The lists of an initiator, as the run terms have them, are laid out as an agent asks for it: an ORB without
@@ -255,11 +258,18 @@ pub fn what_is_got_since_spares_the_orb_read_ahead()
 /// In every run in which no initiator injected packets, or few logins were given (`IsTameOrFew`), the response that brought the ORB of
 /// each run of an initiator that injected none, as the carried law has it, is the one behind which its agent turned to it, and as each
 /// packet was got since then the agent waited for an answer of the initiator: the buffer and the data of the command are those by all
-/// that the target got of the initiator since the response, where what answers no agent begins elsewhere than in the ORB's slot; and
-/// so they are wherever what answers nobody does.
+/// that the target got of the initiator since the response, so the carried law holds of the run.
 #[tactic(auto, using(crate::proofs::Lists::Clauses::feeds_law))]
 pub fn orbs_that_run_were_read_and_fed()
     ensures { ReadAndFedLaw }
+{}
+
+/// In every run in which no initiator injected packets, or few logins were given (`IsTameOrFew`), the carried law holds of the initiators
+/// that injected none: of how the ORB of each run and of each end was read, of what each command runs with, of where commands run, and
+/// of what each answer that is taken was written by.
+#[tactic(auto, using(crate::proofs::Lists::Clauses::carried_law))]
+pub fn runs_keep_the_carried_law()
+    ensures { CarriedRunLaw }
 {}
 
 /// In every run, where lists were open as they should be before: a response that closed the transaction of a request that was sent,
@@ -660,8 +670,32 @@ pub fn main_transactions_stay()
 {}
 
 /// In every history where a request that was the main transaction of an agent is nobody's as a turn ends, and under way still, its agent
-/// was put into RESET since, or the request timed out.
+/// was put into RESET since.
 #[tactic(auto, using(crate::proofs::Lists::NobodyWaits::nobody_waits_law))]
 pub fn nobodys_requests_were_of_agents_reset()
     ensures { NobodyWaitsLaw }
+{}
+
+/// In every run in which no initiator injected packets, or few logins were given, before which lists were open as they should be: what
+/// is under way as the main transaction of an agent, for the page table or the buffer of a slot of an initiator that injected none, is
+/// for the first ORB of the agent's list that has not ended, which has the slot. A write into a buffer is left out.
+#[tactic(auto, using(crate::proofs::Lists::Clauses::main_slots))]
+pub fn requests_are_for_the_orb_of_their_slot()
+    ensures { MainSlotsLaw }
+{}
+
+/// In every such run a request of the target that is under way, for the page table or the buffer of a slot of such an initiator, but for
+/// a write into the buffer, is the main transaction of an agent; or the slot had an ORB that has not ended and whose list is cut, and the
+/// target is in no later generation than the initiator was in then.
+#[tactic(auto, using(crate::proofs::Lists::Clauses::cut_offs))]
+pub fn requests_of_nobody_were_cut_off()
+    ensures { CutOffLaw }
+{}
+
+/// As each packet is got in every run in which no initiator injected packets, or few logins were given: what answers a request of nobody,
+/// of no agent and not of the management operation, begins elsewhere than in the page table of a slot that has an ORB of a list which is
+/// open, of an initiator that injected none; and where it begins in the buffer, it has no bytes.
+#[tactic(auto, using(crate::proofs::Lists::Clauses::nobody_as_got))]
+pub fn answers_to_nobody_begin_elsewhere()
+    ensures { NobodyAsGotLaw }
 {}

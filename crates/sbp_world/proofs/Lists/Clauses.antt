@@ -10,11 +10,13 @@ use Rattle.sbp_world.proofs.Lists.Executes.{ends_read_law, runs_fed_law, runs_re
 use Rattle.sbp_world.proofs.Lists.ListsProved.{closing}
 use Rattle.sbp_world.specs.Lists.AnswerLengths.{AnswerLengthsLaw}
 use Rattle.sbp_world.specs.Lists.CarriedEnds.{WereReadLaw}
+use Rattle.sbp_world.specs.Lists.CarriedWhole.{CarriedRunLaw}
 use Rattle.sbp_world.specs.Lists.Closes.{OpenListsLaw}
 use Rattle.sbp_world.specs.Lists.DataWrites.{DataSentLaw}
 use Rattle.sbp_world.specs.Lists.FedRuns.{RunsSinceLaw}
 use Rattle.sbp_world.specs.Lists.Live.{LiveLaw}
 use Rattle.sbp_world.specs.Lists.OneUp.{OneUpLaw}
+use Rattle.sbp_world.specs.Lists.NobodyGots.{NobodyAsGotLaw}
 use Rattle.sbp_world.specs.Lists.Opened.{LogoutsLaw}
 use Rattle.sbp_world.specs.Lists.LawfulLists.{ListsLaw}
 use Rattle.sbp_world.specs.Lists.OwnGots.{OwnAsGotLaw}
@@ -25,9 +27,12 @@ use Rattle.sbp_world.proofs.Lists.AnswerLengths.{answer_lengths_law}
 use Rattle.sbp_world.proofs.Lists.AheadGots.{ahead_as_got_law}
 use Rattle.sbp_world.proofs.Lists.AheadWaits.{waits_as_got_law}
 use Rattle.sbp_world.proofs.Lists.CarriedEnds.{were_read_law}
+use Rattle.sbp_world.proofs.Lists.CarriedWhole.{carried_run_law}
+use Rattle.sbp_world.proofs.Lists.CutOffRuns.{cut_off_law, nobody_law}
 use Rattle.sbp_world.proofs.Lists.DataLaws as data_laws
 use Rattle.sbp_world.proofs.Lists.DataLaws.{data_sent_law, data_held_law}
 use Rattle.sbp_world.proofs.Lists.FedJoins.{runs_since_law}
+use Rattle.sbp_world.proofs.Lists.MainSlotsRuns.{main_slots_law}
 use Rattle.sbp_world.proofs.Lists.FedOwnerRuns.{own_gots_law, own_reads_law}
 use Rattle.sbp_world.proofs.Lists.Lawful as proved
 use Rattle.sbp_world.proofs.Lists.ManagedGots.{managed_as_got_law}
@@ -41,6 +46,7 @@ use Rattle.sbp_world.specs.Lists.DataHolds.{DataHeldLaw}
 use Rattle.sbp_world.specs.Lists.ManagedGots.{ManagedAsGotLaw}
 use Rattle.sbp_world.specs.Lists.AnswersCarried.{AnswersBroughtLaw}
 use Rattle.sbp_world.specs.Lists.AnswersHold.{AnswersHoldLaw}
+use Rattle.sbp_world.specs.Lists.CutOff.{CutOffLaw, MainSlotsLaw}
 use Rattle.sbp_world.specs.Lists.CutSlots.{CutSlotsLaw}
 use Rattle.sbp_world.specs.Lists.DataGots.{DataGotsLaw, ServedGotLaw}
 use Rattle.sbp_world.specs.Lists.DataSequences.{DataSequenceLaw}
@@ -118,8 +124,22 @@ waits_law = reads_as_got_law open_lists_law
 pub since_law : RunsSinceLaw
 since_law = runs_since_law open_lists_law
 
+pub main_slots : MainSlotsLaw
+main_slots = main_slots_law short_law open_lists_law
+
+pub cut_offs : CutOffLaw
+cut_offs = cut_off_law short_law open_lists_law
+
+-- what answers nobody
+pub nobody_as_got : NobodyAsGotLaw
+nobody_as_got = nobody_law short_law open_lists_law
+
 pub feeds_law : ReadAndFedLaw
-feeds_law = read_and_fed_law open_lists_law one_up ahead_gots managed_gots
+feeds_law = read_and_fed_law open_lists_law one_up ahead_gots managed_gots nobody_as_got
+
+-- the carried law
+pub carried_law : CarriedRunLaw
+carried_law = carried_run_law feeds_law reads_law answers_hold
 
 -- how ORBs and their data were read
 pub brought_law : (line : ℕ) (run : Run) → IsRun run → 0 < run.units → run.units ≤ 4 → length run.start.disks ≡ run.units → IsTameOrFew (history_of line run) → AreBrought (injectors (history_of line run)) run.start.disks (history_of line run)

@@ -1,5 +1,5 @@
 -- Over a turn: a request for the page table or the buffer of a slot that is under way stays the main transaction of its agent, or the agent was put to RESET, which cuts its list; and it is in the target's generation still.
-use Rattle.std.proofs.Common.{append_assoc, arith, ◌≡◌, ◌∙◌, refl, sym, ap, subst, inl, inr, ◌⊎◌, ◌<◌, ◌≤◌, ◌==◌, ◌&&◌, nat_eq, nat_lt, ℕ, suc, Bool, true, false, List, [], ◌∷◌, ◌++◌, length, map, Option, Some, None}
+use Rattle.std.proofs.Common.{append_assoc, arith, ◌≡◌, ◌∙◌, refl, sym, ap, subst, inl, inr, ◌⊎◌, ◌<◌, ◌≤◌, ◌==◌, ◌&&◌, ℕ, Bool, true, false, List, [], ◌∷◌, ◌++◌, length, map, Option, Some, None}
 use Rattle.std.proofs.lemmas.Bool.Decides.{nat_tests}
 use Rattle.bus_transactions.specs.Packets.{SerialsCount}
 use Rattle.command_agent.specs.Machine.{is_sent, state_in}
@@ -14,22 +14,21 @@ use Rattle.sbp_journal.specs.declared.event.Event.{Event}
 use Rattle.sbp_journal.specs.declared.event.Event.TheVariants as events
 use Rattle.sbp_journal.specs.declared.note.Note.{Note}
 use Rattle.sbp_journal.specs.declared.note.Note.TheVariants as notes
-use Rattle.sbp_laws.specs.Lists.{orb}
 use Rattle.sbp_laws.specs.OrderLaw.{is_cut}
 use Rattle.sbp_laws.specs.Packets.{access_in, begun_in, is_under_way, is_waiting_for, packet_in, receiver_in, sender_in, waits_for}
-use Rattle.sbp_laws.specs.Targets.{Agent, agent_at, over, target_at}
+use Rattle.sbp_laws.specs.Targets.{agent_at, over, target_at}
 use Rattle.sbp_laws.specs.Terms.{ends}
 use Rattle.sbp_world.specs.Telling.{holder}
 use Rattle.sbp_world.specs.Wire.Wires.{Stands}
-use Rattle.sbp_world.specs.Worlds.{Scene, WorldState}
+use Rattle.sbp_world.specs.Worlds.{WorldState}
 use Rattle.sbp_world.proofs.Agents.Management.Holding.{past_terms}
 use Rattle.sbp_world.proofs.Agents.Management.Still.{hist}
 use Rattle.sbp_world.proofs.Hosts.PointerRuns.{Awaits, awaits_of}
 use Rattle.sbp_world.proofs.Hosts.Remaining.{remains}
 use Rattle.sbp_world.proofs.Wire.Bus.{holds}
-use Rattle.sbp_world.specs.Lists.CutOff.{AreForOrbs, HadSlot, IsForOrb, IsInSlot, IsMainAt, WasCutOff}
+use Rattle.sbp_world.specs.Lists.CutOff.{IsForOrb, IsInSlot, IsMainAt, WasCutOff}
 use Rattle.sbp_world.specs.Lists.LetsGo.{IsCut, WasReset}
-use Rattle.sbp_world.specs.Lists.Needs.{IsCalm, initiator_in, machine_at}
+use Rattle.sbp_world.specs.Lists.Needs.{initiator_in, machine_at}
 use Rattle.sbp_world.proofs.Lists.BegunBy.{transaction_of}
 use Rattle.sbp_world.proofs.Lists.CutOffs.{had_later, off_stays}
 use Rattle.sbp_world.proofs.Lists.DataWaits.{under_way_now}

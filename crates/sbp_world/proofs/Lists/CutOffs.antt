@@ -6,7 +6,6 @@ use Rattle.sbp_laws.specs.Lists.{orb, prepared_in, taken_at}
 use Rattle.sbp_laws.specs.OrderLaw.{IsOpen, is_cut}
 use Rattle.sbp_laws.specs.Terms.{ends}
 use Rattle.sbp_world.specs.Lists.CutOff.{HadSlot, WasCutOff, ahead, in_generation}
-use Rattle.sbp_world.specs.Lists.SlotsStay.{HasSlot}
 use Rattle.sbp_world.proofs.Lists.DataSlots.{same_orb}
 use Rattle.sbp_world.proofs.Lists.Joins.{Begins}
 use Rattle.sbp_world.proofs.Lists.Passing.{PassLaw}

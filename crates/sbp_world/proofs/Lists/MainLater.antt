@@ -1,18 +1,13 @@
 -- In every history what was the main transaction of the agent of a place is that still, or the agent let it go by a reply or in RESET; and what a request of the target is for as it is sent.
-use Rattle.std.proofs.Common.{arith, get_or-set_same, ◌≡◌, ◌∙◌, refl, sym, ap, subst, inl, inr, ◌⊎◌, ◌==◌, ◌||◌, ℕ, zero, suc, ◌+◌, Bool, true, false, cond, List, [], ◌∷◌, ◌++◌, Option, Some, None}
-use Rattle.std.specs.Prelude.{position, slice_set}
-use Rattle.std.proofs.lemmas.List.Quantifiers.{position-Some}
+use Rattle.std.proofs.Common.{arith, ◌≡◌, ◌∙◌, refl, sym, ap, inl, inr, ◌⊎◌, ◌==◌, ℕ, zero, suc, ◌+◌, Bool, true, false, cond, List, [], ◌∷◌, ◌++◌, Option, Some, None}
 use Rattle.command_agent.specs.declared.step.Which.{Which}
 use Rattle.command_agent.specs.declared.step.Which.TheVariants.{Ahead, Main}
-use Rattle.orb_layout.specs.declared.ask.Ask.TheVariants.{Nothing}
 use Rattle.rbc_disk.specs.Disk.{Disk}
 use Rattle.sbp_journal.specs.Run.{Moment}
-use Rattle.sbp_journal.specs.Transactions.{Part}
-use Rattle.sbp_laws.specs.Packets.{access_in_bytes}
-use Rattle.sbp_laws.specs.Targets.{Agent, Target, agent_at, for_agent, for_manager, for_nobody, is_serial, is_write_access, new_agent, over, purpose_among, purpose_of, sends_of, sent_as, sent_for, taken_on, target_at, wants, wants_it}
+use Rattle.sbp_laws.specs.Targets.{Agent, Target, agent_at, for_agent, for_manager, for_nobody, is_serial, purpose_among, purpose_of, target_at}
 use Rattle.sbp_world.specs.Agents.Crews.{agent_in}
-use Rattle.sbp_world.specs.Lists.LetsGo.{IsAnswered, IsCut, IsSentFor, MainStaysLaw, NobodysLaw, SentForLaw, WasLetGo, as_ahead, as_main, as_management, as_unsolicited}
-use Rattle.sbp_world.proofs.Lists.MainStays.{over_or_answered, stays_or}
+use Rattle.sbp_world.specs.Lists.LetsGo.{IsAnswered, IsCut, MainStaysLaw, WasLetGo}
+use Rattle.sbp_world.proofs.Lists.MainStays.{stays_or}
 use Rattle.std.proofs.lemmas.Bool.Decides.{nat_tests}
 
 no : {A : Type 0} → false ≡ true → A
@@ -67,51 +62,3 @@ somebodys t p serial e = by (is_serial t.manages serial)
     by : (b : Bool) → cond b for_manager (purpose_among 0 t.agents serial) ≡ for_nobody → ⊥
     by true f = manager_not f
     by false f = among_not 0 t.agents p serial e f
-
-pub nobodys_law : NobodysLaw
-nobodys_law start later before place serial e f = by (later_main start place serial later before e)
-  where
-    now : Target
-    now = target_at start (later ++ before)
-
-    ended : ((agent_at (over now) place).main ≡ Some serial) ⊎ IsAnswered now.reply place → WasLetGo start place serial later before ⊎ IsAnswered now.reply place
-    ended (inl w) = absurd (somebodys (over now) place serial w f)
-    ended (inr x) = inr x
-
-    by : ((agent_at now place).main ≡ Some serial) ⊎ WasLetGo start place serial later before → WasLetGo start place serial later before ⊎ IsAnswered now.reply place
-    by (inl w) = ended (over_or_answered start (later ++ before) place serial w)
-    by (inr x) = inl x
-
--- ---- as a request is sent
-sent_by : (x y : Bool) (a : Agent) (serial : ℕ) → (x || y) ≡ true → (let b = cond x (record a { main = Some serial; asks = Nothing }) (cond y (record a { ahead = Some serial; asks_ahead = Nothing }) a) in (b.main ≡ Some serial) ⊎ (b.ahead ≡ Some serial))
-sent_by true y a serial e = inl refl
-sent_by false true a serial e = inr refl
-sent_by false false a serial e = no e
-
-sent_at : (o : Option ℕ) (writes : Bool) (serial : ℕ) (t : Target) → position (wants_it writes) t.agents ≡ o → IsSentFor (sent_for o writes serial t) serial
-sent_at (Some k) writes serial t e = by (sent_by (wants a.asks writes) (wants a.asks_ahead writes) a serial (position-Some (wants_it writes) t.agents k new_agent e).1)
-  where
-    a : Agent
-    a = agent_at t k
-
-    now : Agent
-    now = sends_of writes serial a
-
-    here : agent_in (slice_set t.agents k now) k ≡ now
-    here = get_or-set_same t.agents k now new_agent (position-Some (wants_it writes) t.agents k new_agent e).0
-
-    by : (now.main ≡ Some serial) ⊎ (now.ahead ≡ Some serial) → IsSentFor (sent_for (Some k) writes serial t) serial
-    by (inl f) = as_main k (ap (λ (x : Agent). x.main) here ∙ f)
-    by (inr f) = as_ahead k (ap (λ (x : Agent). x.ahead) here ∙ f)
-sent_at None writes serial t e = by (wants t.manager_asks writes)
-  where
-    by : (b : Bool) → IsSentFor (cond b (record t { manages = Some serial; manager_asks = Nothing }) (record t { pushes = serial ∷ t.pushes })) serial
-    by true = as_management refl
-    by false = as_unsolicited t.pushes refl
-
-pub sent_for_law : SentForLaw
-sent_for_law start past serial generation to bytes label kind e =
-    let t = target_at start past in
-    let x = taken_on None t.reply t in
-    let writes = is_write_access (access_in_bytes bytes) in
-    subst (λ (part : Part). IsSentFor (sent_as part writes serial x) serial) (sym e) (sent_at (position (wants_it writes) x.agents) writes serial x refl)

@@ -20,7 +20,6 @@ use Rattle.sbp_laws.specs.Agents.{fifo_in}
 use Rattle.sbp_laws.specs.Lists.{command_at, linked, orb, prepared_in, present_list, slot_at}
 use Rattle.sbp_laws.specs.Targets.{Target, agent_at, login_at as term_login, over, target_at}
 use Rattle.sbp_laws.specs.Terms.{ends}
-use Rattle.sbp_world.specs.Telling.{holder}
 use Rattle.sbp_world.specs.Worlds.{WorldState, initiator_at}
 use Rattle.sbp_world.specs.Agents.AskedRuns.{IsAccessFor}
 use Rattle.sbp_world.proofs.Agents.Management.Holding.{Holding}

@@ -1,6 +1,6 @@
 -- In every run in which no initiator injected packets, or few logins were given, and before which lists were open as they should be: the main transaction of an agent that goes into the page table or the
 -- buffer of a slot of an initiator that injected none is for the first ORB of its list that has not ended, which has the slot.
-use Rattle.std.proofs.Common.{◌≡◌, sym, ap, subst, ◌<◌, ◌≤◌, ◌+◌, ℕ, Bool, true, false, List, ◌∷◌, ◌++◌, map, length, Option}
+use Rattle.std.proofs.Common.{◌≡◌, sym, ap, subst, ◌<◌, ◌≤◌, ℕ, Bool, true, false, List, ◌∷◌, ◌++◌, map, length, Option}
 use Rattle.rbc_disk.specs.Runs.{Told}
 use Rattle.sbp_journal.specs.Run.{Moment, asked, said}
 use Rattle.sbp_world.specs.Histories.{history_of}

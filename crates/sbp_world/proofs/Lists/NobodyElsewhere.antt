@@ -1,5 +1,5 @@
 -- What the target gets in answer to a request of nobody begins elsewhere than in the slot of an ORB of an open list: a request that goes there is under way, and is the main transaction of an agent, or an ORB had the slot whose list was cut.
-use Rattle.std.proofs.Common.{arith, ◌≡◌, ◌∙◌, refl, sym, ap, subst, inl, inr, ◌⊎◌, ◌<◌, ◌≤◌, ◌==◌, ◌&&◌, nat_eq, ℕ, suc, Bool, true, false, cond, List, [], ◌∷◌, length, Option, Some, None}
+use Rattle.std.proofs.Common.{arith, ◌≡◌, ◌∙◌, refl, sym, ap, inl, inr, ◌⊎◌, ◌<◌, ◌≤◌, ◌==◌, ◌&&◌, ℕ, suc, Bool, true, false, cond, List, [], Option, Some, None}
 use Rattle.std.proofs.lemmas.Bool.Decides.{nat_tests}
 use Rattle.bus_memory.specs.declared.window.Window.TheVariants as windows
 use Rattle.bus_memory.specs.Windows.{window_at}
@@ -13,7 +13,7 @@ use Rattle.sbp_laws.specs.CarriedBytes.{moved_by, payload_at, read_by}
 use Rattle.sbp_laws.specs.Lists.{orb, prepared_in, taken_at}
 use Rattle.sbp_laws.specs.OrderLaw.{IsOpen}
 use Rattle.sbp_laws.specs.Packets.{access_at, answered_at, begun_in, is_under_way, is_waiting_for, receiver_in, sender_in, waits_for}
-use Rattle.sbp_laws.specs.Targets.{agent_at, for_nobody, is_serial, over, purpose_of, target_at}
+use Rattle.sbp_laws.specs.Targets.{for_nobody, is_serial, over, purpose_of, target_at}
 use Rattle.sbp_laws.specs.Terms.{ends}
 use Rattle.sbp_world.specs.Lists.CutOff.{IsInSlot, IsMainAt, WasCutOff}
 use Rattle.sbp_world.specs.Lists.FedRuns.{AllElsewhere}

@@ -1,5 +1,5 @@
 -- In every run in which no initiator injected packets, or few logins were given, as each packet is got: what answers a request of nobody begins elsewhere than in the slot of an ORB of a list that is open.
-use Rattle.std.proofs.Common.{arith, ◌≡◌, ◌∙◌, refl, sym, ap, subst, ◌<◌, ◌≤◌, ℕ, suc, Bool, true, false, List, [], ◌∷◌, ◌++◌, length, map, Option, Some, None}
+use Rattle.std.proofs.Common.{arith, ◌≡◌, ◌∙◌, refl, sym, ap, subst, ◌<◌, ℕ, suc, Bool, List, [], ◌∷◌, ◌++◌, length, map, Option, Some, None}
 use Rattle.rbc_disk.specs.Disk.{Disk}
 use Rattle.bus_transactions.specs.Judging.{AreJudged}
 use Rattle.sbp_journal.specs.Run.{Moment, asked, said}
@@ -8,16 +8,15 @@ use Rattle.sbp_journal.specs.Wire.{Terms, terms}
 use Rattle.sbp_journal.specs.declared.event.Event.{Event}
 use Rattle.sbp_journal.specs.declared.note.Note.{Note}
 use Rattle.sbp_journal.specs.declared.note.Note.TheVariants as notes
-use Rattle.sbp_laws.specs.CarriedBytes.{read_by}
 use Rattle.sbp_laws.specs.Lawful.{injectors}
 use Rattle.sbp_laws.specs.Packets.{sender_in}
-use Rattle.sbp_laws.specs.Targets.{Target, for_nobody, over, purpose_of, target_at}
+use Rattle.sbp_laws.specs.Targets.{Target, for_nobody, purpose_of, target_at}
 use Rattle.sbp_laws.specs.Turns.{EachMoment}
 use Rattle.sbp_world.specs.Histories.{history_of, moments_behind}
 use Rattle.sbp_world.specs.Runs.{Run, after, beginning}
 use Rattle.sbp_world.specs.Settling.{after_all}
 use Rattle.sbp_world.specs.Wire.Wires.{Stands}
-use Rattle.sbp_world.specs.Worlds.{Scene, WorldState, begun}
+use Rattle.sbp_world.specs.Worlds.{WorldState, begun}
 use Rattle.sbp_world.specs.Hosts.Runs.{more_deliveries}
 use Rattle.sbp_world.proofs.Agents.Management.Holding.{past_terms}
 use Rattle.sbp_world.proofs.Agents.Management.Still.{hist}
@@ -26,7 +25,7 @@ use Rattle.sbp_world.specs.Lists.Closes.{Always, AreUntaken, OpenListsLaw, Under
 use Rattle.sbp_world.specs.Lists.CutOff.{AreCutOff, CutOffLaw}
 use Rattle.sbp_world.specs.Lists.FedRuns.{AllElsewhere}
 use Rattle.sbp_world.specs.Lists.FewLogins.{IsTameOrFew}
-use Rattle.sbp_world.specs.Lists.NobodyGots.{IsUnownedElsewhere, NobodyAsGot, NobodyAsGotLaw}
+use Rattle.sbp_world.specs.Lists.NobodyGots.{NobodyAsGot, NobodyAsGotLaw}
 use Rattle.sbp_world.proofs.Lists.Beside.{tame_or_few_before}
 use Rattle.sbp_world.proofs.Lists.Courses.{more_than_one}
 use Rattle.sbp_world.proofs.Lists.FedOnce.{judged_everywhere}
@@ -36,14 +35,14 @@ use Rattle.sbp_world.proofs.Lists.Judging.{counts_at}
 use Rattle.sbp_world.proofs.Lists.ListsProved.{closing}
 use Rattle.sbp_world.proofs.Lists.ManageSends.{opened_terms}
 use Rattle.sbp_world.proofs.Lists.ManageTerms.{same_some}
-use Rattle.sbp_world.proofs.Lists.NobodyElsewhere.{IsCurrent, IsUnownedNow, OffFacts, unowned_here}
+use Rattle.sbp_world.proofs.Lists.NobodyElsewhere.{IsCurrent, IsUnownedNow, unowned_here}
 use Rattle.sbp_world.proofs.Lists.OrbWaits.{over_twice}
 use Rattle.sbp_world.proofs.Lists.OwnGots.{answered_same, read_so}
 use Rattle.sbp_world.proofs.Lists.StatusKnown.{got_by}
 use Rattle.sbp_world.proofs.Lists.StatusRested.{Grounds}
 use Rattle.sbp_world.proofs.Lists.StatusRuns.{rises_of}
 use Rattle.sbp_world.proofs.Lists.TameWalks.{from_after, from_between}
-use Rattle.sbp_world.proofs.Lists.Walks.{Step, Walks}
+use Rattle.sbp_world.proofs.Lists.Walks.{Walks}
 use Rattle.sbp_world.proofs.Lists.WriteAnswers.{no_bytes}
 
 -- ---- as a line begins

@@ -7,7 +7,7 @@ use Rattle.sbp_journal.specs.Transactions.{Sending}
 use Rattle.sbp_journal.specs.Wire.{Terms, terms}
 use Rattle.sbp_journal.specs.declared.note.Note.TheVariants as notes
 use Rattle.sbp_laws.specs.Packets.{answered_at, is_under_way, sender_in}
-use Rattle.sbp_laws.specs.Targets.{Target, agent_at, for_nobody, is_serial, over, purpose_of, target_at}
+use Rattle.sbp_laws.specs.Targets.{Target, agent_at, is_serial, over, target_at}
 use Rattle.sbp_world.proofs.Agents.Management.Firsts.{wire_is}
 use Rattle.sbp_world.specs.Lists.LetsGo.{IsAnswered, IsClosing, IsCut, NobodyWaitsLaw, WasClosed, WasLetGo, WasReset}
 use Rattle.sbp_world.proofs.Lists.DataWaits.{never_again, never_late}

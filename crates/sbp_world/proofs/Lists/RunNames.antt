@@ -161,6 +161,7 @@ module _ (given : Type 0) (wild : ℕ → Bool) (start : List Disk) (past : List
         initiator = x.initiator;
         list = same_list x.named.led.n x.named.led.k n k name_is;
         number = same_orb x.named.led.n x.named.led.k n k name_is;
+        there = here.there;
         not_dummy = not_dummy wild start past s set run ran serial r own;
         as_appended = appended wild start past s set run ran serial r own n k next;
       }

@@ -1,5 +1,5 @@
 -- A request of the target for the page table or the buffer of a slot is no agent's read ahead, and not the management operation's.
-use Rattle.std.proofs.Common.{arith, ◌≡◌, ◌∙◌, refl, sym, ap, subst, ◌<◌, ◌+◌, ℕ, suc, Bool, true, false, List, length, Option, Some, None}
+use Rattle.std.proofs.Common.{arith, ◌≡◌, ◌∙◌, refl, sym, ap, subst, ◌<◌, ℕ, suc, Bool, true, false, List, length, Option, Some, None}
 use Rattle.bus_memory.specs.declared.window.Window.{Window}
 use Rattle.bus_memory.specs.declared.window.Window.TheVariants as windows
 use Rattle.bus_memory.specs.Windows.{window_at}
@@ -9,7 +9,6 @@ use Rattle.bus_transactions.proofs.Reaches.{goes_on}
 use Rattle.agent_laws.specs.Along.Requests.{ahead_ask}
 use Rattle.command_agent.specs.declared.phase.ReadAhead.{ReadAhead}
 use Rattle.command_agent.specs.declared.phase.ReadAhead.TheVariants as aheads
-use Rattle.command_agent.specs.declared.step.Which.{Which}
 use Rattle.command_agent.specs.declared.step.Which.TheVariants.{Ahead, Main}
 use Rattle.mgmt_agent.specs.Machine.{Machine, source_in}
 use Rattle.mgmt_agent.specs.declared.operation.Operation.{Operation}
@@ -21,14 +20,13 @@ use Rattle.sbp_journal.specs.Run.{Moment}
 use Rattle.sbp_journal.specs.Transactions.{Transaction}
 use Rattle.sbp_journal.specs.Wire.{Terms, terms}
 use Rattle.sbp_laws.specs.Packets.{access_at, receiver_in}
-use Rattle.sbp_laws.specs.Targets.{Target, agent_at, over, target_at}
+use Rattle.sbp_laws.specs.Targets.{agent_at, over, target_at}
 use Rattle.sbp_laws.specs.Turns.{EachMoment}
-use Rattle.sbp_world.specs.Telling.{holder}
 use Rattle.sbp_world.specs.Wire.Wires.{Stands}
 use Rattle.sbp_world.specs.Worlds.{WorldState}
 use Rattle.sbp_world.specs.Agents.AskedRuns.{IsAccessFor}
 use Rattle.sbp_world.specs.Agents.Management.Terms.{Awaits, HasRequest}
-use Rattle.sbp_world.proofs.Agents.Management.Holding.{Holding, past_terms, same_id}
+use Rattle.sbp_world.proofs.Agents.Management.Holding.{Holding, past_terms}
 use Rattle.sbp_world.proofs.Agents.Management.Still.{hist}
 use Rattle.sbp_world.specs.Lists.Along.{AreAlong}
 use Rattle.sbp_world.specs.Lists.Contents.{WasAsked}

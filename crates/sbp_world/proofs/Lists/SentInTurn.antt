@@ -1,20 +1,18 @@
 -- A request of the target for the page table or the buffer of a slot that is sent in a turn is, as the turn ends, the main transaction of an agent.
-use Rattle.std.proofs.Common.{arith, ◌≡◌, ◌∙◌, refl, sym, ap, subst, inl, inr, ◌⊎◌, ◌<◌, ◌≤◌, ℕ, zero, suc, Bool, true, false, cond, List, [], ◌∷◌, length, map, Option, Some, None}
-use Rattle.bus_memory.specs.declared.window.Window.{Window}
-use Rattle.bus_memory.specs.Windows.{window_at}
+use Rattle.std.proofs.Common.{arith, ◌≡◌, ◌∙◌, refl, sym, ap, subst, inl, inr, ◌⊎◌, ◌<◌, ℕ, zero, suc, Bool, true, false, cond, List, [], ◌∷◌, length, map, Option, Some, None}
 use Rattle.bus_transactions.specs.Packets.{SerialsCount}
 use Rattle.command_agent.specs.declared.step.Which.{Which}
 use Rattle.command_agent.specs.declared.step.Which.TheVariants.{Ahead, Main}
 use Rattle.command_agent.specs.Machine.{Machine}
 use Rattle.command_agent.specs.Steps as steps
 use Rattle.command_agent.specs.declared.step.AgentStep.{AgentStep}
-use Rattle.label_table.specs.Layer.{Layer, seeing_step}
+use Rattle.label_table.specs.Layer.{seeing_step}
 use Rattle.orb_layout.specs.declared.ask.Ask.TheVariants.{Nothing}
 use Rattle.orb_layout.specs.declared.ask.FailCause.TheVariants as causes
 use Rattle.rbc_disk.specs.Disk.{Disk}
 use Rattle.sbp_bus.specs.Generations.{id_of, node_of, topology_at}
 use Rattle.sbp_journal.specs.Outgoings.{empty_outbox}
-use Rattle.sbp_journal.specs.Run.{Moment, asked, said}
+use Rattle.sbp_journal.specs.Run.{Moment, asked}
 use Rattle.sbp_journal.specs.Transactions.{Kind, Sending, part_of, request}
 use Rattle.sbp_journal.specs.Wire.{Terms, terms}
 use Rattle.sbp_journal.specs.declared.event.Event.{Event}
@@ -26,9 +24,8 @@ use Rattle.sbp_target.specs.Calls.{Call, alone, lets_expire, receives, sees, set
 use Rattle.sbp_target.specs.Histories.Transactions.{IsUnderWay}
 use Rattle.sbp_target.specs.Nodes.{NodeState, Scene as TargetScene, scene}
 use Rattle.sbp_target.specs.Receiving.{seen}
-use Rattle.sbp_target.specs.declared.purpose.Purpose.{Purpose}
 use Rattle.sbp_target.specs.declared.purpose.Purpose.TheVariants as purposes
-use Rattle.sbp_target.proofs.Histories.Pass.{Leaves, sees_by}
+use Rattle.sbp_target.proofs.Histories.Pass.{sees_by}
 use Rattle.sbp_world.specs.Worlds.{WorldState}
 use Rattle.sbp_world.specs.Agents.Crews.{agent_in}
 use Rattle.sbp_world.proofs.Agents.Management.Holding.{Holding, known_id}

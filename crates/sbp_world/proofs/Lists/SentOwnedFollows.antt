@@ -12,7 +12,7 @@ use Rattle.orb_layout.specs.declared.ask.FailCause.TheVariants as causes
 use Rattle.orb_layout.specs.Replies.{Answer, NoLabel}
 use Rattle.command_agent.specs.declared.step.AgentStep.{AgentStep}
 use Rattle.command_agent.specs.declared.step.Which.TheVariants.{Ahead, Main}
-use Rattle.command_agent.specs.Machine.{Machine, is_under_way}
+use Rattle.command_agent.specs.Machine.{is_under_way}
 use Rattle.command_agent.specs.Steps.{lost_step, quiet}
 use Rattle.mgmt_agent.specs.declared.decision.ManagerStep.{ManagerStep}
 use Rattle.mgmt_agent.specs.Machine as management

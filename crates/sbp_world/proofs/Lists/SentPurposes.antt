@@ -1,5 +1,5 @@
 -- What a request of the target is for by the terms, at a place where its row in the label table belongs to somebody.
-use Rattle.std.proofs.Common.{◌≡◌, ◌∙◌, refl, sym, ap, subst, ◌<◌, ℕ, Bool, true, false, List, Option, Some, None}
+use Rattle.std.proofs.Common.{◌≡◌, ◌∙◌, refl, sym, ap, ◌<◌, ℕ, Bool, true, false, List, Some, None}
 use Rattle.bus_transactions.specs.Wire.{transaction}
 use Rattle.command_agent.specs.declared.step.Which.{Which}
 use Rattle.rbc_disk.specs.Disk.{Disk}

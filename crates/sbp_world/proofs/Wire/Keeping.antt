@@ -3,7 +3,7 @@ use Rattle.std.specs.Prelude.{◌≡◌, ℕ, Bool, List, [], Result, Ok, Err, I
 use Rattle.std.proofs.Common.{◌∙◌, ap, subst, sym}
 use Rattle.rbc_disk.specs.Disk.{Disk}
 use Rattle.sbp_journal.specs.declared.event.Event.{Event}
-use Rattle.sbp_world.proofs.Lists.Clauses.{answers_hold, brought_law, lengths_law, lists_law, reads_law}
+use Rattle.sbp_world.proofs.Lists.Clauses.{answers_hold, brought_law, carried_law, lengths_law, lists_law, reads_law}
 use Rattle.sbp_world.proofs.Lists.Executes.{due_runs_law}
 use Rattle.sbp_world.proofs.Lists.GrantRuns.{few_logins_law}
 use Rattle.sbp_world.proofs.Standing.{begins, goes_on, settles}
@@ -30,6 +30,7 @@ laws_of run are first is =
       few_logins = λ some most. few_logins_law.few first run bounds some most (sym is.media);
       on_lists = λ some most. lists_law.lists first run bounds some most (sym is.media);
       brought = λ some most. brought_law first run bounds some most (sym is.media);
+      carried = λ some most. carried_law first run bounds some most (sym is.media);
       reads = λ some most. reads_law.after_lines first run bounds some most (sym is.media);
       answers = λ some most. answers_hold first run bounds some most (sym is.media);
       lengths = λ some most. lengths_law.lengths first run bounds some most (sym is.media);

@@ -6,11 +6,10 @@ use Rattle.command_agent.specs.Machine.{is_sent}
 use Rattle.bus_transactions.specs.Packets.{SerialsCount}
 use Rattle.rbc_disk.specs.Disk.{Disk}
 use Rattle.sbp_journal.specs.Run.{Moment, said}
-use Rattle.sbp_journal.specs.Transactions.{Kind, part_of, request}
 use Rattle.sbp_journal.specs.Wire.{terms}
 use Rattle.sbp_journal.specs.declared.note.Note.TheVariants as notes
 use Rattle.sbp_laws.specs.Packets.{answered_at, is_under_way, sender_in}
-use Rattle.sbp_laws.specs.Targets.{Agent, Reply, Target, agent_at, for_nobody, is_nothing, is_serial, known_at, over, purpose_of, target_at}
+use Rattle.sbp_laws.specs.Targets.{Agent, Reply, agent_at, for_nobody, is_nothing, is_serial, known_at, over, purpose_of, target_at}
 
 -- An agent has one main transaction at most: none where it waits for none by its phase, and none while it asks for one.
 pub record HasOneMain (a : Agent) : Type 0 where
@@ -39,22 +38,6 @@ pub record WasLetGo (start : List Disk) (place serial : ℕ) (later before : Lis
 abbrev pub MainStaysLaw : Type 0
 MainStaysLaw =
     (start : List Disk) (later before : List Moment) (place serial : ℕ) → (agent_at (target_at start before) place).main ≡ Some serial → ((agent_at (target_at start (later ++ before)) place).main ≡ Some serial) ⊎ WasLetGo start place serial later before
-
--- And what is nobody's now was let go since, or the agent is taken on by a reply to it as the turn ends.
-abbrev pub NobodysLaw : Type 0
-NobodysLaw =
-    (start : List Disk) (later before : List Moment) (place serial : ℕ) → (agent_at (target_at start before) place).main ≡ Some serial → (let now = target_at start (later ++ before) in purpose_of (over now) serial ≡ for_nobody → WasLetGo start place serial later before ⊎ IsAnswered now.reply place)
-
--- What a request of the target is for, as it is sent: the main transaction of an agent, its read ahead, the management operation's, or an unsolicited status.
-pub data IsSentFor (t : Target) (serial : ℕ) : Type 0 where
-  as_main : (place : ℕ) → (agent_at t place).main ≡ Some serial → IsSentFor t serial
-  as_ahead : (place : ℕ) → (agent_at t place).ahead ≡ Some serial → IsSentFor t serial
-  as_management : t.manages ≡ Some serial → IsSentFor t serial
-  as_unsolicited : (pushes : List ℕ) → t.pushes ≡ serial ∷ pushes → IsSentFor t serial
-
-abbrev pub SentForLaw : Type 0
-SentForLaw =
-    (start : List Disk) (past : List Moment) (serial generation to : ℕ) (bytes : List ℕ) (label : ℕ) (kind : Kind) → part_of bytes ≡ request label kind → IsSentFor (target_at start (said (notes.Sent serial generation 0 to bytes) ∷ past)) serial
 
 -- A moment closes a transaction of the target: the answer to its request is got, or it times out.
 abbrev pub IsClosing : List Disk → Moment → List Moment → (serial : ℕ) → Type 0

@@ -14,7 +14,7 @@ use Rattle.sbp_journal.specs.Wire.{terms}
 use Rattle.sbp_journal.specs.declared.note.Note.TheVariants as notes
 use Rattle.sbp_laws.specs.CarriedBytes.{address_of}
 use Rattle.sbp_laws.specs.CarriedLaw.{IsAsAppended, MatchesStatus}
-use Rattle.sbp_laws.specs.Lists.{linked, orb as named_orb, prepared_in}
+use Rattle.sbp_laws.specs.Lists.{linked, orb as named_orb, prepared_in, slot_at}
 use Rattle.sbp_laws.specs.Packets.{receiver_in}
 use Rattle.sbp_laws.specs.Targets.{agent_at, over, target_at}
 use Rattle.sbp_laws.specs.Terms.{ends, lists, request_at}
@@ -83,7 +83,7 @@ pub record EndIsNamed (start : List Disk) (past : List Moment) (i n k : ℕ) (st
   pub number : named.led.k ≡ k
   pub matches : IsSomeAnd (request_at past i n k) (λ request. MatchesStatus status orb request)
 
--- no dummy, and that of the append
+-- no dummy, and that of the append; and it is the one that was prepared last in its slot still
 pub record RunIsNamed (start : List Disk) (past : List Moment) (i n k : ℕ) : Type 0 where
   pub place : ℕ
   pub small : place < 8
@@ -92,5 +92,6 @@ pub record RunIsNamed (start : List Disk) (past : List Moment) (i n k : ℕ) : T
   pub initiator : named.i ≡ i
   pub list : named.led.n ≡ n
   pub number : named.led.k ≡ k
+  pub there : prepared_in past i (slot_at past i n k) ≡ Some (named_orb n k)
   pub not_dummy : orb.format ≡ 3 → ⊥
   pub as_appended : IsSomeAnd (request_at past i n k) (λ request. IsAsAppended orb request)

@@ -4,7 +4,7 @@ use Rattle.rbc_disk.specs.Held.{Held}
 use Rattle.rbc_disk.specs.Runs.{Told}
 use Rattle.sbp_journal.specs.declared.event.Event.{Event}
 use Rattle.sbp_journal.specs.declared.event.Event.TheVariants as events
-use Rattle.sbp_laws.specs.CarriedLaw.{RunsWhereDue}
+use Rattle.sbp_laws.specs.CarriedLaw.{CarriedLaw, RunsWhereDue}
 use Rattle.sbp_laws.specs.Lawful.{injectors}
 use Rattle.sbp_laws.specs.OnLists.{LawfulOnLists}
 use Rattle.sbp_laws.specs.OnTheBus.{LawfulOnTheBus}
@@ -32,8 +32,8 @@ pub record IsLikeAScripts (run : Run) : Type 0 where
 
 -- The laws of a run whose first line has this number: its history has those of the wire, its journal those of the lines of the bus; where it
 -- has one to four units, commands run in each turn exactly where they are due, those of any initiators; and where then no initiator injected packets or few logins were
--- given, its history has the laws of lists, what ran and what ended was read as the carried law says, and brought by reads, and each answer that is taken has its length, is what was
--- written of it, and is the plain disk's. In up to 65,536 lines behind the first, few logins are given.
+-- given, its history has the laws of lists and the carried law, of how what ran and what ended was read, and brought by reads, of what commands run with, and of what was written of each answer
+-- that is taken; and each of these has its length, and is the plain disk's. In up to 65,536 lines behind the first, few logins are given.
 pub record HasLaws (first : ℕ) (run : Run) : Type 0 where
   pub of_wire : IsOfWire (history_of first run)
   pub on_the_bus : LawfulOnTheBus (injectors (history_of first run)) (journal_run first run)
@@ -41,6 +41,7 @@ pub record HasLaws (first : ℕ) (run : Run) : Type 0 where
   pub few_logins : 0 < run.units → run.units ≤ 4 → length run.entries ≤ 65536 → FewLogins (history_of first run)
   pub on_lists : 0 < run.units → run.units ≤ 4 → IsTameOrFew (history_of first run) → LawfulOnLists (injectors (history_of first run)) run.start.disks (history_of first run)
   pub brought : 0 < run.units → run.units ≤ 4 → IsTameOrFew (history_of first run) → AreBrought (injectors (history_of first run)) run.start.disks (history_of first run)
+  pub carried : 0 < run.units → run.units ≤ 4 → IsTameOrFew (history_of first run) → CarriedLaw (injectors (history_of first run)) run.start.disks (history_of first run)
   pub reads : 0 < run.units → run.units ≤ 4 → IsTameOrFew (history_of first run) → WereRead (injectors (history_of first run)) run.start.disks (history_of first run)
   pub answers : 0 < run.units → run.units ≤ 4 → IsTameOrFew (history_of first run) → AnswersHold (injectors (history_of first run)) run.start.disks (history_of first run)
   pub lengths : 0 < run.units → run.units ≤ 4 → IsTameOrFew (history_of first run) → (i : ℕ) → i < run.initiators → injectors (history_of first run) i ≡ false → EachMoment (LengthOf run.start.disks i) (history_of first run)
