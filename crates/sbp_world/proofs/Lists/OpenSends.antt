@@ -1,14 +1,10 @@
 -- As the target sent a read that an agent waits for, to an initiator that injected no packets, the latest list of this initiator was open: this agent alone of the initiator's was out of RESET, and the pointer that it took names the list. A turn keeps this.
 use Rattle.std.proofs.Common.{inl, inr, ◌⊎◌, arith, ◌≡◌, ◌∙◌, refl, sym, ap, subst, ◌<◌, ◌≤◌, ◌+◌, not, ℕ, suc, nat_lt, Bool, true, false, List, [], ◌∷◌, ◌++◌, map, Option, Some, None}
 use Rattle.std.proofs.lemmas.Bool.Decides.{nat_tests}
-use Rattle.agent_laws.specs.Along.Along.{KnowsAhead, Progress}
-use Rattle.agent_laws.specs.Along.Lists.{OrbList}
-use Rattle.agent_laws.specs.Along.Requests.{ahead_ask, main_ask}
 use Rattle.command_agent.specs.declared.phase.Phase.{Phase}
-use Rattle.command_agent.specs.declared.phase.Phase.TheVariants as phases
 use Rattle.command_agent.specs.declared.step.Which.{Which}
 use Rattle.command_agent.specs.declared.step.Which.TheVariants.{Ahead, Main}
-use Rattle.command_agent.specs.Machine.{Machine, state_in}
+use Rattle.command_agent.specs.Machine.{state_in}
 use Rattle.command_agent.specs.Steps.{is_reset}
 use Rattle.rbc_disk.specs.Disk.{Disk}
 use Rattle.sbp_journal.specs.Addresses.{Access}
@@ -17,24 +13,23 @@ use Rattle.sbp_journal.specs.Transactions.{Sending}
 use Rattle.sbp_journal.specs.Wire.{terms}
 use Rattle.sbp_journal.specs.declared.note.Note.{Note}
 use Rattle.sbp_journal.specs.declared.note.Note.TheVariants as notes
-use Rattle.sbp_laws.specs.Agents.{fifo_in, initiator_at as term_initiator, pointed_in}
+use Rattle.sbp_laws.specs.Agents.{initiator_at as term_initiator, pointed_in}
 use Rattle.sbp_laws.specs.CarriedBytes.{before_sent, open_list}
 use Rattle.bus_memory.specs.Windows.{slot_of}
 use Rattle.sbp_laws.specs.Lists.{list_in, named_in}
 use Rattle.sbp_laws.specs.Packets.{access_at, access_in, packet_in, receiver_in, sender_in}
-use Rattle.sbp_laws.specs.Targets.{Target, agent_at, known_at, login_at as term_login, over, target_at}
+use Rattle.sbp_laws.specs.Targets.{Target, agent_at, known_at, over, target_at}
 use Rattle.sbp_laws.specs.Terms.{lists}
 use Rattle.bus_transactions.specs.Packets.{SerialsCount}
 use Rattle.sbp_world.specs.Agents.Alike.{has_list}
-use Rattle.sbp_world.specs.Agents.AskedRuns.{IsAccessFor, serial_of}
+use Rattle.sbp_world.specs.Agents.AskedRuns.{serial_of}
 use Rattle.sbp_world.specs.Agents.Crews.{agent_in}
 use Rattle.sbp_world.specs.Worlds.{Scene, WorldState}
 use Rattle.sbp_world.proofs.Agents.Management.Holding.{Holding}
 use Rattle.sbp_world.proofs.Agents.Management.Still.{hist}
 use Rattle.sbp_world.proofs.Hosts.Remaining.{remains}
 use Rattle.sbp_world.proofs.Hosts.SentMoments.{sent_below}
-use Rattle.sbp_world.specs.Lists.Lists.{orbs}
-use Rattle.sbp_world.specs.Lists.Needs.{IsCalm, IsOpenAt, initiator_in, machine_at}
+use Rattle.sbp_world.specs.Lists.Needs.{IsCalm, IsOpenAt, initiator_in, is_open_at, machine_at}
 use Rattle.sbp_world.specs.Lists.OneUp.{AreApart}
 use Rattle.sbp_world.specs.Lists.Opened.{IsUp}
 use Rattle.sbp_world.specs.Lists.FewLogins.{IsTameOrFew}
@@ -42,12 +37,11 @@ use Rattle.sbp_world.proofs.Lists.LiveRuns.{goes_calm}
 use Rattle.sbp_world.proofs.Lists.Awaited.{Awaits, waits_as}
 use Rattle.sbp_world.proofs.Lists.Courses.{Goes}
 use Rattle.sbp_world.proofs.Lists.Judging.{goes_next, grown as grown_by}
-use Rattle.sbp_world.proofs.Lists.ManageTerms.{none_is, untrue}
+use Rattle.sbp_world.proofs.Lists.ManageTerms.{none_is}
 use Rattle.sbp_world.proofs.Lists.OpenCuts.{is_up}
 use Rattle.sbp_world.proofs.Lists.OpenTurns.{listing_up, up_state}
-use Rattle.sbp_world.proofs.Lists.PointersHeld.{AllHold, ends_turn, is_alive, note_goes, stay, then_goes}
-use Rattle.sbp_world.proofs.Lists.PointersRuns.{AreNaming, NamesList, alive_list}
-use Rattle.sbp_world.proofs.Lists.ReadSlots.{under_as}
+use Rattle.sbp_world.proofs.Lists.PointersHeld.{AllHold, ends_turn, note_goes, stay, then_goes}
+use Rattle.sbp_world.proofs.Lists.PointersRuns.{AreNaming, NamesList}
 use Rattle.sbp_world.proofs.Lists.SendsLast.{AllSends}
 use Rattle.sbp_world.proofs.Lists.SendsLeave.{Leaves, SameIds, beyond_down, no_open, one_open, over_leaves, same_initiator, sends_ids, sends_leave, sends_lists, sends_named, then_left}
 use Rattle.sbp_world.proofs.Lists.Sites.{Site, Waiting, waiting, who_up}
@@ -73,32 +67,6 @@ pub record ReadsOf (start : List Disk) (past : List Moment) (place : ℕ) (which
 
 abbrev pub AreOpenReads : List Disk → List Moment → Type 0
 AreOpenReads start past = (place : ℕ) → place < 8 → (which : Which) (serial i : ℕ) → ReadsOf start past place which serial i → IsOpenThen start (before_sent past serial) i
-
--- ---- one that waits for a read is not about to be dead
-module _ (is_status : Bool) (fifo : ℕ) (access : Access) (reads : access.is_write ≡ false) where
-  main_alive : (phase : Phase) (m : Machine) → has_list phase ≡ true → IsAccessFor (main_ask phase m) is_status fifo access → is_alive phase ≡ true
-  main_alive phases.Reset m e a = untrue e
-  main_alive phases.Dead m e a = untrue e
-  main_alive phases.WritingLastStatus m e a = untrue (sym reads ∙ ap (λ (x : Access). x.is_write) a.0)
-  main_alive phases.Fetching m e a = refl
-  main_alive phases.ReadingTable m e a = refl
-  main_alive (phases.ReadingData wanted) m e a = refl
-  main_alive phases.Answering m e a = refl
-  main_alive phases.WritingStatus m e a = refl
-  main_alive phases.ReadingNext m e a = refl
-  main_alive phases.Suspended m e a = refl
-
-  ahead_alive : (phase : Phase) (m : Machine) (l : OrbList) (p : Progress) → has_list phase ≡ true → KnowsAhead l p phase m.orb.next m.ahead → IsAccessFor (ahead_ask m.ahead m.orb.next) is_status fifo access → is_alive phase ≡ true
-  ahead_alive phases.Reset m l p e k a = untrue e
-  ahead_alive phases.Dead m l p e k a = untrue e
-  ahead_alive phases.WritingLastStatus m l p e k a = absurd (subst (λ x. IsAccessFor (ahead_ask x m.orb.next) is_status fifo access) k a)
-  ahead_alive phases.Fetching m l p e k a = refl
-  ahead_alive phases.ReadingTable m l p e k a = refl
-  ahead_alive (phases.ReadingData wanted) m l p e k a = refl
-  ahead_alive phases.Answering m l p e k a = refl
-  ahead_alive phases.WritingStatus m l p e k a = refl
-  ahead_alive phases.ReadingNext m l p e k a = refl
-  ahead_alive phases.Suspended m l p e k a = refl
 
 received : (so : Option Sending) (i : ℕ) → receiver_in so ≡ Some i → (packet : Sending) × (so ≡ Some packet)
 received None i e = none_is i e
@@ -175,16 +143,16 @@ module _ (units ready : ℕ) (has : 0 < units) (start : List Disk) (past : List 
   pub none_open : (i : ℕ) → ((place : ℕ) → place < 8 → IsUp v i place → ⊥) → open_list start then i ≡ None
   none_open i none = no_open then (terms then) t i 0 t.agents (λ j k at u e. let x = up_of i j k at u e in none j x.0 x.1)
 
-  -- The list of an agent that is not about to be dead is the open one of its initiator.
-  module _ (naming : AreNaming start now v) (apart : AreApart now v) (place : ℕ) (b : place < 8) (alive : is_alive (machine_at v place).phase ≡ true) (calm : IsCalm now (initiator_in v place)) (o : IsOpenAt now v place) where
+  -- The list that an agent has open is the open one of its initiator.
+  module _ (naming : AreNaming start now v) (apart : AreApart now v) (place : ℕ) (b : place < 8) (open_there : is_open_at v place ≡ true) (calm : IsCalm now (initiator_in v place)) (o : IsOpenAt now v place) where
     abbrev i : ℕ
     i = initiator_in v place
 
-    held : ((agent_at T place).pointer ≡ (agent_at t place).pointer) × (is_alive (agent_at t place).machine.phase ≡ true)
-    held = hold place (ap is_alive (phase_same place b) ∙ alive)
+    held : ((agent_at T place).pointer ≡ (agent_at t place).pointer) × (has_list (agent_at t place).machine.phase ≡ true)
+    held = hold place (ap has_list (phase_same place b) ∙ open_there)
 
     abbrev name : NamesList now i o.n (agent_at T place).pointer
-    name = naming place b alive calm o.n o.list
+    name = naming place b open_there calm o.n o.list
 
     list_is : list_in (pointed_in then i (agent_at t place).pointer) ≡ Some o.n
     list_is =
@@ -194,7 +162,7 @@ module _ (units ready : ℕ) (has : 0 < units) (start : List Disk) (past : List 
 
     -- the place is the initiator's, and no other one of it has an agent out of RESET
     up_here : is_up (agent_in t.agents place).machine ≡ true
-    up_here = listing_up (agent_in t.agents place).machine.phase (alive_list (agent_in t.agents place).machine.phase held.1)
+    up_here = listing_up (agent_in t.agents place).machine.phase held.1
 
     own : term_initiator t (terms then) place ≡ i
     own = owner place b (up_at place b up_here)
@@ -231,33 +199,15 @@ module _ (units ready : ℕ) (has : 0 < units) (start : List Disk) (past : List 
   abbrev o : IsOpenAt (hist past v) v place
   o = (q.lists beside).listed place b asked.is_open calm
 
-  same_access : (a c : Access) → Some a ≡ Some c → a ≡ c
-  same_access a c e = cc
-
-  reads : asked.access.is_write ≡ false
-  reads = ap (λ (x : Access). x.is_write) (same_access asked.access r.access (sym asked.is ∙ r.is)) ∙ r.reads
-
-  abbrev fifo : ℕ
-  fifo = fifo_in (term_login (over (target_at start (hist past v))) place)
-
-  alive : is_alive (machine_at v place).phase ≡ true
-  alive = by which asked.asks
-    where
-      by : (one : Which) → IsAccessFor (under_as one (machine_at v place)) asked.status fifo asked.access → is_alive (machine_at v place).phase ≡ true
-      by Main a = main_alive asked.status fifo asked.access reads (machine_at v place).phase (machine_at v place) asked.is_open a
-      by Ahead a =
-          let goes = q.along.all place b asked.is_open calm o.n o.list in
-          ahead_alive asked.status fifo asked.access reads (machine_at v place).phase (machine_at v place) (orbs (hist past v) (initiator_in v place) o.n) goes.progress asked.is_open goes.along.ahead a
-
   pub opened_last : IsOpenThen start then i
   opened_last = record {
     n = o.n;
     opened =
         subst (λ j. open_list start then j ≡ Some o.n) (sym i_is)
-        (open_is units ready has start past v h site then last.behind last.are_sends last.is naming apart place b alive calm o);
+        (open_is units ready has start past v h site then last.behind last.are_sends last.is naming apart place b asked.is_open calm o);
     latest =
         subst (λ j. suc o.n ≡ lists then j) (sym i_is)
-        (latest_is units ready has start past v h site then last.behind last.are_sends last.is naming apart place b alive calm o);
+        (latest_is units ready has start past v h site then last.behind last.are_sends last.is naming apart place b asked.is_open calm o);
   }
 
 -- ---- a turn

@@ -126,7 +126,7 @@ pub no_got : (note : Note) → IsBehindFirst note → IsNoGot note
 no_got (notes.Got serial) q = absurd q
 no_got note q = tt
 
--- where no reply waits they leave each agent that stays alive
+-- where no reply waits they leave each agent that has a list
 pub record Resting (t x : Target) : Type 0 where
   pub agents : AllRest t.agents x.agents
   pub reply : x.reply ≡ t.reply

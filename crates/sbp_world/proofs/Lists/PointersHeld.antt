@@ -1,4 +1,4 @@
--- Behind the first note of a turn an agent of the terms keeps the pointer that it took last, while it has a list and has not lost its last status block; and it had one before.
+-- Behind the first note of a turn an agent of the terms keeps the pointer that it took last, while it has a list; and it had one before.
 use Rattle.std.proofs.Common.{◌≡◌, ◌∙◌, refl, sym, ap, ◌==◌, not, ℕ, zero, suc, ◌+◌, Bool, true, false, cond, List, [], ◌∷◌, map, Option, Some, None, Result, Ok, Err}
 use Rattle.std.specs.Prelude.{is_none, position, slice_set}
 use Rattle.command_agent.specs.declared.step.AgentStep.{AgentStep}
@@ -35,6 +35,7 @@ use Rattle.sbp_journal.specs.declared.operation.FunctionWord.TheVariants as func
 use Rattle.sbp_laws.specs.Packets.{access_in_bytes, sender_in}
 use Rattle.sbp_laws.specs.Targets.{Agent, Decided, Purpose, Reply, Target, agent_at, agent_over, closed, cut_agent, cut_where, decided_by, keep_decided, plain_for, reply_of, untold_by, effect_on, enters_in, for_agent, for_manager, for_nobody, going_on, is_nothing, is_serial, is_write_access, key_by, main_lost, managed_by, manager_step, moved, new_agent, on_unit, over, purpose_of, replied, replied_to, reset_seen, sends_of, sent_as, sent_for, started_by, taken_on, target_by, told_in, wants, wants_it, with_untold}
 use Rattle.sbp_laws.specs.Turns.{event_of}
+use Rattle.sbp_world.specs.Agents.Alike.{has_list}
 use Rattle.sbp_world.specs.Agents.Crews.{agent_in}
 
 -- any note but of a packet that is got
@@ -43,16 +44,9 @@ IsNoGot (notes.Got serial) = ⊥
 IsNoGot note = Unit {0}
 
 -- ---- an agent
--- it has a list, and is not about to be dead
-abbrev pub is_alive : Phase → Bool
-is_alive phases.Reset = false
-is_alive phases.Dead = false
-is_alive phases.WritingLastStatus = false
-is_alive _ = true
-
--- one that is so then was so before, with its pointer
+-- one that has a list had one before, with its pointer
 abbrev pub Holds : (before now : Agent) → Type 0
-Holds before now = is_alive now.machine.phase ≡ true → (now.pointer ≡ before.pointer) × (is_alive before.machine.phase ≡ true)
+Holds before now = has_list now.machine.phase ≡ true → (now.pointer ≡ before.pointer) × (has_list before.machine.phase ≡ true)
 
 pub self : (a : Agent) → Holds a a
 self a = λ e. (refl, e)
@@ -60,17 +54,17 @@ self a = λ e. (refl, e)
 then_holds : (a b c : Agent) → Holds a b → Holds b c → Holds a c
 then_holds a b c f g = λ e. let y = g e in let x = f y.1 in (y.0 ∙ x.0, x.1)
 
-as_holds : (a : Agent) (machine : Machine) → (is_alive a.machine.phase ≡ false → is_alive machine.phase ≡ false) → is_alive machine.phase ≡ true → is_alive a.machine.phase ≡ true
-as_holds a machine f e = by (is_alive a.machine.phase) refl
+as_holds : (a : Agent) (machine : Machine) → (has_list a.machine.phase ≡ false → has_list machine.phase ≡ false) → has_list machine.phase ≡ true → has_list a.machine.phase ≡ true
+as_holds a machine f e = by (has_list a.machine.phase) refl
   where
-    by : (b : Bool) → is_alive a.machine.phase ≡ b → b ≡ true
+    by : (b : Bool) → has_list a.machine.phase ≡ b → b ≡ true
     by true g = refl
     by false g = untrue (sym (f g) ∙ e)
 
-main_stays : (place : ℕ) (plain : PlainDisk) (told : Told) (phase : Phase) (m : Machine) (answer : Answer) → is_alive phase ≡ false → is_alive m.phase ≡ false → is_alive (served place plain told (advanced phase m answer).0 (advanced phase m answer).1).1.phase ≡ false
+main_stays : (place : ℕ) (plain : PlainDisk) (told : Told) (phase : Phase) (m : Machine) (answer : Answer) → has_list phase ≡ false → has_list m.phase ≡ false → has_list (served place plain told (advanced phase m answer).0 (advanced phase m answer).1).1.phase ≡ false
 main_stays place plain told phases.Reset m answer e f = f
 main_stays place plain told phases.Dead m answer e f = f
-main_stays place plain told phases.WritingLastStatus m answer e f = refl
+main_stays place plain told phases.WritingLastStatus m answer e f = untrue (sym e)
 main_stays place plain told phases.Fetching m answer e f = untrue (sym e)
 main_stays place plain told phases.ReadingTable m answer e f = untrue (sym e)
 main_stays place plain told (phases.ReadingData wanted) m answer e f = untrue (sym e)
@@ -79,23 +73,23 @@ main_stays place plain told phases.WritingStatus m answer e f = untrue (sym e)
 main_stays place plain told phases.ReadingNext m answer e f = untrue (sym e)
 main_stays place plain told phases.Suspended m answer e f = untrue (sym e)
 
-ahead_stays : (m : Machine) (r : Result (List ℕ) FailCause) → is_alive m.phase ≡ false → is_alive (steps.ahead_read m r).1.phase ≡ false
+ahead_stays : (m : Machine) (r : Result (List ℕ) FailCause) → has_list m.phase ≡ false → has_list (steps.ahead_read m r).1.phase ≡ false
 ahead_stays m (Ok bytes) e = e
 ahead_stays m (Err cause) e = e
 
-if_stays : (b : Bool) (x y : AgentStep × Machine) → is_alive x.1.phase ≡ false → is_alive y.1.phase ≡ false → is_alive (cond b x y).1.phase ≡ false
+if_stays : (b : Bool) (x y : AgentStep × Machine) → has_list x.1.phase ≡ false → has_list y.1.phase ≡ false → has_list (cond b x y).1.phase ≡ false
 if_stays true x y h i = h
 if_stays false x y h i = i
 
-reply_stays : (m : Machine) (place : ℕ) (plain : PlainDisk) (told : Option Told) (which : Which) (answer : Answer) → is_alive m.phase ≡ false → is_alive (reply_step m place plain told which answer).1.phase ≡ false
+reply_stays : (m : Machine) (place : ℕ) (plain : PlainDisk) (told : Option Told) (which : Which) (answer : Answer) → has_list m.phase ≡ false → has_list (reply_step m place plain told which answer).1.phase ≡ false
 unfolding reply_step
 reply_stays m place plain told Main answer e = main_stays place plain (told_or told) m.phase m answer e e
 reply_stays m place plain told Ahead answer e = if_stays (is_ahead m.ahead) (ahead_step m answer) (quiet, m) (ahead_stays m (payload_of answer 32) e) e
 
-lost_by : (phase : Phase) (m : Machine) (cause : FailCause) → is_alive phase ≡ false → is_alive m.phase ≡ false → is_alive (steps.main_lost phase m cause).1.phase ≡ false
+lost_by : (phase : Phase) (m : Machine) (cause : FailCause) → has_list phase ≡ false → has_list m.phase ≡ false → has_list (steps.main_lost phase m cause).1.phase ≡ false
 lost_by phases.Reset m cause e f = f
 lost_by phases.Dead m cause e f = f
-lost_by phases.WritingLastStatus m cause e f = refl
+lost_by phases.WritingLastStatus m cause e f = untrue (sym e)
 lost_by phases.Fetching m cause e f = untrue (sym e)
 lost_by phases.ReadingTable m cause e f = untrue (sym e)
 lost_by (phases.ReadingData wanted) m cause e f = untrue (sym e)
@@ -104,20 +98,20 @@ lost_by phases.WritingStatus m cause e f = untrue (sym e)
 lost_by phases.ReadingNext m cause e f = untrue (sym e)
 lost_by phases.Suspended m cause e f = untrue (sym e)
 
-lost_stays : (m : Machine) (which : Which) (cause : FailCause) → is_alive m.phase ≡ false → is_alive (steps.lost_step m which cause).1.phase ≡ false
+lost_stays : (m : Machine) (which : Which) (cause : FailCause) → has_list m.phase ≡ false → has_list (steps.lost_step m which cause).1.phase ≡ false
 unfolding steps.lost_step
 lost_stays m Main cause e = lost_by m.phase m cause e e
 lost_stays m Ahead cause e = if_stays (is_ahead m.ahead) (steps.ahead_lost m cause) (quiet, m) e e
 
-abort_stays : (m : Machine) (orb : ℕ) → is_alive (steps.abort_step m orb).phase ≡ is_alive m.phase
+abort_stays : (m : Machine) (orb : ℕ) → has_list (steps.abort_step m orb).phase ≡ has_list m.phase
 unfolding steps.abort_step
 abort_stays m orb = refl
 
-reset_dead : (m : Machine) → is_alive (steps.reset_step m).phase ≡ false
+reset_dead : (m : Machine) → has_list (steps.reset_step m).phase ≡ false
 unfolding steps.reset_step
 reset_dead m = refl
 
-moves : (step : AgentStep × Machine) (a : Agent) → (is_alive a.machine.phase ≡ false → is_alive step.1.phase ≡ false) → Holds a (moved step a)
+moves : (step : AgentStep × Machine) (a : Agent) → (has_list a.machine.phase ≡ false → has_list step.1.phase ≡ false) → Holds a (moved step a)
 moves step a f = λ e. (refl, as_holds a step.1 f e)
 
 closes : (which : Which) (a : Agent) → Holds a (closed which a)
@@ -153,8 +147,8 @@ sends is_write serial a = by (wants a.asks is_write) (wants a.asks_ahead is_writ
     by false true = λ e. (refl, e)
     by false false = self a
 
--- one that is not alive
-rests : (a now : Agent) → is_alive now.machine.phase ≡ false → Holds a now
+-- one that has none
+rests : (a now : Agent) → has_list now.machine.phase ≡ false → Holds a now
 rests a now f = λ e. untrue (sym f ∙ e)
 
 -- ---- the agents of all places
@@ -204,7 +198,7 @@ takes_on told (Some reply) t =
     let a = agent_at t reply.place in
     let b = closed reply.which a in
     let step = reply_of t reply told in
-    set_goes t.agents reply.place (moved step b) (then_holds a b (moved step b) (closes reply.which a) (moves step b (λ g. reply_stays a.machine reply.place (plain_for t reply) told reply.which reply.answer (ap (λ (m : Machine). is_alive m.phase) (sym (closed_machine reply.which a)) ∙ g))))
+    set_goes t.agents reply.place (moved step b) (then_holds a b (moved step b) (closes reply.which a) (moves step b (λ g. reply_stays a.machine reply.place (plain_for t reply) told reply.which reply.answer (ap (λ (m : Machine). has_list m.phase) (sym (closed_machine reply.which a)) ∙ g))))
 
 unsaid : (note : Note) (reply : Option Reply) (t : Target) → TargetHolds t (with_untold note reply t)
 unsaid note None t = stay t.agents

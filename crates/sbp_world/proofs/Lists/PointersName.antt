@@ -10,9 +10,9 @@ use Rattle.sbp_journal.specs.declared.event.Event.{Event}
 use Rattle.sbp_journal.specs.declared.event.Event.TheVariants as events
 use Rattle.sbp_journal.specs.declared.note.Note.{Note}
 use Rattle.sbp_journal.specs.declared.note.Note.TheVariants as notes
-use Rattle.sbp_laws.specs.Lists.{cmd_of, list_in, lowest_vacant, named_in, orb as named_orb, prepared_in, slots}
+use Rattle.sbp_laws.specs.Lists.{cmd_of, list_in, lowest_vacant, named_in, orb as named_orb, prepared_in, slot_at, slots}
 use Rattle.sbp_laws.specs.OrderLaw.{IsNextAppend, OrderLaw}
-use Rattle.sbp_laws.specs.Terms.{lists}
+use Rattle.sbp_laws.specs.Terms.{appends, lists}
 use Rattle.sbp_laws.specs.Turns.{EachMoment, event_of}
 use Rattle.sbp_world.specs.Lines.{happens}
 use Rattle.sbp_world.specs.Settling.{delivered_next}
@@ -52,6 +52,39 @@ module _ (wild : ℕ → Bool) (i n : ℕ) where
   pub name_goes : (so : Option ℕ) (later past : List Moment) → OrderLaw wild (later ++ past) → lists (later ++ past) i ≡ lists past i → suc n ≡ lists past i → list_in (named_in past i so) ≡ Some n → list_in (named_in (later ++ past) i so) ≡ Some n
   name_goes None later past law e latest h = h
   name_goes (Some slot) later past law e latest h = slot_goes slot later past law e latest h
+
+  -- an append while it is the latest one is of it
+  same_list : (ms : List Moment) (j m l : ℕ) → IsNextAppend ms j m l → (z : Bool) → (l == 0) ≡ z → suc n ≡ cond z (suc (lists ms j)) (lists ms j) → m ≡ n
+  same_list ms j m l q true u v = let w : m ≡ lists ms j = subst (λ t. cond t m (suc m) ≡ lists ms j) u q.list in omega (arith, v, w)
+  same_list ms j m l q false u v = let w : suc m ≡ lists ms j = subst (λ t. cond t m (suc m) ≡ lists ms j) u q.list in omega (arith, v, w)
+
+  -- one before the last one
+  before_last : (k l c d : ℕ) → nat_eq k l ≡ false → l ≡ c → l ≡ d → k < suc c → k < d
+  before_last k l c d g is here within = grind (arith, nat_tests, g, is, here, within)
+
+  latest_before : (ms : List Moment) (j k l : ℕ) → k < l → i ≡ j → (z : Bool) → (l == 0) ≡ z → suc n ≡ cond z (suc (lists ms j)) (lists ms j) → suc n ≡ lists ms i
+  latest_before ms j k l below same true u v = absurd (let w : l ≡ 0 = grind (arith, nat_tests, u) in omega (arith, below, w))
+  latest_before ms j k l below same false u v = v ∙ ap (lists ms) (sym same)
+
+  orb_appended : (ms : List Moment) (j m l k lowest old : ℕ) → IsNextAppend ms j m l → (k < appends ms i n → suc n ≡ lists ms i → list_in (prepared_in ms i old) ≡ Some n) → (a b c d x : Bool) → nat_eq i j ≡ a → nat_eq n m ≡ b → nat_eq k l ≡ c → (l == 0) ≡ d → nat_eq (cond a (cond b (cond c lowest old) old) old) lowest ≡ x → k < cond a (cond b (suc (appends ms j m)) (appends ms i n)) (appends ms i n) → suc n ≡ cond a (cond d (suc (lists ms j)) (lists ms j)) (lists ms i) → list_in (cond a (cond x (Some (named_orb m l)) (prepared_in ms i (cond a (cond b (cond c lowest old) old) old))) (prepared_in ms i (cond a (cond b (cond c lowest old) old) old))) ≡ Some n
+  orb_appended ms j m l k lowest old q before false b c d x e f g h y within latest = before within latest
+  orb_appended ms j m l k lowest old q before true b c d true e f g h y within latest = ap (λ z. Some z) (same_list ms j m l q d h latest)
+  orb_appended ms j m l k lowest old q before true true true d false e f g h y within latest = absurd (let z : nat_eq lowest lowest ≡ true = grind (arith, nat_tests) in let no : true ≡ false = sym z ∙ y in cc)
+  orb_appended ms j m l k lowest old q before true true false d false e f g h y within latest =
+      let same : i ≡ j = grind (arith, nat_tests, e) in
+      let list : n ≡ m = grind (arith, nat_tests, f) in
+      let count : l ≡ appends ms i n = q.number ∙ (ap (λ z. appends ms z m) (sym same) ∙ ap (appends ms i) (sym list)) in
+      before (before_last k l (appends ms j m) (appends ms i n) g q.number count within) (latest_before ms j k l (before_last k l (appends ms j m) l g q.number refl within) same d h latest)
+  orb_appended ms j m l k lowest old q before true false c d false e f g h y within latest =
+      let list = same_list ms j m l q d h latest in absurd (let z : nat_eq n m ≡ true = grind (arith, nat_tests, list) in let no : true ≡ false = sym z ∙ f in cc)
+
+  -- The slot of each of its ORBs has a name of it: what was prepared there since is of the latest list too.
+  pub orb_named : (past : List Moment) (k : ℕ) → OrderLaw wild past → k < appends past i n → suc n ≡ lists past i → list_in (prepared_in past i (slot_at past i n k)) ≡ Some n
+  orb_named [] k law within latest = absurd (omega (arith, within))
+  orb_named (asked line event ∷ past) k law within latest = orb_named past k law.1 within latest
+  orb_named (said (notes.Append j m l cdb buffer) ∷ past) k law within latest =
+      orb_appended past j m l k (lowest_vacant (slots past j)) (slot_at past i n k) law.0 (orb_named past k law.1) (nat_eq i j) (nat_eq n m) (nat_eq k l) (l == 0) _ refl refl refl refl refl within latest
+  orb_named (said note ∷ past) k law within latest = orb_named past k law.1 within latest
 
 -- ---- no list begins but in the line of an action
 module _ (i : ℕ) where

@@ -1,6 +1,6 @@
--- Over a turn an agent of the terms that has a list keeps the pointer that it took before; or it took one in this turn, and reads the ORB there: a request brings no reply, so its machine
--- makes no step behind it.
-use Rattle.std.proofs.Common.{inl, inr, ◌⊎◌, ◌≡◌, ◌∙◌, refl, sym, ap, ◌==◌, ◌/◌, ◌^◌, ℕ, Bool, true, false, cond, List, Some}
+-- Over a turn an agent of the terms that has a list keeps the pointer that it took before; or it took one in this turn, and reads the ORB there, or has lost this read: a request brings no
+-- reply, so its machine makes no other step behind it.
+use Rattle.std.proofs.Common.{inl, inr, ◌⊎◌, ◌≡◌, ◌∙◌, refl, sym, ap, subst, ◌==◌, ◌/◌, ◌^◌, ℕ, Bool, true, false, cond, List, Some}
 use Rattle.command_agent.specs.declared.phase.Phase.{Phase}
 use Rattle.command_agent.specs.declared.phase.Phase.TheVariants as phases
 use Rattle.command_agent.specs.declared.step.AgentState.{AgentState}
@@ -16,50 +16,56 @@ use Rattle.orb_layout.specs.declared.pointer.OrbPointer.{OrbPointer}
 use Rattle.orb_layout.specs.declared.pointer.OrbPointer.TheVariants.{At, Null}
 use Rattle.orb_layout.specs.Pointers.{offset_at, pointer_at}
 use Rattle.sbp_laws.specs.Targets.{Agent, agent_over, is_nothing, wants, main_lost, moved, pointed_by, points, rings, sends_of}
+use Rattle.sbp_world.specs.Agents.Alike.{has_list}
 use Rattle.sbp_world.proofs.Lists.ManageTerms.{untrue}
-use Rattle.sbp_world.proofs.Lists.PointersHeld.{Holds, is_alive, self as held_self}
+use Rattle.sbp_world.proofs.Lists.PointersHeld.{Holds, self as held_self}
 
 -- ---- an agent
--- one that is alive now has the pointer from before, or took it and reads the ORB there
+-- it reads the first ORB of its list, or has lost this read, and writes the status block of the ORB
+abbrev pub IsYoung : Phase → Type 0
+IsYoung phase = (phase ≡ phases.Fetching) ⊎ (phase ≡ phases.WritingLastStatus)
+
+-- one that has a list now has the pointer from before, or took it and reads the ORB there, or has lost this read
 abbrev pub Taken : (before now : Agent) → Type 0
 Taken before now =
-    is_alive now.machine.phase ≡ true → ((now.pointer ≡ before.pointer) × (is_alive before.machine.phase ≡ true)) ⊎ ((now.machine.phase ≡ phases.Fetching) × (now.pointer ≡ Some now.machine.present))
+    has_list now.machine.phase ≡ true → ((now.pointer ≡ before.pointer) × (has_list before.machine.phase ≡ true)) ⊎ (IsYoung now.machine.phase × (now.pointer ≡ Some now.machine.present))
 
--- one that is alive now has the pointer, the phase and the present ORB from before
+-- one that has a list now had one before, with this pointer and this present ORB, and is as young as then
 abbrev pub Rests : (before now : Agent) → Type 0
-Rests before now = is_alive now.machine.phase ≡ true → (now.pointer ≡ before.pointer) × ((now.machine.phase ≡ before.machine.phase) × (now.machine.present ≡ before.machine.present))
+Rests before now =
+    has_list now.machine.phase ≡ true → (now.pointer ≡ before.pointer) × ((has_list before.machine.phase ≡ true) × ((IsYoung before.machine.phase → IsYoung now.machine.phase) × (now.machine.present ≡ before.machine.present)))
 
 pub rests_self : (a : Agent) → Rests a a
-rests_self a = λ e. (refl, (refl, refl))
+rests_self a = λ e. (refl, (e, (λ y. y, refl)))
 
-pub dead_rests : (a now : Agent) → is_alive now.machine.phase ≡ false → Rests a now
+pub dead_rests : (a now : Agent) → has_list now.machine.phase ≡ false → Rests a now
 dead_rests a now f = λ e. untrue (sym f ∙ e)
 
 pub then_rests : (a b c : Agent) → Rests a b → Rests b c → Rests a c
 then_rests a b c f g = λ e.
     let y = g e in
-    let x = f (ap is_alive (sym y.1.0) ∙ e) in
-    (y.0 ∙ x.0, (y.1.0 ∙ x.1.0, y.1.1 ∙ x.1.1))
+    let x = f y.1.0 in
+    (y.0 ∙ x.0, (x.1.0, (λ z. y.1.1.0 (x.1.1.0 z), y.1.1.1 ∙ x.1.1.1)))
 
 pub held_taken : (a b : Agent) → Holds a b → Taken a b
 held_taken a b h = λ e. inl (h e)
 
 pub taken_then : (a b c : Agent) → Taken a b → Rests b c → Taken a c
-taken_then a b c f g = λ e. let r = g e in by r (f (ap is_alive (sym r.1.0) ∙ e))
+taken_then a b c f g = λ e. let r = g e in by r (f r.1.0)
   where
-    by : (c.pointer ≡ b.pointer) × ((c.machine.phase ≡ b.machine.phase) × (c.machine.present ≡ b.machine.present)) → ((b.pointer ≡ a.pointer) × (is_alive a.machine.phase ≡ true)) ⊎ ((b.machine.phase ≡ phases.Fetching) × (b.pointer ≡ Some b.machine.present)) → ((c.pointer ≡ a.pointer) × (is_alive a.machine.phase ≡ true)) ⊎ ((c.machine.phase ≡ phases.Fetching) × (c.pointer ≡ Some c.machine.present))
+    by : (c.pointer ≡ b.pointer) × ((has_list b.machine.phase ≡ true) × ((IsYoung b.machine.phase → IsYoung c.machine.phase) × (c.machine.present ≡ b.machine.present))) → ((b.pointer ≡ a.pointer) × (has_list a.machine.phase ≡ true)) ⊎ (IsYoung b.machine.phase × (b.pointer ≡ Some b.machine.present)) → ((c.pointer ≡ a.pointer) × (has_list a.machine.phase ≡ true)) ⊎ (IsYoung c.machine.phase × (c.pointer ≡ Some c.machine.present))
     by r (inl x) = inl (r.0 ∙ x.0, x.1)
-    by r (inr x) = inr (r.1.0 ∙ x.0, r.0 ∙ (x.1 ∙ ap (λ n. Some n) (sym r.1.1)))
+    by r (inr x) = inr (r.1.1.0 x.0, r.0 ∙ (x.1 ∙ ap (λ n. Some n) (sym r.1.1.1)))
 
 -- ---- what it asked for and did not send is lost
 lost_by : (phase : Phase) (a : Agent) → a.machine.phase ≡ phase → Rests a (moved (steps.main_lost phase a.machine causes.Label) a)
 lost_by phases.Reset a e = rests_self a
 lost_by phases.Dead a e = rests_self a
 lost_by phases.Suspended a e = rests_self a
-lost_by phases.Fetching a e = λ f. untrue f
-lost_by phases.ReadingTable a e = λ f. untrue f
-lost_by (phases.ReadingData wanted) a e = λ f. untrue f
-lost_by phases.Answering a e = λ f. untrue f
+lost_by phases.Fetching a e = λ f. (refl, (ap has_list e, (λ y. inr refl, refl)))
+lost_by phases.ReadingTable a e = λ f. (refl, (ap has_list e, (λ y. inr refl, refl)))
+lost_by (phases.ReadingData wanted) a e = λ f. (refl, (ap has_list e, (λ y. inr refl, refl)))
+lost_by phases.Answering a e = λ f. (refl, (ap has_list e, (λ y. inr refl, refl)))
 lost_by phases.WritingStatus a e = λ f. untrue f
 lost_by phases.WritingLastStatus a e = λ f. untrue f
 lost_by phases.ReadingNext a e = λ f. untrue f
@@ -91,7 +97,7 @@ over_rests a = then_rests a x (agent_over a) (loses_rests a) (by (is_nothing x.a
 
     by : (b : Bool) → Rests x (cond b x (record x { machine = (steps.lost_step x.machine Ahead causes.Label).1; asks_ahead = Nothing }))
     by true = rests_self x
-    by false = λ e. (refl, lost_ahead x.machine)
+    by false = λ e. let l = lost_ahead x.machine in (refl, (ap has_list (sym l.0) ∙ e, (λ y. subst IsYoung (sym l.0) y, l.1)))
 
 pub sends_rests : (is_write : Bool) (serial : ℕ) (a : Agent) → Rests a (sends_of is_write serial a)
 sends_rests is_write serial a = by (wants a.asks is_write) (wants a.asks_ahead is_write)
@@ -107,7 +113,7 @@ self_taken a = held_taken a a (held_self a)
 
 turned_taken : (offset : ℕ) (pointer : OrbPointer) (a : Agent) → (pointer ≡ At offset) ⊎ (pointer ≡ Null) → Taken a (pointed_by (steps.pointed a.machine pointer) offset a)
 turned_taken offset Null a h = self_taken a
-turned_taken offset (At next) a (inl e) = λ f. inr (refl, ap (λ n. Some (aligned n)) (let same : next ≡ offset = cc in sym same))
+turned_taken offset (At next) a (inl e) = λ f. inr (inl refl, ap (λ n. Some (aligned n)) (let same : next ≡ offset = cc in sym same))
 turned_taken offset (At next) a (inr e) = absurd (let no : At next ≡ Null = e in cc)
 
 points_in : (state : AgentState) (offset : ℕ) (pointer : OrbPointer) (a : Agent) → (pointer ≡ At offset) ⊎ (pointer ≡ Null) → Taken a (pointed_by (steps.point_in state a.machine pointer) offset a)
@@ -130,7 +136,7 @@ points_taken access a = points_in (state_in a.machine.phase) (offset_at access.p
 rung_by : (phase : Phase) (a : Agent) → a.machine.phase ≡ phase → Holds a (let s = steps.doorbell_in (state_in phase) a.machine in record a { machine = s.1; asks = s.0 })
 rung_by phases.Reset a e = λ f. (refl, f)
 rung_by phases.Dead a e = λ f. (refl, f)
-rung_by phases.Suspended a e = λ f. (refl, ap is_alive e)
+rung_by phases.Suspended a e = λ f. (refl, ap has_list e)
 rung_by phases.Fetching a e = λ f. (refl, f)
 rung_by phases.ReadingTable a e = λ f. (refl, f)
 rung_by (phases.ReadingData wanted) a e = λ f. (refl, f)

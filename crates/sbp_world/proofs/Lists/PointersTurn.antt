@@ -1,4 +1,4 @@
--- Over a turn an agent of the terms that has a list, and is not about to be dead, keeps the pointer that it took before; or it took one in this turn, and reads the ORB there.
+-- Over a turn an agent of the terms that has a list keeps the pointer that it took before; or it took one in this turn, and reads the ORB there, or has lost this read.
 use Rattle.std.proofs.Common.{◌≡◌, ◌∙◌, refl, sym, subst, ℕ, Bool, true, false, cond, List, [], ◌∷◌, ◌++◌, map, Option, Some, None}
 use Rattle.rbc_disk.specs.Disk.{Disk}
 use Rattle.sbp_bus.specs.Packets.{end_note, judged_note}

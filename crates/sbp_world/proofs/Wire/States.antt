@@ -1,14 +1,11 @@
 -- After each line of a run the terms of its history are the states of the two ends of its world.
 use Rattle.std.proofs.Common.{◌≡◌, refl, sym, subst, ◌<◌, ◌≤◌, ℕ, true, List, [], length}
-use Rattle.command_agent.specs.declared.phase.Phase.{Phase}
-use Rattle.command_agent.specs.declared.phase.Phase.TheVariants as phases
 use Rattle.rbc_disk.specs.Disk.{Disk}
 use Rattle.sbp_journal.specs.Run.{Moment}
-use Rattle.sbp_world.specs.Agents.Alike.{has_list}
 use Rattle.sbp_world.specs.Histories.{history_of}
 use Rattle.sbp_world.specs.Hosts.Runs.{IsRun}
 use Rattle.sbp_world.specs.Lists.FewLogins.{IsTameOrFew}
-use Rattle.sbp_world.specs.Lists.Needs.{IsCalm, IsOpenAt, initiator_in, machine_at}
+use Rattle.sbp_world.specs.Lists.Needs.{IsCalm, IsOpenAt, initiator_in, is_open_at}
 use Rattle.sbp_world.specs.Lists.OneUp.{AreApart}
 use Rattle.sbp_world.specs.Making.{ready_logins}
 use Rattle.sbp_world.specs.Runs.{Run, after, beginning}
@@ -27,41 +24,25 @@ use Rattle.sbp_world.proofs.Hosts.Hosted.{host_law}
 use Rattle.sbp_world.proofs.Hosts.Runs.{count_after, run_law}
 use Rattle.sbp_world.proofs.Lists.Clauses.{one_up, open_lists_law}
 use Rattle.sbp_world.proofs.Lists.ListsProved.{closing}
-use Rattle.sbp_world.proofs.Lists.ManageTerms.{untrue}
 use Rattle.sbp_world.proofs.Lists.OpenSends.{latest_is, none_open, open_is}
-use Rattle.sbp_world.proofs.Lists.PointersHeld.{is_alive}
 use Rattle.sbp_world.proofs.Lists.PointersRuns.{AreNaming, naming_everywhere}
 use Rattle.sbp_world.proofs.Lists.RunSites.{site_after}
 use Rattle.sbp_world.proofs.Lists.Sites.{Site}
-
--- an agent that has a list open, and is not about to be dead
-stays_alive : (phase : Phase) → has_list phase ≡ true → (phase ≡ phases.WritingLastStatus → ⊥) → is_alive phase ≡ true
-stays_alive phases.Reset e f = untrue e
-stays_alive phases.Dead e f = untrue e
-stays_alive phases.WritingLastStatus e f = absurd (f refl)
-stays_alive phases.Fetching e f = refl
-stays_alive phases.ReadingTable e f = refl
-stays_alive (phases.ReadingData wanted) e f = refl
-stays_alive phases.Answering e f = refl
-stays_alive phases.WritingStatus e f = refl
-stays_alive phases.ReadingNext e f = refl
-stays_alive phases.Suspended e f = refl
 
 -- ---- at a place of a run, by the history of its world
 module _ (units ready : ℕ) (has : 0 < units) (start : List Disk) (past : List Moment) (w : WorldState) {lines : ℕ} (h : Holding units ready start past lines w) (site : Site start past w) where
   all_closed : AreClosed start (hist past w) w
   all_closed i none = none_open units ready has start past w h site (hist past w) [] tt refl i none
 
-  module _ (naming : AreNaming start (hist past w) w) (apart : AreApart (hist past w) w) (listed : (place : ℕ) → place < 8 → has_list (machine_at w place).phase ≡ true → IsCalm (hist past w) (initiator_in w place) → IsOpenAt (hist past w) w place) where
+  module _ (naming : AreNaming start (hist past w) w) (apart : AreApart (hist past w) w) (listed : (place : ℕ) → place < 8 → is_open_at w place ≡ true → IsCalm (hist past w) (initiator_in w place) → IsOpenAt (hist past w) w place) where
     open_at : AreOpenLists start (hist past w) w
-    open_at place b o calm =
-        let alive = stays_alive (machine_at w place).phase o.is_open o.stays in
-        let at = listed place b o.is_open calm in
+    open_at place b open_there calm =
+        let at = listed place b open_there calm in
         record {
           n = at.n;
           held = at.list;
-          opened = open_is units ready has start past w h site (hist past w) [] tt refl naming apart place b alive calm at;
-          latest = latest_is units ready has start past w h site (hist past w) [] tt refl naming apart place b alive calm at;
+          opened = open_is units ready has start past w h site (hist past w) [] tt refl naming apart place b open_there calm at;
+          latest = latest_is units ready has start past w h site (hist past w) [] tt refl naming apart place b open_there calm at;
         }
 
 -- ---- after each line
@@ -121,4 +102,4 @@ module _ (line : ℕ) (run : Run) (r : IsRun run) (has : 0 < run.units) (small :
         (open_at run.units logins has start holds.past s.world holds.holds site
         (subst (λ ms. AreNaming start ms s.world) (sym holds.is) naming)
         (subst (λ ms. AreApart ms s.world) (sym holds.is) (one_up.after_lines line run r has small size tame))
-        (subst (λ ms. (place : ℕ) → place < 8 → has_list (machine_at s.world place).phase ≡ true → IsCalm ms (initiator_in s.world place) → IsOpenAt ms s.world place) (sym holds.is) (open_lists_law.after_lines line run r has small size tame).listed))
+        (subst (λ ms. (place : ℕ) → place < 8 → is_open_at s.world place ≡ true → IsCalm ms (initiator_in s.world place) → IsOpenAt ms s.world place) (sym holds.is) (open_lists_law.after_lines line run r has small size tame).listed))
