@@ -1,5 +1,6 @@
 //! The transactions on the bus, whatever its nodes do: the store, the transaction layers of the nodes and
-//! the history as one machine, and what holds for every list of its moves.
+//! the history as one machine, and what holds for every list of its moves. What a request asks for, the
+//! rcode and the data that a node gives, and which further notes a delivery has are the nodes' own.
 #![tactic(auto)]
 
 mod laws;

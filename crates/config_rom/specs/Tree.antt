@@ -141,7 +141,8 @@ pub record TreeBelow (limit : ℕ) (quads : List ℕ) (blocks : List Block) (ent
   -- the entries of the listed directories in their order
   pub listed : entries ≡ flat_map (entries_of quads) blocks
 
--- The configuration ROM: all blocks and all entries.
+-- The configuration ROM: all blocks and all entries. An entry stands behind its directory's header, and the header that it names
+-- behind the entry, so no block justifies itself.
 pub record RomTree (quads : List ℕ) (blocks : List Block) (entries : List Entry) : Type 0 where
   -- at least six quadlets, and the name of the bus
   pub long : 6 ≤ length quads

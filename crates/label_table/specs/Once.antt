@@ -1,6 +1,7 @@
 -- The law on writes of one requester to one responder, over every list of what the two do. The
 -- requester begins, closes and expires transactions; the responder judges and remembers deliveries,
--- each packet as often as it comes and in any order. Requests are named by their serials.
+-- each packet as often as it comes and in any order. Requests are named by their serials. The law does
+-- not range over a reset, which clears the labels: packets of an earlier generation are refused by that.
 use Rattle.std.specs.Prelude.{◌≡◌, ◌≢◌, ℕ, ◌+◌, ◌<◌, ◌≤◌, nat_eq, Bool, true, false, cond, List, [], ◌∷◌, Option, Some, None, IfSome, Result, Ok, Err}
 use Rattle.async_packet.specs.Labels.{LabelParts}
 use Rattle.label_table.specs.declared.reply.ReplyKind.{ReplyKind}
