@@ -47,9 +47,10 @@ pub fn last_request_decides()
 {}
 
 /// The law of a node's transactions, over every list of calls of its transaction layer. What is
-/// closed or expires is what was asked for, once, or is for nobody once it was disowned; two that are
-/// under way with one peer have different labels; and after a later generation is seen, none from
-/// before is.
+/// closed or expires is what was asked for, once, or is for nobody once it was disowned; it is closed by
+/// a response of the kind that it wants; two that are under way with one peer have different labels; a
+/// response that closes none has the label and the kind of none that is under way with its source; and
+/// after a later generation is seen, none from before is under way.
 pub fn transactions_are_told<P>()
     ensures { ToldLaw P }
 {}

@@ -45,8 +45,10 @@ pub fn no_number_comes_back()
     ensures { CountLaw }
 {}
 
-/// The law of judging: the note of a delivery is that of the first row that holds, and what is ignored has
-/// the answer of its row and changes nothing.
+/// The law of judging: the note of a delivery is that of the first row that holds, those of the transaction
+/// layer first, and for a request those on what it asks for and on what holds of the initiator. What is
+/// ignored has the answer of its row and changes nothing but what is remembered of it; a block that tells of
+/// a changed medium is told and answered complete.
 #[tactic(auto, using(crate::proofs::Histories::Judging::judging_law))]
 pub fn deliveries_are_judged()
     ensures { JudgingLaw }
@@ -58,9 +60,14 @@ pub fn values_rise()
     ensures { NumberLaw }
 {}
 
-/// The law of what calls tell, over every list of them: at most one operation is under way, and it ends with
-/// one `op`; a status is taken in its delivery, by one `taken`; and `drop` comes exactly where a list is
-/// dropped.
+/// The law of what calls tell, over every list of them. At most one operation is under way, and it ends with
+/// one `op`, with a word of its table; a read of AGENT_STATE ends beside, with one `op` where its transaction
+/// ends. A status is taken in its delivery, by one `taken`. In a delivery `drop` comes, before `op`, exactly
+/// where there is a present list and its AGENT_RESET is answered complete, a status 00 ends its logout, abort
+/// of all, unit reset or target reset, or a read of AGENT_STATE that counts for it gives 0. `stuck` comes,
+/// behind `op`, exactly where a write request of the initiator's own fails, but for a conflict_error at
+/// MANAGEMENT_AGENT, while the session is not Stuck. A later generation ends the operation and the reads
+/// with `reset`, in the order of their actions, and then drops the list.
 #[tactic(auto, using(crate::proofs::Histories::Over::tells_law))]
 pub fn calls_tell()
     ensures { TellsLaw }

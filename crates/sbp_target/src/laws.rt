@@ -22,14 +22,26 @@ pub fn requests_are_answered_first()
     ensures { AnswerLaw }
 {}
 
-/// Over every list of calls of a target each request has the lowest label that it may take at its moment.
+/// Over every list of calls of a target, by what it was handed and what it gave: a label to a peer is under
+/// way from the request that was given with it until a response of that peer with that label is got, rests
+/// from its time-out until a later generation is seen, and is else free. Each request has the lowest label
+/// that is free and, for a write, whose last request in this generation differs from it; one that was not
+/// given found no such label, or five other peers have the tables.
 #[tactic(auto, using(crate::proofs::Histories::Coursed::label_law))]
 pub fn labels_are_the_lowest()
     ensures { LabelLaw }
 {}
 
 /// Cuts, holds, expiries, logins that come back or leave, cleared units, opened lists and unsolicited
-/// statuses are told where the rules have them, in their order, by what the target was before the call.
+/// statuses are told where the rules have them and nowhere else, by rising place, by what the target was
+/// before the call. A sight of a later generation tells one cut for each agent that is not in RESET, and
+/// then one hold for each live login; a second tells the logins whose last it was. An AGENT_RESET that is
+/// got tells one cut where the agent is not in RESET; an ORB_POINTER that is taken, in RESET or SUSPENDED
+/// and not null, that a list was opened. A decision tells its effects first: cuts, and then `left`, `back`
+/// or `cleared`. In the delivery in which a disc came into a tray each other live login of the unit whose
+/// register is enabled has one note, behind all else that is told: it is sent an unsolicited status behind
+/// the delivery's other packets, or none, where an earlier one to its node is under way, its label rests,
+/// or the write finds no label.
 #[tactic(auto, using(crate::proofs::Histories::Told::side_law))]
 pub fn changes_are_told_in_order()
     ensures { SideLaw }
@@ -45,7 +57,11 @@ pub fn transactions_are_waited_for()
 {}
 
 /// What a target serves has the rcode of the first row that holds of the table that nodes and laws share,
-/// and it ignores a request exactly by the first row of the table of judging.
+/// and it ignores a request exactly by the first row of the table of judging: where an agent register
+/// stands at its address, of no live login of its source, and it is no lock. The rcode of a register, and
+/// of MANAGEMENT_AGENT, is what the state there gives: conflict_error or data_error to a pointer,
+/// conflict_error while a management operation is under way, else complete. A read is given the ROM's
+/// bytes, the number of the agent's state, or its last pointer.
 #[tactic(auto, using(crate::proofs::Histories::Rowing::row_law))]
 pub fn first_row_has_its_rcode()
     ensures { RowLaw }
