@@ -4,7 +4,7 @@
 cd "$(dirname "$0")/../crates" || exit 1
 failed=0
 for crate in $(grep -rl --include='*.rt' '#\[test\]' . | cut -d/ -f2 | sort -u); do
-    told=$(cd "$crate" && rt try --test --seconds 900 2>&1) || failed=1
+    told=$(cd "$crate" && rt try --test --seconds 900 2>&1 < /dev/null) || failed=1
     echo "$crate: $(echo "$told" | grep '^test result' || echo "$told" | tail -n 1)"
 done
 exit $failed

@@ -18,7 +18,7 @@ How to read it:
 - The clause is what is proved, and the sentence says it in words. Where they differ, the clause holds, and the sentence is a mistake.
 - A **law** is a function without a parameter or a result, whose clause is a statement over definitions.
 - A row without a clause says no more than every row does: the call returns, with no index out of range, no sum that wraps and no cast that loses bits.
-- `Type::call` is a method. The methods of a trait have their clauses in the trait's rows, and each type that has the trait is proved to keep them; a row `<Type as Trait>::call` has what that type adds.
+- `Type::call` is a method. The methods of a trait have their clauses in the trait's rows, and each type that has the trait is proved to keep them; a row `<Type as Trait>::call` has the clauses of that type, where it has more than the trait.
 - A crate whose name ends in `_runs` has tests and no public call.
 """
 
@@ -101,10 +101,10 @@ class Call:
 
     def __init__(self, owner, public, name, doc):
         self.owner, self.public, self.name, self.doc = owner, public, name, doc
-        self.clauses = []
+        self.module, self.clauses = "", []
 
     def title(self):
-        return f"{self.owner}::{self.name}" if self.owner else self.name
+        return "::".join(part for part in (self.module, self.owner, self.name) if part)
 
 
 def calls(path, ours):
@@ -135,6 +135,7 @@ def calls(path, ours):
                 of = f"<{owner} as {bare(trait)}>" if trait not in (None, "its own") else owner
                 open_call = Call(of, public, found.group(3), sentences(doc))
                 open_call.kind, open_call.adds = owner, trait not in (None, "its own")
+                open_call.instead = f"As `{bare(trait)}::{open_call.name}`." if open_call.adds else ""
                 open_call.is_law = line.rstrip().endswith("()")
                 yield open_call
         said = CLAUSE.match(line)
@@ -165,6 +166,8 @@ def rows(name, ours):
     found = []
     for path in sorted(src.rglob("*.rt"), key=lambda path: str(path.relative_to(src))):
         written = list(calls(path, ours))
+        for call in written:
+            call.module = path.stem if path.stem in modules else ""
         found += [call for call in written if is_told(call, path, names, modules, is_program)]
     return about, found
 
@@ -183,7 +186,7 @@ def page():
             out.append("\n| Call | What it does | Clauses |\n|---|---|---|\n")
             for call in found:
                 title = f"**law** `{call.title()}`" if call.is_law and call.clauses else f"`{call.title()}`"
-                text = call.doc.replace("|", "\\|")
+                text = (call.doc or call.instead).replace("|", "\\|")
                 out.append(f"| {title} | {text} | {', '.join(call.clauses)} |\n")
     return "".join(out)
 
