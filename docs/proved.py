@@ -149,6 +149,8 @@ def is_told(call, path, names, modules, is_program):
     """Whether the page has a row for the call."""
     if is_program:
         return bool(call.clauses)
+    if call.is_law and call.clauses:
+        return True
     if call.adds and not call.clauses:
         return False
     return call.public and ((call.kind or call.name) in names or path.stem in modules)
