@@ -177,7 +177,7 @@ def rows(name, ours):
 def page():
     uses = crates()
     layer = layers(uses)
-    out = [HEAD]
+    out = [HEAD, "\n" + ", ".join(f"[{name}](#{name})" for name in sorted(uses)) + "\n"]
     for level in range(1, max(layer.values()) + 1):
         out.append(f"\n## Layer {level}\n")
         for name in sorted(crate for crate in uses if layer[crate] == level):
