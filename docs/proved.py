@@ -139,6 +139,8 @@ def calls(path, ours):
                 open_call.is_law = line.rstrip().endswith("()")
                 yield open_call
         said = CLAUSE.match(line)
+        if not said and line.strip().startswith("ensures"):
+            sys.exit(f"{path}: docs/proved.py reads clauses that stand in one line alone: {line.strip()}")
         if said and open_call:
             open_call.clauses.append(clause(said.group(1), said.group(2), known))
         if line.strip():
