@@ -55,7 +55,7 @@ impl Label {
         self.generation
     }
 
-    /// The serial number.
+    /// The number that tells it from later transactions under the same label.
     pub fn serial(&self) -> u64
         ensures { result ≡ self.now.serial }
     {

@@ -37,7 +37,7 @@ impl Model for Tally {
 }
 
 impl Tally {
-    /// Of no notes.
+    /// The tally of no notes.
     pub fn new(alloc: Global) -> Self
         ensures { result ≡ tally_of [] }
     {

@@ -21,7 +21,7 @@ impl Model for StateReads {
 }
 
 impl StateReads {
-    /// No reads.
+    /// No read is under way yet.
     pub fn new(alloc: Global) -> StateReads
         ensures { result ≡ [] }
     {
@@ -45,14 +45,14 @@ impl StateReads {
         self.acts.retain(|other| *other != act);
     }
 
-    /// Removes all reads.
+    /// No read is under way any more.
     pub fn clear(&mut self)
         ensures { self.new ≡ [] }
     {
         self.acts.clear();
     }
 
-    /// The numbers, lent.
+    /// The numbers of the actions whose reads are under way, lent.
     pub fn as_slice(&self) -> &[u32]
         ensures { result.now ≡ self.now }
     {

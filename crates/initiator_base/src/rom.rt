@@ -25,7 +25,7 @@ impl Model for RomQuads {
 }
 
 impl RomQuads {
-    /// No quadlets.
+    /// No quadlet was read yet.
     pub fn new(alloc: Global) -> RomQuads
         ensures { result ≡ [] }
     {

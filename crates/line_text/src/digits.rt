@@ -53,7 +53,7 @@ impl Model for Digits {
 }
 
 impl Digits {
-    /// No bytes.
+    /// Room for digits, which has no bytes yet.
     pub fn new(alloc: Global) -> Result<Self, NoMemory>
         ensures { IfOk result (λ none. none ≡ []) }
     {

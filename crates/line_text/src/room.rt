@@ -28,7 +28,7 @@ impl Model for Room {
 }
 
 impl Room {
-    /// No bytes.
+    /// Room without bytes.
     pub fn new() -> Room
         ensures { result ≡ [] }
     {
@@ -53,14 +53,14 @@ impl Room {
         &self.bytes[0..self.count]
     }
 
-    /// Removes all bytes.
+    /// Removes all bytes and keeps the room.
     pub fn clear(&mut self)
         ensures { self.new ≡ [] }
     {
         self.count = 0;
     }
 
-    /// Adds a byte.
+    /// Adds a byte at the end.
     #[inline(always)]
     pub fn push_byte(&mut self, byte: u8)
         requires { length self.old < 1024 }
@@ -71,7 +71,7 @@ impl Room {
         self.count += 1;
     }
 
-    /// Adds bytes.
+    /// Adds bytes at the end.
     #[inline(always)]
     pub fn push(&mut self, bytes: &[u8])
         requires { length self.old + length bytes.now ≤ 1024 }

@@ -31,7 +31,7 @@ impl Expired {
         }
     }
 
-    /// The IDs.
+    /// The IDs, by rising place, lent.
     pub fn as_slice(&self) -> &[u16]
         ensures value { result.now ≡ self.now }
         ensures most { length result.now ≤ 8 }

@@ -84,7 +84,7 @@ impl Manager {
         self.outgoing.as_slice()
     }
 
-    /// Ends the operation.
+    /// Ends the operation that is under way, if one is.
     pub fn clear(&mut self)
         ensures { self.new ≡ clear_step self.old }
     {

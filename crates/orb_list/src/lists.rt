@@ -219,7 +219,7 @@ impl Lists {
         self.answers[usize::from(slot)].answer(alloc, self.image.buffer(slot))
     }
 
-    /// The present list.
+    /// The present list, if there is one.
     pub fn present(&self) -> Option<PresentList>
         ensures { result ≡ self.now.slots.present }
     {

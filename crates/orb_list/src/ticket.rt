@@ -43,7 +43,7 @@ impl Ticket {
         }
     }
 
-    /// The login ID.
+    /// The ID of the login that its ORB is of.
     pub fn login(&self) -> u16
         ensures { result ≡ self.now.login }
     {
@@ -72,7 +72,7 @@ impl Ticket {
         self.slot
     }
 
-    /// The serial number.
+    /// The number that tells its ORB from every other one.
     pub fn serial(&self) -> u64
         ensures { result ≡ self.now.serial }
     {

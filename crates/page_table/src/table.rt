@@ -31,7 +31,7 @@ impl Model for SegmentTable {
 }
 
 impl SegmentTable {
-    /// No segments.
+    /// A table without segments: the buffer is empty.
     pub fn new() -> Self
         ensures { result ≡ [] }
     {

@@ -17,7 +17,7 @@ impl Model for Bytes {
 }
 
 impl Bytes {
-    /// No bytes.
+    /// An empty list of bytes.
     pub fn new(alloc: Global) -> Self
         ensures { result ≡ [] }
     {
@@ -35,7 +35,7 @@ impl Bytes {
         })
     }
 
-    /// These bytes.
+    /// The bytes of a vector, in the room that it has.
     pub fn from_vec(items: Vec<u8>) -> Self
         ensures { result ≡ items.items }
     {

@@ -20,7 +20,7 @@ impl Model for Generation {
 }
 
 impl Generation {
-    /// Generation 0.
+    /// The generation at the start, 0.
     pub fn first() -> Generation
         ensures { result ≡ 0 }
     {

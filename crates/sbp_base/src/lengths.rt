@@ -19,7 +19,7 @@ impl Model for Lengths {
 }
 
 impl Lengths {
-    /// No lengths.
+    /// An empty list of lengths.
     pub fn new(alloc: Global) -> Self
         ensures { result ≡ [] }
     {

@@ -29,7 +29,7 @@ impl Model for Journal {
 }
 
 impl Journal {
-    /// No notes.
+    /// A journal without notes.
     pub fn new(alloc: Global) -> Self
         ensures { result ≡ [] }
     {
@@ -94,7 +94,7 @@ impl Model for Text {
 }
 
 impl Text {
-    /// No bytes.
+    /// A text without bytes.
     pub fn new(alloc: Global) -> Self
         ensures { result ≡ [] }
     {

@@ -2,62 +2,74 @@ ghost use Rattle.sbp_laws.specs.Tried.{RunsTried, ActionTried, AnswerTried, Budg
 
 // Each law accepts a journal and refuses others that differ from it in a note.
 
-/// A write is judged anew once, and is served where it was closed with rcode 0.
+/// The once law accepts worked journals and refuses others that differ from them in a note. It says: a
+/// write is judged anew once, and is served where it was closed with rcode 0.
 pub fn once_law_tried()
     ensures { OnceTried }
 {}
 
+/// The order law accepts worked journals and refuses others that differ from them in a note. It says:
 /// ORBs end in their order, and neither end nor run behind a cut or in the list before.
 pub fn order_law_tried()
     ensures { OrderTried }
 {}
 
-/// An ORB runs once, with its own command and data, on its unit, with its own outcome.
+/// The execution law accepts worked journals and refuses others that differ from them in a note. It
+/// says: an ORB runs once, with its own command and data, on its unit, with its own outcome.
 pub fn execution_law_tried()
     ensures { ExecutionTried }
 {}
 
-/// A status is taken once, after the end, as it was written.
+/// The status law accepts worked journals and refuses others that differ from them in a note. It says:
+/// a status is taken once, after the end, as it was written.
 pub fn status_law_tried()
     ensures { StatusTried }
 {}
 
-/// A good status has the answer of the medium.
+/// The answer law accepts worked journals and refuses others that differ from them in a note. It says:
+/// a good status has the answer of the medium.
 pub fn answer_law_tried()
     ensures { AnswerTried }
 {}
 
-/// What ran and what was answered was carried by packets.
+/// The carried law accepts worked journals and refuses others that differ from them in a note. It says:
+/// what ran and what was answered was carried by packets.
 pub fn carried_law_tried()
     ensures { CarriedTried }
 {}
 
-/// Deaths, ends of operations, drops and stuck sessions stand where their cause is.
+/// The cause law accepts worked journals and refuses others that differ from them in a note. It says:
+/// deaths, ends of operations, drops and stuck sessions stand where their cause is.
 pub fn cause_law_tried()
     ensures { CauseTried }
 {}
 
-/// A delivery begins with the note of the first row that holds.
+/// The judgement law accepts worked journals and refuses others that differ from them in a note. It
+/// says: a delivery begins with the note of the first row that holds.
 pub fn judgement_law_tried()
     ensures { JudgementTried }
 {}
 
-/// Logins are decided, held and expire by their table.
+/// The login law accepts worked journals and refuses others that differ from them in a note. It says:
+/// logins are decided, held and expire by their table.
 pub fn login_law_tried()
     ensures { LoginTried }
 {}
 
-/// Responses and requests are those that are due, and no others.
+/// The sent law accepts worked journals and refuses others that differ from them in a note. It says:
+/// responses and requests are those that are due, and no others.
 pub fn sent_law_tried()
     ensures { SentTried }
 {}
 
-/// An unsolicited status is for a login that enabled it.
+/// The media law accepts worked journals and refuses others that differ from them in a note. It says:
+/// an unsolicited status is for a login that enabled it.
 pub fn media_law_tried()
     ensures { MediaTried }
 {}
 
-/// A line brings its notes, and a refusal only where it is due.
+/// The action law accepts worked journals and refuses others that differ from them in a note. It says:
+/// a line brings its notes, and a refusal only where it is due.
 pub fn action_law_tried()
     ensures { ActionTried }
 {}

@@ -38,7 +38,7 @@ impl Model for Entering {
 }
 
 impl Out {
-    /// The first state.
+    /// The state at the start: no login.
     pub fn new() -> Out
         ensures { result ≡ tt }
     {
