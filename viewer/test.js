@@ -479,6 +479,9 @@ async function tryRoom(browser, size) {
   await browser.press('Escape');
   const rows = () => browser.ask(`Math.floor((${CHART}.clientHeight - HEAD) / ROW)`);
   check('rows in sight', await rows() >= (size.scale > 1 ? 10 : 25), true);
+  await browser.ask("document.querySelector('#tools details').open = true");
+  check('the kinds in sight', await browser.ask("(box => box.left >= 0 && box.right <= innerWidth && box.bottom <= innerHeight)(byId('kinds-box').getBoundingClientRect())"), true);
+  await browser.ask("document.querySelector('#tools details').open = false");
   check('help stands open', await browser.ask("!byId('panel').hidden"), size.scale === 1);
   await browser.press('ArrowDown');
   check('rows in sight beside the panel', await rows() >= (size.scale > 1 ? 6 : 25), true);
@@ -521,6 +524,9 @@ async function tryTasks(browser) {
   await browser.press('Escape');
   await browser.click("byId('picture').querySelector('.task[data-orb=\"0:0/1\"] rect')", 0.5, 0.3);
   check('a bar chooses its ORB', await browser.ask("byId('title').textContent"), 'ORB 0:0/1');
+  await browser.press('o');
+  check('its bar alone', await browser.ask("[...byId('picture').querySelectorAll('.task')].map(task => task.dataset.orb)"), ['0:0/1']);
+  await browser.press('o');
 }
 
 // The notes of the queue stand at its initiator, and tell of a submission from its line to its status.
