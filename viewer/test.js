@@ -12,6 +12,7 @@ const { pathToFileURL } = require('url');
 
 const EXAMPLES = join(__dirname, '..', 'examples');
 const JOURNALS = join(__dirname, 'journals');
+const PAGE = pathToFileURL(join(__dirname, 'journal.html')).href;
 const PICTURE = join(__dirname, '..', 'docs', 'journal.svg');
 const read = (...path) => readFileSync(join(__dirname, '..', ...path), 'utf8');
 
@@ -26,6 +27,9 @@ const WORDS = [
 
 // What the browser's console shows: the page's words, its exceptions, and the browser's own.
 const CONSOLE = ['Runtime.consoleAPICalled', 'Runtime.exceptionThrown', 'Log.entryAdded'];
+
+// A browser that doesn't answer in that time fails the test.
+const MOST_SECONDS = 120;
 
 class Browser {
   constructor(command) {
@@ -48,6 +52,7 @@ class Browser {
 
   answer(message) {
     if (CONSOLE.includes(message.method)) this.console.push(JSON.stringify(message.params).slice(0, 500));
+    if (message.method === 'Page.loadEventFired' && this.onLoad) this.onLoad();
     const wait = this.waiting.get(message.id);
     if (!wait) return;
     this.waiting.delete(message.id);
@@ -59,27 +64,32 @@ class Browser {
     this.last += 1;
     const message = { id: this.last, method, params, sessionId: this.session };
     this.process.stdio[3].write(`${JSON.stringify(message)}\0`);
-    return new Promise((done, fail) => this.waiting.set(message.id, { done, fail }));
+    return new Promise((done, fail) => {
+      const timer = setTimeout(() => fail(new Error(`the browser does not answer ${method}`)), 1000 * MOST_SECONDS);
+      const ended = act => value => { clearTimeout(timer); act(value); };
+      this.waiting.set(message.id, { done: ended(done), fail: ended(fail) });
+    });
   }
 
   async open(url) {
     const { targetId } = await this.send('Target.createTarget', { url: 'about:blank' });
     this.session = (await this.send('Target.attachToTarget', { targetId, flatten: true })).sessionId;
     for (const part of ['Runtime', 'Log', 'Page', 'Accessibility']) await this.send(`${part}.enable`);
-    await this.resize(SIZES[0]);
+    await this.load(url, SIZES[0]);
+  }
+
+  // Opens the page in a window of that size.
+  async load(url, { width, height, scale }) {
+    await this.send('Emulation.setDeviceMetricsOverride', { width, height, deviceScaleFactor: scale, mobile: false });
+    const loaded = new Promise(done => { this.onLoad = done; });
     await this.send('Page.navigate', { url });
-    const isReady = () => this.ask("document.readyState === 'complete' && location.protocol === 'file:'");
-    for (let tries = 0; tries < 100 && !await isReady(); tries += 1) await new Promise(done => setTimeout(done, 50));
+    await loaded;
   }
 
   async ask(expression) {
     const { result, exceptionDetails } = await this.send('Runtime.evaluate', { expression, returnByValue: true, awaitPromise: true });
     if (exceptionDetails) throw new Error(`${exceptionDetails.exception.description}\nin ${expression.slice(0, 200)}`);
     return result.value;
-  }
-
-  resize({ width, height, scale }) {
-    return this.send('Emulation.setDeviceMetricsOverride', { width, height, deviceScaleFactor: scale, mobile: false });
   }
 
   // A key as a hand presses it.
@@ -613,24 +623,29 @@ async function tryLong(browser) {
   await browser.ask('window.long = null');
 }
 
-// A browser that doesn't answer fails the test.
-const MOST_SECONDS = 300;
-
 const ONCE = [tryPage, tryPicture, tryExamples, trySentences, tryTable, tryFaults, tryFates, tryHands, tryHarm, tryLong];
 const EACH = [
   tryWrongs, tryStrip, tryNames, tryAlone, tryPrint, tryWords, tryFewer, tryCut, tryScriptAlone, tryRoom, tryAloud, tryTasks, tryQueue,
 ];
 
+// What throws has failed, and the rest is tried still.
+async function tryOne(attempt, browser, size) {
+  try {
+    await attempt(browser, size);
+  } catch (fault) {
+    check(`${attempt.name} ends`, fault.message, '');
+  }
+}
+
 async function main() {
-  setTimeout(() => { console.log('viewer/test: the browser does not answer'); process.exit(1); }, 1000 * MOST_SECONDS).unref();
   const browser = new Browser(process.argv[2]);
   try {
-    await browser.open(pathToFileURL(join(__dirname, 'journal.html')).href);
-    for (const attempt of ONCE) await attempt(browser);
+    await browser.open(PAGE);
+    for (const attempt of ONCE) await tryOne(attempt, browser);
     for (const size of SIZES) {
       where = `${size.name}: `;
-      await browser.resize(size);
-      for (const attempt of EACH) await attempt(browser, size);
+      await browser.load(PAGE, size);
+      for (const attempt of EACH) await tryOne(attempt, browser, size);
     }
   } finally {
     await browser.close();
