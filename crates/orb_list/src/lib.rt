@@ -18,8 +18,8 @@ pub use answer::AnswerPlan;
 pub use fault::ListFault;
 pub use laws::{
     buffers_stay, data_stand_in_segments, named_statuses_are_taken, numbers_are_found,
-    orbs_are_served, page_table_reads_back, slots_are_kept, slots_become_free, slots_stay_held,
-    steps_keep_slots,
+    orbs_are_served, orbs_keep_their_slots, page_table_reads_back, slots_are_kept,
+    slots_become_free, slots_stay_held, steps_keep_slots,
 };
 pub use list::{Link, Linking, PresentList};
 pub use lists::Lists;
