@@ -1,4 +1,4 @@
-use crate::calls::{Alone, call, media_of};
+use crate::calls::{Alone, call, media_of, program_media};
 use sbp_command::Status;
 use std::test::Fail;
 
@@ -57,6 +57,19 @@ fn drills_write_six_lines(rt: HostRuntime) -> Result<(), Fail> {
         let ended = call(alloc, words, &mut media, "", &[1], &[failing])?;
         assert_eq!(rt; ended.status, status);
         assert_eq!(rt; ended.written.as_str(), written);
+    }
+    Ok(())
+}
+
+/// The same over the media of the program, whose unit 0 holds zeros too.
+#[test]
+fn drills_run_over_all_media(rt: HostRuntime) -> Result<(), Fail> {
+    let alloc = rt.alloc();
+    for (words, written) in [("drill 1 1", ONE), ("drill 1 1000", THOUSAND)] {
+        let mut media = program_media(alloc)?;
+        let ended = call(alloc, words, &mut media, "", &[1], &[])?;
+        let is_told = ended.status == Status::Done && ended.written.as_str() == written;
+        assert!(rt; is_told, "{words}");
     }
     Ok(())
 }

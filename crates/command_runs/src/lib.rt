@@ -13,10 +13,16 @@ mod failing_tests;
 #[cfg(test)]
 mod limit_tests;
 #[cfg(test)]
+mod listing_tests;
+#[cfg(test)]
 mod long_tests;
 #[cfg(test)]
 mod scripts;
 #[cfg(test)]
 mod texts;
+#[cfg(test)]
+mod wild_tests;
+#[cfg(test)]
+mod wild_texts;
 #[cfg(test)]
 mod world_tests;

@@ -15,10 +15,14 @@ pub(crate) enum Sent {
     Block([u8; 12]),
     /// READ(12) from this block on, of so many.
     Read(u8, u8),
+    /// The same by READ(10).
+    ReadTen(u8, u8),
     /// VERIFY from this block on, of so many.
     Verify(u8, u8),
-    /// A WRITE of 32 blocks of this byte.
+    /// WRITE(12) of 32 blocks of this byte.
     WriteAll(u8),
+    /// The same by WRITE(10).
+    WriteTen(u8),
 }
 
 /// A command, and how it is to end.
@@ -29,8 +33,10 @@ fn command(sent: Sent) -> ([u8; 12], bool, u8) {
     match sent {
         Sent::Block(cdb) => (cdb, true, 0),
         Sent::Read(lba, count) => ([0xa8, 0, 0, 0, 0, lba, 0, 0, 0, count, 0, 0], true, 0),
+        Sent::ReadTen(lba, count) => ([0x28, 0, 0, 0, 0, lba, 0, 0, count, 0, 0, 0], true, 0),
         Sent::Verify(lba, count) => ([0x2f, 0, 0, 0, 0, lba, 0, 0, count, 0, 0, 0], true, 0),
         Sent::WriteAll(fill) => ([0xaa, 0, 0, 0, 0, 0, 0, 0, 0, 32, 0, 0], false, fill),
+        Sent::WriteTen(fill) => ([0x2a, 0, 0, 0, 0, 0, 0, 0, 32, 0, 0, 0], false, fill),
     }
 }
 

@@ -5,7 +5,11 @@
 #[cfg(test)]
 mod bay_tests;
 #[cfg(test)]
+mod call_tests;
+#[cfg(test)]
 mod case;
+#[cfg(test)]
+mod counted_calls;
 #[cfg(test)]
 mod counted_disc;
 #[cfg(test)]

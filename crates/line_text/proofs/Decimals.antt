@@ -1,5 +1,5 @@
 -- The digits of a number in decimal, by pairs.
-use Rattle.std.proofs.Common.{◌≡◌, ◌∙◌, refl, ap, arith, ℕ, zero, suc, ◌==◌, ◌&&◌, Bool, true, inl, inr, ◌+◌, ◌*◌, ◌/◌, ◌%◌, ◌^◌, ◌<◌, ◌≤◌, List, [], ◌∷◌, ◌++◌, length, append_assoc, length-append}
+use Rattle.std.proofs.Common.{◌≡◌, ◌∙◌, refl, ap, arith, ℕ, zero, suc, ◌==◌, ◌&&◌, Bool, true, inl, inr, ◌+◌, ◌*◌, ◌/◌, ◌%◌, ◌^◌, ◌<◌, ◌≤◌, List, [], ◌∷◌, ◌++◌, length, append_assoc}
 use Rattle.std.specs.Fmt.{decimal}
 use Rattle.std.specs.Prelude.{slice_index}
 use Rattle.std.proofs.lemmas.Bool.{and_parts, cases_lt, eqb-true}
@@ -54,10 +54,6 @@ front_and_four n low high =
     let d : n / 10 % 10 ≡ n % 10000 % 100 / 10 = omega arith in
     let e : n % 10 ≡ n % 10000 % 100 % 10 = omega arith in
     rw (one, two, three, last, a, b, c, d, e) (simp append_assoc)
-
--- and they are four more
-pub front_length : (n : ℕ) → 10000 ≤ n → n < 2 ^ 64 → length (decimal n) ≡ length (decimal (n / 10000)) + 4
-front_length n low high = ap (λ l. length l) (front_and_four n low high) ∙ length-append (decimal (n / 10000)) (four (n % 10000))
 
 -- ---- the digits of all numbers below a hundred, which compute
 

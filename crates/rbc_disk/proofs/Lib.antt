@@ -2,7 +2,6 @@ pub mod MediaLists
 pub mod CheckLemmas
 pub mod AnswerLemmas
 pub mod AttentionLemmas
-pub mod NeedLemmas
 pub mod KeyLemmas
 mod BlockLemmas
 mod ReadLemmas
