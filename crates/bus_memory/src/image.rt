@@ -6,7 +6,7 @@ ghost use Rattle.bus_memory.specs.Access.{IfServed, IfSpot, IsQuadlet, is_open, 
 use crate::access::{Access, Rcode, Spot};
 use crate::slot::{PlaceMemory, SlotMemory, put_bytes};
 use crate::window::{Window, is_fifo};
-use sbp_base::{NoMemory, Offset};
+use sbp_base::{NoMemory, Offset, bytes_of_quad};
 use std::alloc::Global;
 use std::marker::Model;
 
@@ -97,7 +97,7 @@ impl Image {
         let Some(Spot { window, at }) = self.spot(offset, 4) else {
             unreachable!()
         };
-        self.put(window, at, &value.to_be_bytes());
+        self.put(window, at, &bytes_of_quad(value));
     }
 
     /// Sets bytes of a slot's buffer, from place `at` in it on.
@@ -242,7 +242,7 @@ fn rom_bytes(alloc: Global, quads: &[u32]) -> Result<Vec<u8>, NoMemory>
 {
     let mut bytes = Vec::new(alloc);
     for quad in quads {
-        bytes.extend_from_slice(&quad.to_be_bytes())?;
+        bytes.extend_from_slice(&bytes_of_quad(*quad))?;
     }
     Ok(bytes)
 }

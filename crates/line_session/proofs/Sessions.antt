@@ -1,5 +1,5 @@
 -- A session goes on piece by piece and line by line, and ends as its status says.
-use Rattle.std.proofs.Common.{◌≡◌, ◌∙◌, refl, sym, ap, subst, ℕ, ◌+◌, ◌-◌, ◌==◌, ◌<◌, ◌≤◌, inl, nat_lt, Bool, true, false, if◌then◌else◌, List, [], ◌∷◌, ◌++◌, take, drop, length, Option, Some, None, Result, Ok, Err, append_assoc, append-nil, arith}
+use Rattle.std.proofs.Common.{◌≡◌, ◌∙◌, refl, sym, ap, subst, ℕ, ◌+◌, ◌-◌, ◌==◌, ◌<◌, inl, nat_lt, Bool, true, false, if◌then◌else◌, List, [], ◌∷◌, ◌++◌, take, drop, length, Option, Some, None, Result, Ok, Err, append_assoc, append-nil, arith}
 use Rattle.std.specs.Prelude.{IfSome, OnOk}
 use Rattle.std.specs.Io.KnownBytes.{Appends, Consumes, Keeps, IsAtEnd}
 use Rattle.std.proofs.KnownBytes.{Appends-nil, Appends-trans, Consumes-nil, Consumes-trans}
@@ -12,7 +12,7 @@ use Rattle.rbc_disk.specs.Held.{Held}
 use Rattle.line_session.specs.Lines.{NoFeed, is_surely_long, limit_fault, long_fault, too_long, too_many}
 use Rattle.line_session.specs.Outside.{Outside}
 use Rattle.line_session.specs.Meaning.{Meaning, Refused, RefusedFor, Ran, fault_text}
-use Rattle.line_session.specs.Ends.{AllServed, Stopped, LinesServed, Brings, Torn, Ends}
+use Rattle.line_session.specs.Ends.{Torn, Ends}
 use Rattle.line_session.specs.Ends.Brings.{lines_alone, with_fault, with_end}
 use Rattle.line_session.specs.Session.{SessionState, WritesFront, Flushes, told, InSession, Faces, AtEnd, GoesOn}
 use Rattle.line_session.specs.declared.status.Status.{Status}
@@ -67,23 +67,26 @@ module _ {S : Type 0} (meaning : Meaning S) where
   -- ---- where a session stops
 
   -- behind the lines that were served
-  pub stops : (before old new : Outside) (pending : List ℕ) (state : SessionState) (server : S) → InSession meaning before old pending state server → old.written ≡ new.written → meaning.stays old.media new.media → Torn meaning before new
-  stops before old new pending state server h e stays =
+  pub stops : (before old : Outside) (media : Held) (pending : List ℕ) (state : SessionState) (server : S) → InSession meaning before old pending state server → meaning.stays old.media media
+      → Ends meaning statuses.NoMemory before (record old { media = media })
+  stops before old media pending state server h stays =
       let more = state.rest ++ (pending ++ known old.left) in
-      let regroup : ((h.whole ++ state.rest) ++ pending) ++ known old.left ≡ h.whole ++ more = simp append_assoc in
-      record {
-        input = h.whole ++ more;
-        served = lines h.whole;
-        others = lines more;
-        media = old.media;
-        output = h.front ++ state.out;
-        len = length h.front;
-        told = input_same before.left _ _ regroup (input_is before.left old.left _ h.consumed);
-        input_is = lines-whole h.whole more h.is_whole;
-        brings = lines_alone (h.front ++ state.out) (server, h.ran);
-        stays = stays;
-        written = torn_text before.written new.written _ h.front state.out refl (subst (λ w. Appends before.written w h.front) e h.written);
-      }
+      let regroup : ((h.whole ++ state.rest) ++ pending) ++ known old.left ≡ h.whole ++ more = simp append_assoc in (
+        record { reads = h.reads; writes = h.writes },
+        record {
+          input = h.whole ++ more;
+          served = lines h.whole;
+          others = lines more;
+          media = old.media;
+          output = h.front ++ state.out;
+          len = length h.front;
+          told = input_same before.left _ _ regroup (input_is before.left old.left _ h.consumed);
+          input_is = lines-whole h.whole more h.is_whole;
+          brings = lines_alone (h.front ++ state.out) (server, h.ran);
+          stays = stays;
+          written = torn_text before.written old.written _ h.front state.out refl h.written;
+        },
+      )
 
   -- ---- a line with its line feed
 
@@ -221,7 +224,7 @@ module _ {S : Type 0} (meaning : Meaning S) where
   pub flush_fails : {A : Type 0} (status : Status) (before old : Outside) (pending : List ℕ) (state : SessionState) (waits : List ℕ) (server : S) (written : Option (List ℕ)) (writes : ℕ)
       → InSession meaning before old pending state server → Flushes {A = A} old.written written old.writes writes (Err status) state.out waits → Ends meaning status before (record old { written = written; writes = writes })
   flush_fails statuses.WriteFault before old pending state waits server written writes h f = (rose_since before.writes old.writes writes h.writes f.ends, (flush_torn statuses.WriteFault before old pending state waits server written writes h f, refl))
-  flush_fails statuses.NoMemory before old pending state waits server written writes h f = flush_torn statuses.NoMemory before old pending state waits server written writes h f
+  flush_fails statuses.NoMemory before old pending state waits server written writes h f = (record { reads = h.reads; writes = f.ends ∙ h.writes }, flush_torn statuses.NoMemory before old pending state waits server written writes h f)
   flush_fails statuses.Done before old pending state waits server written writes h f = absurd f.ends
   flush_fails statuses.Script before old pending state waits server written writes h f = absurd f.ends
   flush_fails statuses.ReadFault before old pending state waits server written writes h f = absurd f.ends
@@ -273,7 +276,7 @@ module _ {S : Type 0} (meaning : Meaning S) where
     no_fault = record { reads = h.reads; writes = w.ends ∙ h.writes };
   }
   faces_ends statuses.WriteFault before old out number fault written writes h w = (rose_since before.writes old.writes writes h.writes w.ends, (faces_torn _ before old out number fault written writes h w, refl))
-  faces_ends statuses.NoMemory before old out number fault written writes h w = faces_torn _ before old out number fault written writes h w
+  faces_ends statuses.NoMemory before old out number fault written writes h w = (record { reads = h.reads; writes = w.ends ∙ h.writes }, faces_torn _ before old out number fault written writes h w)
   faces_ends statuses.Done before old out number fault written writes h w = absurd w.ends
   faces_ends statuses.ReadFault before old out number fault written writes h w = absurd w.ends
 
@@ -326,20 +329,23 @@ module _ {S : Type 0} (meaning : Meaning S) where
     }
 
   -- memory was wanting for what is said at the end
-  pub close_torn : (before now : Outside) (out : List ℕ) (server : S) → AtEnd meaning before now out server → Torn meaning before now
-  close_torn before now out server h = record {
-    input = h.input;
-    served = lines h.input;
-    others = [];
-    media = now.media;
-    output = h.front ++ out;
-    len = length h.front;
-    told = h.told;
-    input_is = sym (append-nil (lines h.input));
-    brings = lines_alone (h.front ++ out) (server, h.ran);
-    stays = meaning.stays_same now.media;
-    written = torn_text before.written now.written _ h.front out refl h.written;
-  }
+  pub close_torn : (before now : Outside) (out : List ℕ) (server : S) → AtEnd meaning before now out server → Ends meaning statuses.NoMemory before now
+  close_torn before now out server h = (
+    record { reads = h.reads; writes = h.writes },
+    record {
+      input = h.input;
+      served = lines h.input;
+      others = [];
+      media = now.media;
+      output = h.front ++ out;
+      len = length h.front;
+      told = h.told;
+      input_is = sym (append-nil (lines h.input));
+      brings = lines_alone (h.front ++ out) (server, h.ran);
+      stays = meaning.stays_same now.media;
+      written = torn_text before.written now.written _ h.front out refl h.written;
+    },
+  )
 
   abbrev end_torn : {A : Type 0} (result : Result A Status) (before old : Outside) (out said : List ℕ) (server : S) (written : Option (List ℕ)) (writes : ℕ) (h : AtEnd meaning before old out server) → meaning.closed (lines h.input) (h.front ++ said) before.media old.media
       → WritesFront old.written written old.writes writes result said → Torn meaning before (record old { written = written; writes = writes })
@@ -362,7 +368,7 @@ module _ {S : Type 0} (meaning : Meaning S) where
   pub close_fails : {A : Type 0} (status : Status) (before old : Outside) (out said : List ℕ) (server : S) (written : Option (List ℕ)) (writes : ℕ) (h : AtEnd meaning before old out server) → meaning.closed (lines h.input) (h.front ++ said) before.media old.media
       → WritesFront {A = A} old.written written old.writes writes (Err status) said → Ends meaning status before (record old { written = written; writes = writes })
   close_fails statuses.WriteFault before old out said server written writes h closed w = (rose_since before.writes old.writes writes h.writes w.ends, (end_torn _ before old out said server written writes h closed w, refl))
-  close_fails statuses.NoMemory before old out said server written writes h closed w = end_torn _ before old out said server written writes h closed w
+  close_fails statuses.NoMemory before old out said server written writes h closed w = (record { reads = h.reads; writes = w.ends ∙ h.writes }, end_torn _ before old out said server written writes h closed w)
   close_fails statuses.Done before old out said server written writes h closed w = absurd w.ends
   close_fails statuses.Script before old out said server written writes h closed w = absurd w.ends
   close_fails statuses.ReadFault before old out said server written writes h closed w = absurd w.ends

@@ -84,4 +84,4 @@ Ends meaning statuses.Done before now = IsAtEnd now.left × AllServed meaning be
 Ends meaning statuses.Script before now = Stopped meaning before now
 Ends meaning statuses.ReadFault before now = Rose before.reads now.reads × LinesServed meaning before now
 Ends meaning statuses.WriteFault before now = Rose before.writes now.writes × TornAt meaning before now
-Ends meaning statuses.NoMemory before now = Torn meaning before now
+Ends meaning statuses.NoMemory before now = NoFault before now × Torn meaning before now

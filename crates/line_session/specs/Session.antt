@@ -1,5 +1,5 @@
 -- What the reading of lines has come to, piece by piece and line by line.
-use Rattle.std.specs.Prelude.{◌≡◌, ℕ, ◌+◌, ◌*◌, ◌-◌, ◌≤◌, Bool, false, List, [], ◌∷◌, ◌++◌, length, take, Option, IfSome, Result, Ok, Err, OnOk}
+use Rattle.std.specs.Prelude.{◌≡◌, ℕ, ◌+◌, ◌*◌, ◌-◌, ◌≤◌, false, List, [], ◌∷◌, ◌++◌, length, take, Option, IfSome, Result, Ok, Err, OnOk}
 use Rattle.std.specs.Io.KnownBytes.{Appends, Consumes, IsAtEnd}
 use Rattle.std.specs.Str.Lines.{lines}
 use Rattle.sbp_base.specs.Faults.{Rose}
@@ -25,11 +25,12 @@ pub record IsReady (state : SessionState) : Type 0 where
 abbrev pub budget : SessionState → ℕ
 budget state = (65537 - state.number) * 8195 - length state.rest
 
--- how a write ended, by the sink's count of faults: all is written and no fault came, or one came, or memory was wanting
+-- how a write ended, by the sink's count of faults: it rose where the sink failed, and is as before where all is written or memory was
+-- wanting
 abbrev pub WriteEnds : {A : Type 0} → Result A Status → ℕ → ℕ → Type 0
 WriteEnds (Ok done) before now = now ≡ before
 WriteEnds (Err statuses.WriteFault) before now = Rose before now
-WriteEnds (Err statuses.NoMemory) before now = Unit {0}
+WriteEnds (Err statuses.NoMemory) before now = now ≡ before
 WriteEnds (Err _) before now = ⊥
 
 -- A front of the bytes was written, all of them where no error came.

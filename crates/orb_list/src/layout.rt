@@ -13,7 +13,7 @@ ghost use Rattle.byteorder.specs.Endian.{big_bytes};
 use crate::request::Request;
 use bus_memory::{Image, Window};
 use orb_layout::{CommandOrb, OrbPointer};
-use sbp_base::{NodeId, Offset, quad_at};
+use sbp_base::{NodeId, Offset, bytes_of_quad, quad_at};
 
 /// The place that is so many bytes into a window.
 fn place(window: Window, at: u32) -> Offset
@@ -74,7 +74,7 @@ pub(crate) fn put_slot_quad(image: &mut Image, window: Window, at: u32, value: u
     ensures whole { IsWhole image.new }
     ensures open { is_open image.new window ≡ true }
 {
-    image.put(window, at as usize, &value.to_be_bytes());
+    image.put(window, at as usize, &bytes_of_quad(value));
 }
 
 /// Writes an ORB into an armed slot.

@@ -21,7 +21,7 @@ pub use memory::{MemorySink, MemorySource};
 pub use node::NodeId;
 pub use offset::Offset;
 pub use outside::{Failed, NoMemory, Sink, SinkFault, Source};
-pub use quadlets::{put_quad, quad_at, quadlets_read_back};
+pub use quadlets::{bytes_of_quad, put_quad, quad_at, quadlets_read_back};
 pub use speed::Speed;
 
 #[cfg(test)]

@@ -1,4 +1,5 @@
 ghost use Rattle.std.specs.Prelude.{◌≡◌, ◌+◌, ◌≤◌, length};
+ghost use Rattle.byteorder.specs.Endian.{big_bytes};
 ghost use Rattle.sbp_base.specs.Quadlets.{quad, with_quad, ReadsBackQuadlets};
 
 use byteorder::{BigEndian, ByteOrder};
@@ -18,6 +19,15 @@ pub fn put_quad(out: &mut [u8], at: usize, value: u32)
     ensures { out.new ≡ with_quad out.old at value }
 {
     BigEndian::write_u32(&mut out[at..], value);
+}
+
+/// The 4 bytes of a quadlet, the most significant byte first.
+pub fn bytes_of_quad(value: u32) -> [u8; 4]
+    ensures { result ≡ big_bytes 4 value }
+{
+    let mut bytes = [0; 4];
+    BigEndian::write_u32(&mut bytes, value);
+    bytes
 }
 
 /// The law that ties the two calls: what was written at a place is read there.

@@ -56,7 +56,7 @@ drill_done seed count a before now output h w = record {
 pub drill_torn : {A : Type 0} (status : Status) (seed count : ℕ) (before now : Outside) (output : List ℕ) → RanDrill seed count before.media now.media output
     → WritesFront {A = A} before.written now.written before.writes now.writes (Err status) output → DrillWrites seed count (status_of status) before now
 drill_torn stream_statuses.WriteFault seed count before now output h w = (w.ends, record { output = output; ran = h; len = w.len; written = w.written })
-drill_torn stream_statuses.NoMemory seed count before now output h w = inr (record { output = output; ran = h; len = w.len; written = w.written })
+drill_torn stream_statuses.NoMemory seed count before now output h w = (w.ends, inr (record { output = output; ran = h; len = w.len; written = w.written }))
 drill_torn stream_statuses.Done seed count before now output h w = absurd w.ends
 drill_torn stream_statuses.Script seed count before now output h w = absurd w.ends
 drill_torn stream_statuses.ReadFault seed count before now output h w = absurd w.ends

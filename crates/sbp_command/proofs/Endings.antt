@@ -161,6 +161,6 @@ run_ends stream_statuses.ReadFault before now (rose, s) = (
       },
 )
 run_ends stream_statuses.WriteFault before now (rose, (t, same)) = (rose, subst (λ media. Torn before now media) same (torn before now t))
-run_ends stream_statuses.NoMemory before now t =
+run_ends stream_statuses.NoMemory before now (no_fault, t) =
     let u = torn before now t in
-    record { media = t.media; torn = u; left = t.stays; within = subst (λ media. NoneFell media.faults now.media.faults) (left_by_notes before.media t.media u.happened u.notes u.ran) t.stays.fell }
+    (no_fault, record { media = t.media; torn = u; left = t.stays; within = subst (λ media. NoneFell media.faults now.media.faults) (left_by_notes before.media t.media u.happened u.notes u.ran) t.stays.fell })

@@ -115,8 +115,8 @@ listing_ends S stream_statuses.ReadFault before now (rose, t) = (
       },
 )
 listing_ends S stream_statuses.WriteFault before now (rose, t) = (rose, torn S before now t.0)
-listing_ends S stream_statuses.NoMemory before now t = torn S before now t
+listing_ends S stream_statuses.NoMemory before now (no_fault, t) = (no_fault, torn S before now t)
 
 -- no line was read
 pub not_begun : (S : Type 0) (before : Outside) (state : S) → ListingEnds (status_of stream_statuses.NoMemory) before before
-not_begun S before state = torn S before before (stops list_meaning before before before [] _ state (begins list_meaning before state (record { listed = refl; kept = refl })) refl refl)
+not_begun S before state = listing_ends S stream_statuses.NoMemory before before (stops list_meaning before before before.media [] _ state (begins list_meaning before state (record { listed = refl; kept = refl })) refl)

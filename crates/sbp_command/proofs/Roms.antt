@@ -110,8 +110,8 @@ rom_ends stream_statuses.ReadFault before now (rose, t) = (
       },
 )
 rom_ends stream_statuses.WriteFault before now (rose, t) = (rose, torn before now t.0)
-rom_ends stream_statuses.NoMemory before now t = torn before now t
+rom_ends stream_statuses.NoMemory before now (no_fault, t) = (no_fault, torn before now t)
 
 -- no line was read
 pub not_begun : (before : Outside) → RomEnds (status_of stream_statuses.NoMemory) before before
-not_begun before = torn before before (stops rom_meaning before before before [] _ [] (begins rom_meaning before [] (record { read = refl; silent = refl; kept = refl })) refl refl)
+not_begun before = rom_ends stream_statuses.NoMemory before before (stops rom_meaning before before before.media [] _ [] (begins rom_meaning before [] (record { read = refl; silent = refl; kept = refl })) refl)

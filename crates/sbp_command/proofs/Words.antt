@@ -13,7 +13,7 @@ use Rattle.sbp_command.specs.Headline.{UsageEnds, usage, status_of}
 pub usage_fails : {A : Type 0} (status : Status) (left : Option (List ℕ)) (reads : ℕ) (mid new : Option (List ℕ)) (some more : ℕ) (disks : List Disk) (faults : List ℕ)
     → WritesFront {A = A} mid new some more (Err status) usage → UsageEnds (status_of status) (outside left reads mid some disks faults) (outside left reads new more disks faults)
 usage_fails statuses.WriteFault left reads mid new some more disks faults w = (w.ends, (record { left = refl; reads = refl; media = refl }, (w.len, w.written)))
-usage_fails statuses.NoMemory left reads mid new some more disks faults w = (record { left = refl; reads = refl; media = refl }, (w.len, w.written))
+usage_fails statuses.NoMemory left reads mid new some more disks faults w = (record { reads = refl; writes = w.ends }, (record { left = refl; reads = refl; media = refl }, (w.len, w.written)))
 usage_fails statuses.Done left reads mid new some more disks faults w = absurd w.ends
 usage_fails statuses.Script left reads mid new some more disks faults w = absurd w.ends
 usage_fails statuses.ReadFault left reads mid new some more disks faults w = absurd w.ends

@@ -56,7 +56,7 @@ pub record KeepsSource (before now : Outside) : Type 0 where
 abbrev pub DrillWrites : ℕ → ℕ → Status → Outside → Outside → Type 0
 DrillWrites seed count statuses.Done before now = WroteDrill seed count before now
 DrillWrites seed count statuses.WriteFault before now = Rose before.writes now.writes × TornDrill seed count before now
-DrillWrites seed count statuses.NoMemory before now = Appends before.written now.written [] ⊎ TornDrill seed count before now
+DrillWrites seed count statuses.NoMemory before now = (now.writes ≡ before.writes) × (Appends before.written now.written [] ⊎ TornDrill seed count before now)
 DrillWrites seed count _ before now = ⊥
 
 -- the clause of `drill` by status; where memory was wanting before the lines were whole nothing is said of the media

@@ -86,7 +86,7 @@ RunEnds statuses.Words before now = ⊥
 RunEnds statuses.Script before now = (fault : ℕ × ℕ) × RanScript before now (Some fault)
 RunEnds statuses.ReadFault before now = Rose before.reads now.reads × RanLines before now
 RunEnds statuses.WriteFault before now = Rose before.writes now.writes × Torn before now now.media
-RunEnds statuses.NoMemory before now = TornAndLeft before now
+RunEnds statuses.NoMemory before now = NoFault before now × TornAndLeft before now
 
 -- The media and their counts are as they were.
 abbrev pub KeepsMedia : Outside → Outside → Type 0
@@ -134,7 +134,7 @@ ListingEnds statuses.Words before now = ⊥
 ListingEnds statuses.Script before now = (fault : ℕ × ℕ) × ListedInput before now (Some fault)
 ListingEnds statuses.ReadFault before now = Rose before.reads now.reads × ListedLines before now
 ListingEnds statuses.WriteFault before now = Rose before.writes now.writes × TornListing before now
-ListingEnds statuses.NoMemory before now = TornListing before now
+ListingEnds statuses.NoMemory before now = NoFault before now × TornListing before now
 
 -- what the lines of `rom` bring: the listing of their quadlets, or the first faulty line alone
 abbrev pub rom_output : Result (List ℕ) (ℕ × ℕ) → List ℕ
@@ -178,7 +178,7 @@ RomEnds statuses.Words before now = ⊥
 RomEnds statuses.Script before now = (fault : ℕ × ℕ) × RomWritten before now (Err fault)
 RomEnds statuses.ReadFault before now = Rose before.reads now.reads × RomUnwritten before now
 RomEnds statuses.WriteFault before now = Rose before.writes now.writes × TornRom before now
-RomEnds statuses.NoMemory before now = TornRom before now
+RomEnds statuses.NoMemory before now = NoFault before now × TornRom before now
 
 -- the words of the command line that are in the table
 abbrev pub IsRun : List (List ℕ) → Type 0
@@ -206,7 +206,7 @@ FrontWritten before now = Untouched before now × ((len : ℕ) × Appends before
 abbrev pub UsageEnds : Status → Outside → Outside → Type 0
 UsageEnds statuses.Words before now = Untouched before now × Appends before.written now.written usage
 UsageEnds statuses.WriteFault before now = Rose before.writes now.writes × FrontWritten before now
-UsageEnds statuses.NoMemory before now = FrontWritten before now
+UsageEnds statuses.NoMemory before now = NoFault before now × FrontWritten before now
 UsageEnds _ before now = ⊥
 
 -- the exit status

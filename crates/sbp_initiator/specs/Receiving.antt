@@ -188,8 +188,8 @@ expired_as (Ok purpose, layer) o s = (true, ended_for purpose endings.Expired o 
 unfoldable pub expire_step : LabelParts → OutboxState → InitiatorState → Bool × Turn
 expire_step label o s = expired_as (expiring_step s.layer s.target label) o s
 
--- what a call answers and leaves, but where memory was wanting
+-- what a call answers and leaves; memory is wanting only where the request is under way, and nothing is said of what is left then
 abbrev pub HasExpired : Result (Unit {0}) TargetFault → Turn → Bool × Turn → Type 0
 HasExpired (Ok done) left step = (true, left) ≡ step
 HasExpired (Err target_faults.Stale) left step = (false, left) ≡ step
-HasExpired (Err target_faults.NoMemory) left step = Unit {0}
+HasExpired (Err target_faults.NoMemory) left step = step.0 ≡ true

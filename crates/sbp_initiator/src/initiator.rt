@@ -174,7 +174,8 @@ impl Initiator {
         self.state.receive(self.alloc, generation, bytes, outbox)
     }
 
-    /// Lets the request of a label expire. It is stale exactly where it is not under way.
+    /// Lets the request of a label expire. It is stale exactly where it is not under way, and memory is
+    /// wanting only where it is.
     pub fn expire(&mut self, label: Label, outbox: &mut Outbox) -> Result<(), TargetFault>
         requires { self.old.counts.calls < 2 ^ 48 }
         ensures { HasExpired result (outbox.new, self.new) (expire_step label outbox.old self.old) }

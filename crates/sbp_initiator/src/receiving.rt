@@ -24,7 +24,7 @@ use label_table::Judgement;
 use media_bay::read_unsolicited;
 use orb_layout::{StatusBlock, StatusKind, read_status};
 use orb_list::Ticket;
-use sbp_base::{Bytes, Generation, NoMemory, Offset};
+use sbp_base::{Bytes, Generation, NoMemory, Offset, bytes_of_quad};
 use sbp_journal::{Cause, Judged, Note, Outbox, Outgoing, TargetFault};
 use std::alloc::Global;
 
@@ -396,7 +396,14 @@ impl InitiatorState {
                 self.read(alloc, *offset, usize::from(*length), packet, bytes, outbox)
             }
             PacketRef::WriteQuadlet { offset, value, .. } => {
-                self.write(alloc, *offset, &value.to_be_bytes(), packet, bytes, outbox)
+                self.write(
+                    alloc,
+                    *offset,
+                    &bytes_of_quad(*value),
+                    packet,
+                    bytes,
+                    outbox,
+                )
             }
             PacketRef::WriteBlock {
                 offset,

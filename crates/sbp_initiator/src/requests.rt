@@ -11,6 +11,7 @@ ghost use Rattle.sbp_initiator.specs.States.{address_in, place_of, wanted_body};
 use crate::purpose::{Demand, Purpose, Wanted};
 use crate::state::InitiatorState;
 use bus_memory::Window;
+use byteorder::{BigEndian, ByteOrder};
 use initiator_base::places::{behind_by, login_fifo, password_of, place_fifo, rom_start};
 use label_table::{Asked, RequestBody};
 use orb_layout::ManagementOrb;
@@ -55,7 +56,9 @@ fn address_in(wanted: &Wanted) -> [u8; 8]
         Wanted::Point { orb, .. } => *orb,
         Wanted::Read { .. } | Wanted::Write { .. } => Offset::zero(),
     };
-    orb.value().to_be_bytes()
+    let mut bytes = [0; 8];
+    BigEndian::write_u64(&mut bytes, orb.value());
+    bytes
 }
 
 /// What a request asks for, with the bytes of the address that it writes.

@@ -20,9 +20,10 @@ new_target units ready = record { calls = 0; node = new_node units ready }
 pub record IsCounted (target : TargetState) : Type 0 where
   pub few : target.node.layer.calls ≤ 16 * target.calls
 
--- How a time-out ends: it is stale exactly where the transaction is not under way, and else brings what it was for. Want of memory says nothing.
+-- How a time-out ends: it is stale exactly where the transaction is not under way, and else brings what it was for. Memory is wanting only where it
+-- is under way, and nothing is said of what the target holds then.
 abbrev pub ExpiresBy : Result (Unit {0}) TargetFault → Result (Unit {0}) Stale × Scene → TargetState → Scene → TargetState → OutboxState → Type 0
-ExpiresBy (Err faults.NoMemory) step old before new outbox = Unit {0}
+ExpiresBy (Err faults.NoMemory) step old before new outbox = step.0 ≡ Ok tt
 ExpiresBy (Ok ok) (Ok done, s) old before new outbox = (scene new.node outbox ≡ s) × (new.calls ≡ old.calls + 1)
 ExpiresBy (Ok ok) (Err stale, s) old before new outbox = ⊥
 ExpiresBy (Err faults.Stale) (Ok done, s) old before new outbox = ⊥

@@ -81,7 +81,8 @@ impl Target {
     }
 
     /// A request times out. `Stale` exactly where it is not under way; nothing changes then. No command
-    /// runs, so the media stay as they are. After `NoMemory` the target is not used again.
+    /// runs, so the media stay as they are. `NoMemory` only where it is under way; then the target is not
+    /// used again.
     #[tactic(auto, unfolding(crate::specs::Receiving::expired))]
     pub fn expire(
         &mut self,

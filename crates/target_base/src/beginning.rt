@@ -8,7 +8,7 @@ ghost use Rattle.target_base.specs.Beginning.{ready_from, ready_login, target_eu
 use config_rom::{RomPlan, make};
 use login_table::Logins;
 use rbc_disk::Unit;
-use sbp_base::{NoMemory, NodeId, Offset};
+use sbp_base::{NoMemory, NodeId, Offset, bytes_of_quad};
 use std::alloc::Global;
 
 /// The EUI-64 of the target.
@@ -70,7 +70,7 @@ fn quad_bytes(alloc: Global, quads: &[u32]) -> Result<Vec<u8>, NoMemory>
 {
     let mut bytes = Vec::new(alloc);
     for quad in quads {
-        bytes.extend_from_slice(&quad.to_be_bytes())?;
+        bytes.extend_from_slice(&bytes_of_quad(*quad))?;
     }
     Ok(bytes)
 }

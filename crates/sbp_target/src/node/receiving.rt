@@ -15,7 +15,7 @@ use async_packet::{Label, PacketRef};
 use label_table::Judgement;
 use orb_layout::Reply;
 use rbc_disk::Medium;
-use sbp_base::{Generation, NoMemory, NodeId};
+use sbp_base::{Generation, NoMemory, NodeId, bytes_of_quad};
 use sbp_journal::{Cause, Judged, Outbox};
 
 /// What a response with this rcode says: this where it is complete.
@@ -124,7 +124,7 @@ impl Node {
     {
         let peer = packet.header().source;
         if let PacketRef::ReadQuadletResponse { rcode, value, .. } = packet {
-            let bytes = value.to_be_bytes();
+            let bytes = bytes_of_quad(*value);
             let reply = reply_by(*rcode, Reply::Payload(&bytes));
             return self.finish(media, outbox, purpose, peer, label, reply);
         }

@@ -18,7 +18,7 @@ use crate::telling::orb_of;
 use async_packet::PacketRef;
 use command_agent::{AgentState, AgentStep, PointRefusal};
 use orb_layout::{Ask, OrbPointer};
-use sbp_base::{NoMemory, Offset, put_quad};
+use sbp_base::{NoMemory, Offset, bytes_of_quad, put_quad};
 use sbp_journal::{Cause, CutCause, Judged, Outbox, Side};
 use target_base::{ADDRESS, Access, COMPLETE, CONFLICT, DATA, Demand, LoginPlace, demand_of};
 
@@ -205,7 +205,7 @@ impl Node {
         match access {
             Access::State => {
                 let number = state_number(self.desks[index].agent.state());
-                self.answer(outbox, request, bytes, COMPLETE, &number.to_be_bytes())
+                self.answer(outbox, request, bytes, COMPLETE, &bytes_of_quad(number))
             }
             Access::Reset => {
                 self.cut(outbox, place, CutCause::AgentReset)?;

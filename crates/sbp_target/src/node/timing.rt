@@ -70,7 +70,7 @@ fn disable_each(desks: &mut [Desk])
 
 impl Node {
     /// A transaction times out; it is stale exactly where it is not the one under way, and nothing
-    /// changes then.
+    /// changes then. Memory is wanting only where it is under way.
     #[tactic(auto, unfolding(crate::specs::Receiving::expired))]
     pub(crate) fn expire(
         &mut self,
@@ -81,6 +81,7 @@ impl Node {
         requires count { self.old.layer.calls + 4 ≤ 2 ^ 56 }
         ensures step { IfOk result (λ done. (done, scene self.new outbox.new) ≡ expired peer label (scene self.old outbox.old)) }
         ensures stale { IfOk result (λ done. OnErr done ((self.new ≡ self.old) × (outbox.new ≡ outbox.old))) }
+        ensures wanting { OnErr result ((expired peer label (scene self.old outbox.old)).0 ≡ Ok tt) }
         ensures count { self.new.layer.calls ≤ self.old.layer.calls + 4 }
         ensures units { length self.new.units ≡ length self.old.units }
     {

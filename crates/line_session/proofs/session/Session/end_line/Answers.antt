@@ -1,5 +1,4 @@
 -- The line was served and its text waits, or its fault is told, or memory was wanting.
-use Rattle.std.proofs.Common.{refl}
 use Rattle.line_session.proofs.Sessions.{feed_ok, feed_faces, stops, faces_ends, flushed, next_number}
 use Rattle.line_session.proofs.session.Session.end_line.Goals as goal
 
@@ -18,4 +17,4 @@ returns-in-Err-Fault-clause-told g c = λ before left reads pending h.
 pub returns-in-Err-NoMemory-clause-told : goal.returns-in-Err-NoMemory-clause-told
 returns-in-Err-NoMemory-clause-told g c = λ before left reads pending h.
     let t = rw (c.in-Err-NoMemory.field-0-is) at (c.in-Err-NoMemory.ensures.served before.media _ h.front (next_number _ _ h.lines_are) h.ran) in
-    stops g.V.Serve.meaning before _ _ _ _ _ h refl t
+    stops g.V.Serve.meaning before _ _ _ _ _ h t

@@ -1,10 +1,10 @@
 -- The bytes are kept, or the line is refused for its length, or memory was wanting.
-use Rattle.std.proofs.Common.{refl, sym, ◌∙◌}
+use Rattle.std.proofs.Common.{sym, ◌∙◌}
 use Rattle.line_session.proofs.Sessions.{push_ok, long_faces, stops, faces_ends}
 use Rattle.line_session.proofs.session.Session.keep.Goals as goal
 
 pub returns-in-Err-clause-told : goal.returns-in-Err-clause-told
-returns-in-Err-clause-told g c = λ before left reads disks faults h. stops g.V.Serve.meaning before _ _ _ _ _ h refl (g.V.Serve.meaning.stays_same _)
+returns-in-Err-clause-told g c = λ before left reads disks faults h. stops g.V.Serve.meaning before _ _ _ _ _ h (g.V.Serve.meaning.stays_same _)
 
 pub returns-then-is_surely_long-clause-told : goal.returns-then-is_surely_long-clause-told
 returns-then-is_surely_long-clause-told g c = λ before left reads disks faults h.

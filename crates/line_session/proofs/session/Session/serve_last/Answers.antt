@@ -1,5 +1,5 @@
 -- The last line was served, or its fault is told, or memory was wanting.
-use Rattle.std.proofs.Common.{refl, sym, ap, ◌∙◌}
+use Rattle.std.proofs.Common.{sym, ap, ◌∙◌}
 use Rattle.line_session.proofs.Sessions.{end_none, end_ok, end_faces, stops, faces_ends, next_number, some_rest, no_rest}
 use Rattle.line_session.proofs.session.Session.serve_last.Goals as goal
 
@@ -31,5 +31,5 @@ returns-in-Err-NoMemory g c = record {
   told = λ before left reads end h.
       let k = rw (← c.self.view_is) at h in
       let t = rw (c.in-Err-NoMemory.field-0-is, c.as_slice-2.ensures) at (c.in-Err-NoMemory.ensures.served before.media _ k.front (next_number _ _ k.lines_are) k.ran) in
-      stops g.V.Serve.meaning before _ _ _ _ _ k refl t;
+      stops g.V.Serve.meaning before _ _ _ _ _ k t;
 }

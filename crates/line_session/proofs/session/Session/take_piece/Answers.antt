@@ -1,5 +1,5 @@
 -- The next line is the head of what is left of the piece.
-use Rattle.std.proofs.Common.{◌+◌, drop, length, arith, length-take-le, length-drop}
+use Rattle.std.proofs.Common.{◌+◌, arith, length-take-le, length-drop}
 use Rattle.line_session.proofs.Sessions.{same_pending, split_line}
 use Rattle.line_session.proofs.session.Session.take_piece.Goals as goal
 

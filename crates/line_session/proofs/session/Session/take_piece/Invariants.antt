@@ -1,5 +1,5 @@
 -- The session has taken the piece up to what is behind.
-use Rattle.std.proofs.Common.{◌≡◌, ◌+◌, ◌≤◌, ℕ, List, length, map, Option}
+use Rattle.std.proofs.Common.{◌+◌, ◌≤◌, ℕ, List, length, map, Option}
 use Rattle.rbc_disk.specs.Held.{held}
 use Rattle.line_session.specs.Outside.{Outside, outside}
 use Rattle.line_session.specs.Session.{IsReady, budget, InSession}
