@@ -1,9 +1,11 @@
 -- A lawful run is determined, entry by entry.
-use Rattle.std.proofs.Common.{◌≡◌, ◌∙◌, ℕ, Bool, List, [], ◌∷◌, ◌++◌, reverse, refl, sym, ap, ap₂, subst}
+use Rattle.std.proofs.Common.{◌≡◌, ◌∙◌, ℕ, Bool, false, Some, List, [], ◌∷◌, ◌++◌, reverse, refl, sym, ap, ap₂, subst}
 use Rattle.std.proofs.lemmas.List.{reverse-reverse}
+use Rattle.orb_layout.specs.declared.status.StatusKind.TheVariants as kinds
 use Rattle.rbc_disk.specs.Disk.{Disk}
-use Rattle.sbp_journal.specs.Run.{Entry, Moment, Run, asked, events_in, history}
+use Rattle.sbp_journal.specs.Run.{Entry, Moment, Run, asked, said, events_in, history}
 use Rattle.sbp_journal.specs.declared.event.Event.{Event}
+use Rattle.sbp_journal.specs.declared.note.Note.TheVariants as notes
 use Rattle.sbp_laws.specs.ActionLaw.{Brings, BringsEach, Ordered}
 use Rattle.sbp_laws.specs.CarriedLaw.{CarriedAt, EndsAsRead, RunsWhereDue}
 use Rattle.sbp_laws.specs.CauseLaw.{HasCauses}
@@ -98,6 +100,14 @@ module _ (wild : ℕ → Bool) (telling : Telling) (disks : List Disk) where
           told : reverse entry.notes ≡ reverse other.notes
           told = same_line wild telling disks (history before) entry.line entry.event (reverse entry.notes) (reverse other.notes) parts.brings.0 brings (stands_in entry before parts) there
 
+-- ---- the carried law of fewer initiators
+fewer : (disks : List Disk) (others wild : ℕ → Bool) → ((i : ℕ) → wild i ≡ false → others i ≡ false) → (moment : Moment) (past : List Moment) → CarriedAt others disks moment past → CarriedAt wild disks moment past
+fewer disks others wild within (said (notes.Ran i (Some n) (Some k) unit cdb bytes check)) past carried = λ own. carried (within i own)
+fewer disks others wild within (said (notes.Ended i (Some n) (Some k) kinds.Failed)) past carried = tt
+fewer disks others wild within (said (notes.Ended i (Some n) (Some k) status)) past carried = λ own. carried (within i own)
+fewer disks others wild within (said (notes.Taken i n k kinds.Good answer)) past carried = λ own. carried (within i own)
+fewer disks others wild within moment past carried = carried
+
 -- ---- the laws as one
 abbrev Two : (Turn → Type 0) → (Turn → Type 0) → Turn → Type 0
 Two A B t = A t × B t
@@ -159,8 +169,9 @@ module _ (wild : ℕ → Bool) (telling : Telling) (run : Run) (law : IsLawfulAs
 
   moments : EachMoment (HoldsAt wild telling run.start) past
   moments =
-      with_moments (Pair FormAt (CarriedAt wild run.start)) (TakenAsTold wild telling) (HoldsAt wild telling run.start) (λ moment before x y. record { form = x.0; carried = x.1; told = y }) past
-      (with_moments FormAt (CarriedAt wild run.start) (Pair FormAt (CarriedAt wild run.start)) (λ moment before x y. (x, y)) past law.lawful.moments.form law.lawful.moments.carried.carried) law.told.taken
+      with_moments (Pair FormAt (CarriedAt law.others run.start)) (TakenAsTold wild telling) (HoldsAt wild telling run.start)
+      (λ moment before x y. record { form = x.0; carried = fewer run.start law.others wild law.within moment before x.1; told = y }) past
+      (with_moments FormAt (CarriedAt law.others run.start) (Pair FormAt (CarriedAt law.others run.start)) (λ moment before x y. (x, y)) past law.lawful.moments.form law.lawful.moments.carried.carried) law.told.taken
 
   parts : Parts wild telling run.start run.entries
   parts = record { turns = holds; moments = moments; brings = law.lawful.action.brings }

@@ -143,17 +143,20 @@ module _ (wild : ℕ → Bool) (telling : Telling) (disks : List Disk) where
           (before_last past most told settles.before settles.last settles.is settles.ends stands) (before_last past most other also.before also.last also.is also.ends standing)
 
   -- ---- an action
+  abbrev StandsOn : List Moment → (line i : ℕ) → Action → List Note → Type 0
+  StandsOn past line i action told = Stands wild telling disks (asked line (events.Act i action) ∷ past) told
+
   acts_whole : (past : List Moment) (i : ℕ) (action : Action) (told : List Note) → Acts past i action told → front told ≡ told
   acts_whole past i action told acts =
       subst IsWhole (sym (acts.first ∙ ap (λ l. l ++ sends_of told) acts.effects)) (whole_action action past i (sends_of told) (whole_sends told))
 
-  acts_hold : (past : List Moment) (line i : ℕ) (action : Action) (told : List Note) → Acts past i action told → Stands wild telling disks (asked line (events.Act i action) ∷ past) told
+  acts_hold : (past : List Moment) (line i : ℕ) (action : Action) (told : List Note) → Acts past i action told → StandsOn past line i action told
       → Law (turn past (asked line (events.Act i action)) told)
   acts_hold past line i action told acts stands =
       subst (λ l. Law (turn past (asked line (events.Act i action)) l)) (acts_whole past i action told acts) (turns_before Law told (asked line (events.Act i action) ∷ past) stands.0).0
 
   same_acts : (past : List Moment) (line i : ℕ) (action : Action) (told other : List Note) → Acts past i action told → Acts past i action other
-      → Stands wild telling disks (asked line (events.Act i action) ∷ past) told → Stands wild telling disks (asked line (events.Act i action) ∷ past) other → told ≡ other
+      → StandsOn past line i action told → StandsOn past line i action other → told ≡ other
   same_acts past line i action told other acts also stands standing =
       acts.first
       ∙ ap₂ (λ x y. x ++ y) effects
@@ -164,7 +167,7 @@ module _ (wild : ℕ → Bool) (telling : Telling) (disks : List Disk) where
       effects = acts.effects ∙ sym also.effects
 
   same_action : (past : List Moment) (line i : ℕ) (action : Action) (told other : List Note) (refusal : Option ℕ) → ActsOr refusal past line i action told → ActsOr refusal past line i action other
-      → Stands wild telling disks (asked line (events.Act i action) ∷ past) told → Stands wild telling disks (asked line (events.Act i action) ∷ past) other → told ≡ other
+      → StandsOn past line i action told → StandsOn past line i action other → told ≡ other
   same_action past line i action told other (Some number) acts also stands standing = acts ∙ sym also
   same_action past line i action told other None acts also stands standing = same_acts past line i action told other acts also stands standing
 

@@ -42,11 +42,11 @@ module _ (telling : Telling) where
   body_told true body wire = told_body (telling.chunks (wire.count + 1)) body
   body_told false body wire = body
 
-  one_packet : (is_untold : Bool) (body : Body) (wire : Terms) (node : ℕ) (want : Request) (serial generation from to : ℕ) (bytes : List ℕ)
-      → IsAsked is_untold body wire node want serial generation from to bytes → IsAsTold is_untold body telling wire node want serial generation from to bytes
-      → notes.Sent serial generation from to bytes ≡ packet_of wire node want.to (body_told is_untold body wire)
-  one_packet true body wire node want serial generation from to bytes asked told = is_packet wire node want (body_told true body wire) serial generation from to bytes told
-  one_packet false body wire node want serial generation from to bytes asked told = is_packet wire node want body serial generation from to bytes asked
+  module _ (wire : Terms) (node : ℕ) (want : Request) (serial generation from to : ℕ) (bytes : List ℕ) where
+    one_packet : (is_untold : Bool) (body : Body) → IsAsked is_untold body wire node want serial generation from to bytes → IsAsTold is_untold body telling wire node want serial generation from to bytes
+        → notes.Sent serial generation from to bytes ≡ packet_of wire node want.to (body_told is_untold body wire)
+    one_packet true body asked told = is_packet wire node want (body_told true body wire) serial generation from to bytes told
+    one_packet false body asked told = is_packet wire node want body serial generation from to bytes asked
 
   abbrev pub packets_of : List Moment → (node : ℕ) → List Request → List Note
   packets_of past node [] = []
@@ -60,7 +60,7 @@ module _ (telling : Telling) where
   packets_are past node (notes.Sent serial generation from to bytes ∷ rest) (want ∷ requests) are told =
       ap (λ l. notes.Sent serial generation from to bytes ∷ l) (packets_are (said (notes.Sent serial generation from to bytes) ∷ past) node rest requests are.1 told.1)
       ∙ ap (λ note. note ∷ packets_of (said note ∷ past) node requests)
-      (one_packet want.is_untold want.body (terms past) node want serial generation from to bytes are.0 told.0)
+      (one_packet (terms past) node want serial generation from to bytes want.is_untold want.body are.0 told.0)
   packets_are past node [] (want ∷ requests) are told = elim are [ ]
   packets_are past node (notes.Sent serial generation from to bytes ∷ rest) [] are told = elim are [ ]
   packets_are past node (note ∷ rest) [] are told = elim are [ ]

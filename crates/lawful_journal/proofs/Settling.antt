@@ -1,5 +1,5 @@
 -- Deliveries one after the other are determined: each by the lowest packet in flight, and how many there are.
-use Rattle.std.proofs.Common.{◌≡◌, ◌∙◌, ℕ, suc, ◌+◌, ◌≤◌, ◌⊎◌, Bool, true, false, List, [], ◌∷◌, Some, None, unwrap_or, true≢false, refl, sym, ap, subst, inl, inr, arith}
+use Rattle.std.proofs.Common.{◌≡◌, ◌∙◌, ℕ, suc, ◌+◌, ◌≤◌, ◌⊎◌, Bool, List, [], ◌∷◌, Some, None, unwrap_or, true≢false, refl, sym, ap, subst, inl, inr, arith}
 use Rattle.rbc_disk.specs.Disk.{Disk}
 use Rattle.sbp_journal.specs.Run.{Moment, said}
 use Rattle.sbp_journal.specs.Wire.{terms}
@@ -38,11 +38,12 @@ module _ (wild : ℕ → Bool) (telling : Telling) (disks : List Disk) where
   Stands past told = EachTurn (Holds telling disks) (put past told) × EachMoment (HoldsAt wild telling disks) (put past told)
 
   -- the same rest of a turn
-  pub same_front : (past : List Moment) (first : Note) (rest other : List Note) → Begins telling disks past first → Stands (said first ∷ past) rest → Stands (said first ∷ past) other → front rest ≡ front other
+  pub same_front : (past : List Moment) (first : Note) (rest other : List Note)
+      → Begins telling disks past first → Stands (said first ∷ past) rest → Stands (said first ∷ past) other → front rest ≡ front other
   same_front past first rest other begins stands also =
       same_rest wild telling disks past first (front rest) (front other)
-      (begins (front rest) (turns_before (Holds telling disks) rest (said first ∷ past) stands.0)) (begins (front other) (turns_before (Holds telling disks) other (said first ∷ past) also.0))
-      (moments_front (HoldsAt wild telling disks) rest (said first ∷ past) stands.1) (moments_front (HoldsAt wild telling disks) other (said first ∷ past) also.1)
+      (begins (front rest) (turns_before (Holds telling disks) rest (said first ∷ past) stands.0), moments_front (HoldsAt wild telling disks) rest (said first ∷ past) stands.1)
+      (begins (front other) (turns_before (Holds telling disks) other (said first ∷ past) also.0), moments_front (HoldsAt wild telling disks) other (said first ∷ past) also.1)
 
   -- a delivery of the lowest packet, with what follows
   record Next (past : List Moment) (told : List Note) : Type 0 where
@@ -123,25 +124,33 @@ module _ (wild : ℕ → Bool) (telling : Telling) (disks : List Disk) where
         by_end (inl all) = inl (omega (arith, all, counts))
         by_end (inr none) = inr (subst (λ l. NoneFlies (put past l)) is none)
 
-    -- both go on with the same delivery
-    step : (before : ℕ) (past : List Moment) (first : Note) (rest told : List Note) (serial : ℕ) → delivered_by first ≡ Some serial → lowest_in_flight (terms past) ≡ Some serial → Begins telling disks past first
-        → Stands (said first ∷ past) rest → suc (deliveries rest) + before ≤ most → front told ≡ [] → Stands past told → Goes most before past told
-        → ((other : List Note) → front rest ≡ front other → Stands (said first ∷ past) other → Goes most (suc before) (said first ∷ past) other → rest ≡ other)
-        → first ∷ rest ≡ told
-    step before past first rest told serial by flies begins stands few e also goes go = by_next (next_of past told e goes.lowest also)
+    -- a delivery, and what follows from the same one
+    record Delivers (before : ℕ) (past : List Moment) (first : Note) (rest : List Note) (serial : ℕ) : Type 0 where
+      by : delivered_by first ≡ Some serial
+      flies : lowest_in_flight (terms past) ≡ Some serial
+      begins : Begins telling disks past first
+      stands : Stands (said first ∷ past) rest
+      few : suc (deliveries rest) + before ≤ most
+
+    abbrev GoOn : ℕ → List Moment → Note → List Note → Type 0
+    GoOn before past first rest = (other : List Note) → front rest ≡ front other → Stands (said first ∷ past) other → Goes most (suc before) (said first ∷ past) other → rest ≡ other
+
+    step : (before : ℕ) (past : List Moment) (first : Note) (rest told : List Note) (serial : ℕ) → Delivers before past first rest serial → GoOn before past first rest
+        → front told ≡ [] → Stands past told → Goes most before past told → first ∷ rest ≡ told
+    step before past first rest told serial here go e also goes = by_next (next_of past told e goes.lowest also)
       where
         by_next : (told ≡ []) ⊎ Next past told → first ∷ rest ≡ told
-        by_next (inl none) = absurd (not_over most before past told serial (deliveries rest) none goes flies few)
+        by_next (inl none) = absurd (not_over most before past told serial (deliveries rest) none goes here.flies here.few)
         by_next (inr next) =
-            ap (λ l. first ∷ l) (go next.rest (same_front past first rest next.rest begins stands there) there going)
+            ap (λ l. first ∷ l) (go next.rest (same_front past first rest next.rest here.begins here.stands there) there going)
             ∙ ap (λ n. n ∷ next.rest) same ∙ sym next.is
           where
             serials : next.serial ≡ serial
-            serials = number_is next.serial serial (sym next.flies ∙ flies)
+            serials = number_is next.serial serial (sym next.flies ∙ here.flies)
 
             same : first ≡ next.first
             same =
-                is_first telling disks past first (front rest) serial by (begins (front rest) (turns_before (Holds telling disks) rest (said first ∷ past) stands.0))
+                is_first telling disks past first (front rest) serial here.by (here.begins (front rest) (turns_before (Holds telling disks) rest (said first ∷ past) here.stands.0))
                 ∙ sym (is_first telling disks past next.first (front next.rest) serial (next.by ∙ ap Some serials) (next.begins (front next.rest) (turns_before (Holds telling disks) next.rest (said next.first ∷ past) next.stands.0)))
 
             there : Stands (said first ∷ past) next.rest
@@ -157,11 +166,15 @@ module _ (wild : ℕ → Bool) (telling : Telling) (disks : List Disk) where
         by_next (inl none) = sym none
         by_next (inr next) = absurd (not_over most before past [] next.serial (deliveries next.rest) refl goes next.flies (let few = going.few in let counts = next.counts in omega (arith, few, counts)))
     same_deliveries (notes.Got serial ∷ rest) other before past e stands also goes going =
-        step before past (notes.Got serial) rest other serial refl goes.lowest.0 (λ l each. each.0) stands goes.few (sym e) also going
-        (λ more same there on. same_deliveries rest more (suc before) (said (notes.Got serial) ∷ past) same stands there (goes_on before past (notes.Got serial) (notes.Got serial ∷ rest) rest refl refl goes.lowest.1 goes) on)
+        step before past (notes.Got serial) rest other serial (record { by = refl; flies = goes.lowest.0; begins = λ l each. each.0; stands = stands; few = goes.few })
+        (λ more same there on. same_deliveries rest more (suc before) (said (notes.Got serial) ∷ past) same stands there
+        (goes_on before past (notes.Got serial) (notes.Got serial ∷ rest) rest refl refl goes.lowest.1 goes) on)
+        (sym e) also going
     same_deliveries (notes.Ignored serial cause ∷ rest) other before past e stands also goes going =
-        step before past (notes.Ignored serial cause) rest other serial refl goes.lowest.0 (λ l each. each.0) stands goes.few (sym e) also going
-        (λ more same there on. same_deliveries rest more (suc before) (said (notes.Ignored serial cause) ∷ past) same stands there (goes_on before past (notes.Ignored serial cause) (notes.Ignored serial cause ∷ rest) rest refl refl goes.lowest.1 goes) on)
+        step before past (notes.Ignored serial cause) rest other serial (record { by = refl; flies = goes.lowest.0; begins = λ l each. each.0; stands = stands; few = goes.few })
+        (λ more same there on. same_deliveries rest more (suc before) (said (notes.Ignored serial cause) ∷ past) same stands there
+        (goes_on before past (notes.Ignored serial cause) (notes.Ignored serial cause ∷ rest) rest refl refl goes.lowest.1 goes) on)
+        (sym e) also going
     same_deliveries (notes.TimedOut serial ∷ rest) other before past e stands also goes going = absurd (true≢false (sym goes.lowest.0))
     same_deliveries (notes.Seen node generation ∷ rest) other before past e stands also goes going = absurd (true≢false (sym goes.lowest.0))
     same_deliveries (notes.Tick ∷ rest) other before past e stands also goes going = absurd (true≢false (sym goes.lowest.0))

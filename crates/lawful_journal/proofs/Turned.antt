@@ -168,10 +168,16 @@ module _ (wild : ℕ → Bool) (telling : Telling) (disks : List Disk) (past : L
       told_effects : effects_of rest ≡ effects_of other
       told_effects = effects_ordered (turn past start rest) ordered ∙ effects ∙ sym (effects_ordered (turn past start other) also)
 
+-- what the laws say of a turn that a note begins, and of the moments in it
+abbrev pub IsTurn : (ℕ → Bool) → Telling → List Disk → List Moment → Note → List Note → Type 0
+IsTurn wild telling disks past note rest = Holds telling disks (turn past (said note) rest) × EachMoment (HoldsAt wild telling disks) (put (said note ∷ past) rest)
+
 -- The rest of a turn that a note begins.
 pub same_rest : (wild : ℕ → Bool) (telling : Telling) (disks : List Disk) (past : List Moment) (note : Note) (rest other : List Note)
-    → Holds telling disks (turn past (said note) rest) → Holds telling disks (turn past (said note) other)
-    → EachMoment (HoldsAt wild telling disks) (put (said note ∷ past) rest) → EachMoment (HoldsAt wild telling disks) (put (said note ∷ past) other) → rest ≡ other
-same_rest wild telling disks past (notes.Ignored serial cause) rest other h k each more =
-    h.judges.1 ∙ ap (λ v. ignored_rest (terms past) ((terms past).sent serial) v.rcode) (same_verdict disks past (said (notes.Ignored serial cause)) (said (notes.Ignored serial cause)) rest other serial) ∙ sym k.judges.1
-same_rest wild telling disks past note rest other h k each more = same_ordered wild telling disks past (said note) rest other h k refl h.ordered k.ordered each more
+    → IsTurn wild telling disks past note rest → IsTurn wild telling disks past note other → rest ≡ other
+same_rest wild telling disks past (notes.Ignored serial cause) rest other h k =
+    h.0.judges.1
+    ∙ ap (λ v. ignored_rest (terms past) ((terms past).sent serial) v.rcode)
+    (same_verdict disks past (said (notes.Ignored serial cause)) (said (notes.Ignored serial cause)) rest other serial)
+    ∙ sym k.0.judges.1
+same_rest wild telling disks past note rest other h k = same_ordered wild telling disks past (said note) rest other h.0 k.0 refl h.0.ordered k.0.ordered h.1 k.1

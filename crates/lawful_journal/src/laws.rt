@@ -3,7 +3,6 @@ ghost use Rattle.lawful_journal.specs.Determined.{RunsAreDetermined};
 
 /// Two runs with the same media at the start, the same numbered events and the same telling, both lawful,
 /// have the same entries, note by note.
-#[tactic(auto, using(crate::proofs::Journal::runs_are_determined))]
 pub fn lawful_determines_the_journal()
     ensures { RunsAreDetermined }
 {}
