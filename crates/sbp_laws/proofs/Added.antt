@@ -11,7 +11,7 @@ use Rattle.sbp_laws.specs.OrderLaw.{OrderAt}
 use Rattle.sbp_laws.specs.ExecutionLaw.{ExecutionAt}
 use Rattle.sbp_laws.specs.StatusLaw.{TakenAt, TakesEach}
 use Rattle.sbp_laws.specs.AnswerLaw.{AnswerAt}
-use Rattle.sbp_laws.specs.CarriedLaw.{CarriedAt, RunsWhereDue}
+use Rattle.sbp_laws.specs.CarriedLaw.{CarriedAt, EndsAsRead, RunsWhereDue}
 use Rattle.sbp_laws.specs.CauseLaw.{HasCauses, AbortedAt}
 use Rattle.sbp_laws.specs.JudgementLaw.{Judges}
 use Rattle.sbp_laws.specs.LoginLaw.{HasLogins}
@@ -21,7 +21,7 @@ use Rattle.sbp_laws.specs.SentRequests.{RequestsLaw}
 use Rattle.sbp_laws.specs.SentLaw.{AfterTurn}
 use Rattle.sbp_laws.specs.MediaLaw.{HasPushes}
 use Rattle.sbp_laws.specs.ActionLaw.{Ordered}
-use Rattle.sbp_laws.specs.Lawful.{LawfulBut, FormAt}
+use Rattle.sbp_laws.specs.Lawful.{LawfulBut, FormAt, nobody}
 
 -- ---- conditions on moments
 module _ (At : Moment → List Moment → Type 0) (past : List Moment) (line : ℕ) (event : Event) where
@@ -69,11 +69,14 @@ module _ (wild : ℕ → Bool) (run : Run) (line : ℕ) (event : Event) (told : 
       status = record { taken = (split (TakenAt wild) (history run.entries) line event told law.moments.status.taken).1; each = (split_turns (TakesEach wild) (history run.entries) line event told [] law.moments.status.each).1 };
       answer = (split (AnswerAt wild run.start) (history run.entries) line event told law.moments.answer).1;
       carried = record { carried = (split (CarriedAt wild run.start) (history run.entries) line event told law.moments.carried.carried).1; due = (split_turns (RunsWhereDue wild run.start) (history run.entries) line event told [] law.moments.carried.due).1 };
-      cause = record { causes = (split_turns (HasCauses wild run.start) (history run.entries) line event told [] law.moments.cause.causes).1; aborted = (split (AbortedAt wild run.start) (history run.entries) line event told law.moments.cause.aborted).1 };
+      runs = (split_turns (RunsWhereDue nobody run.start) (history run.entries) line event told [] law.moments.runs).1;
+      runs_end = (split_turns (EndsAsRead run.start) (history run.entries) line event told [] law.moments.runs_end).1;
+      takes = (split_turns (TakesEach nobody) (history run.entries) line event told [] law.moments.takes).1;
+      cause = record { causes = (split_turns (HasCauses run.start) (history run.entries) line event told [] law.moments.cause.causes).1; aborted = (split (AbortedAt run.start) (history run.entries) line event told law.moments.cause.aborted).1 };
       judgement = (split_turns (Judges run.start) (history run.entries) line event told [] law.moments.judgement).1;
       login = (split_turns (HasLogins run.start) (history run.entries) line event told [] law.moments.login).1;
-      sent = record { packets = (split (SentAt wild) (history run.entries) line event told law.moments.sent.packets).1; answers = (split_turns (AnswersLaw wild run.start) (history run.entries) line event told [] law.moments.sent.answers).1; requests = (split_turns (RequestsLaw wild run.start) (history run.entries) line event told [] law.moments.sent.requests).1; after = (split_turns (AfterTurn wild run.start) (history run.entries) line event told [] law.moments.sent.after).1 };
-      media = (split_turns (HasPushes wild run.start) (history run.entries) line event told [] law.moments.media).1;
+      sent = record { packets = (split SentAt (history run.entries) line event told law.moments.sent.packets).1; answers = (split_turns (AnswersLaw run.start) (history run.entries) line event told [] law.moments.sent.answers).1; requests = (split_turns (RequestsLaw run.start) (history run.entries) line event told [] law.moments.sent.requests).1; after = (split_turns (AfterTurn run.start) (history run.entries) line event told [] law.moments.sent.after).1 };
+      media = (split_turns (HasPushes run.start) (history run.entries) line event told [] law.moments.media).1;
     };
     action = record { brings = law.action.brings.1; ordered = (split_turns Ordered (history run.entries) line event told [] law.action.ordered).1 };
   }
@@ -89,15 +92,18 @@ module _ (wild : ℕ → Bool) (run : Run) (line : ℕ) (event : Event) (told : 
     answer = (split (AnswerAt wild run.start) (history run.entries) line event told law.moments.answer).0;
     carried = (split (CarriedAt wild run.start) (history run.entries) line event told law.moments.carried.carried).0;
     run_where_due = (split_turns (RunsWhereDue wild run.start) (history run.entries) line event told [] law.moments.carried.due).0;
-    causes = (split_turns (HasCauses wild run.start) (history run.entries) line event told [] law.moments.cause.causes).0;
-    aborted = (split (AbortedAt wild run.start) (history run.entries) line event told law.moments.cause.aborted).0;
+    runs = (split_turns (RunsWhereDue nobody run.start) (history run.entries) line event told [] law.moments.runs).0;
+    runs_end = (split_turns (EndsAsRead run.start) (history run.entries) line event told [] law.moments.runs_end).0;
+    takes = (split_turns (TakesEach nobody) (history run.entries) line event told [] law.moments.takes).0;
+    causes = (split_turns (HasCauses run.start) (history run.entries) line event told [] law.moments.cause.causes).0;
+    aborted = (split (AbortedAt run.start) (history run.entries) line event told law.moments.cause.aborted).0;
     judged = (split_turns (Judges run.start) (history run.entries) line event told [] law.moments.judgement).0;
     logins = (split_turns (HasLogins run.start) (history run.entries) line event told [] law.moments.login).0;
-    packets = (split (SentAt wild) (history run.entries) line event told law.moments.sent.packets).0;
-    answers = (split_turns (AnswersLaw wild run.start) (history run.entries) line event told [] law.moments.sent.answers).0;
-    requests = (split_turns (RequestsLaw wild run.start) (history run.entries) line event told [] law.moments.sent.requests).0;
-    after = (split_turns (AfterTurn wild run.start) (history run.entries) line event told [] law.moments.sent.after).0;
-    media = (split_turns (HasPushes wild run.start) (history run.entries) line event told [] law.moments.media).0;
+    packets = (split SentAt (history run.entries) line event told law.moments.sent.packets).0;
+    answers = (split_turns (AnswersLaw run.start) (history run.entries) line event told [] law.moments.sent.answers).0;
+    requests = (split_turns (RequestsLaw run.start) (history run.entries) line event told [] law.moments.sent.requests).0;
+    after = (split_turns (AfterTurn run.start) (history run.entries) line event told [] law.moments.sent.after).0;
+    media = (split_turns (HasPushes run.start) (history run.entries) line event told [] law.moments.media).0;
     brings = law.action.brings.0;
     ordered = (split_turns Ordered (history run.entries) line event told [] law.action.ordered).0;
   }
@@ -112,11 +118,14 @@ module _ (wild : ℕ → Bool) (run : Run) (line : ℕ) (event : Event) (told : 
       status = record { taken = join (TakenAt wild) (history run.entries) line event told new.taken before.moments.status.taken; each = join_turns (TakesEach wild) (history run.entries) line event told [] new.taken_each before.moments.status.each };
       answer = join (AnswerAt wild run.start) (history run.entries) line event told new.answer before.moments.answer;
       carried = record { carried = join (CarriedAt wild run.start) (history run.entries) line event told new.carried before.moments.carried.carried; due = join_turns (RunsWhereDue wild run.start) (history run.entries) line event told [] new.run_where_due before.moments.carried.due };
-      cause = record { causes = join_turns (HasCauses wild run.start) (history run.entries) line event told [] new.causes before.moments.cause.causes; aborted = join (AbortedAt wild run.start) (history run.entries) line event told new.aborted before.moments.cause.aborted };
+      runs = join_turns (RunsWhereDue nobody run.start) (history run.entries) line event told [] new.runs before.moments.runs;
+      runs_end = join_turns (EndsAsRead run.start) (history run.entries) line event told [] new.runs_end before.moments.runs_end;
+      takes = join_turns (TakesEach nobody) (history run.entries) line event told [] new.takes before.moments.takes;
+      cause = record { causes = join_turns (HasCauses run.start) (history run.entries) line event told [] new.causes before.moments.cause.causes; aborted = join (AbortedAt run.start) (history run.entries) line event told new.aborted before.moments.cause.aborted };
       judgement = join_turns (Judges run.start) (history run.entries) line event told [] new.judged before.moments.judgement;
       login = join_turns (HasLogins run.start) (history run.entries) line event told [] new.logins before.moments.login;
-      sent = record { packets = join (SentAt wild) (history run.entries) line event told new.packets before.moments.sent.packets; answers = join_turns (AnswersLaw wild run.start) (history run.entries) line event told [] new.answers before.moments.sent.answers; requests = join_turns (RequestsLaw wild run.start) (history run.entries) line event told [] new.requests before.moments.sent.requests; after = join_turns (AfterTurn wild run.start) (history run.entries) line event told [] new.after before.moments.sent.after };
-      media = join_turns (HasPushes wild run.start) (history run.entries) line event told [] new.media before.moments.media;
+      sent = record { packets = join SentAt (history run.entries) line event told new.packets before.moments.sent.packets; answers = join_turns (AnswersLaw run.start) (history run.entries) line event told [] new.answers before.moments.sent.answers; requests = join_turns (RequestsLaw run.start) (history run.entries) line event told [] new.requests before.moments.sent.requests; after = join_turns (AfterTurn run.start) (history run.entries) line event told [] new.after before.moments.sent.after };
+      media = join_turns (HasPushes run.start) (history run.entries) line event told [] new.media before.moments.media;
     };
     action = record { brings = (new.brings, before.action.brings); ordered = join_turns Ordered (history run.entries) line event told [] new.ordered before.action.ordered };
   }

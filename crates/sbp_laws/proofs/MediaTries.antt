@@ -2,7 +2,6 @@
 use Rattle.std.proofs.Common.{[], ◌∷◌, refl, ap, arith, ◌++◌, ◌≡◌}
 use Rattle.sbp_journal.specs.Run.{said}
 use Rattle.sbp_journal.specs.declared.note.Note.TheVariants as notes
-use Rattle.sbp_laws.specs.Lawful.{nobody}
 use Rattle.sbp_laws.specs.Journals as journals
 use Rattle.sbp_laws.specs.Tried.{MediaTried}
 use Rattle.sbp_laws.specs.MediaLaw.{MediaLaw}
@@ -33,19 +32,19 @@ use Rattle.sbp_laws.specs.RareRuns as rare
 use Rattle.std.specs.Prelude.{List, ℕ}
 use Rattle.sbp_journal.specs.declared.note.Note.{Note}
 
-unsolicited : MediaLaw nobody journals.empty_bay (journals.loads_enabled (notes.Unsolicited 1))
+unsolicited : MediaLaw journals.empty_bay (journals.loads_enabled (notes.Unsolicited 1))
 unfolding reading fault_of tcode_of header_of offset_of rcode_of value_of length_of extended_of three four part_of is_to is_same asked_by begun_by belongs start_at lowest_from label_for free_from count_flying lowest_flying label_of with_label is_write kind_of slot_of window_at is_fifo point_step doorbell_step reset_step abort_step reply_step lost_step refusal verdict request_of check_of blank_bytes command_kind elements_from made block_head decide reads_eui live_login response_bytes start_step reply_step_of_manager decide_step fresh_id left_for enter_step back_step leave_step
 unsolicited = (record { pushes = refl; told = refl }, (record { pushes = refl; told = refl }, (record { pushes = refl; told = refl }, (record { pushes = refl; told = refl }, (record { pushes = refl; told = refl }, tt)))))
 
-none_enabled : MediaLaw nobody journals.empty_bay (journals.loads_disabled [])
+none_enabled : MediaLaw journals.empty_bay (journals.loads_disabled [])
 unfolding reading fault_of tcode_of header_of offset_of rcode_of value_of length_of extended_of three four part_of is_to is_same asked_by begun_by belongs start_at lowest_from label_for free_from count_flying lowest_flying label_of with_label is_write kind_of slot_of window_at is_fifo point_step doorbell_step reset_step abort_step reply_step lost_step refusal verdict request_of check_of blank_bytes command_kind elements_from made block_head decide reads_eui live_login response_bytes start_step reply_step_of_manager decide_step fresh_id left_for enter_step back_step leave_step
 none_enabled = (record { pushes = refl; told = refl }, (record { pushes = refl; told = refl }, tt))
 
-unsent : MediaLaw nobody journals.empty_bay (journals.loads_enabled (notes.Unsent 1)) → ⊥
+unsent : MediaLaw journals.empty_bay (journals.loads_enabled (notes.Unsent 1)) → ⊥
 unfolding reading fault_of tcode_of header_of offset_of rcode_of value_of length_of extended_of three four part_of is_to is_same asked_by begun_by belongs start_at lowest_from label_for free_from count_flying lowest_flying label_of with_label is_write kind_of slot_of window_at is_fifo point_step doorbell_step reset_step abort_step reply_step lost_step refusal verdict request_of check_of blank_bytes command_kind elements_from made block_head decide reads_eui live_login response_bytes start_step reply_step_of_manager decide_step fresh_id left_for enter_step back_step leave_step
 unsent = λ law. let bad = law.0.pushes in cc bad
 
-unasked : MediaLaw nobody journals.empty_bay (journals.loads_disabled (said (notes.Unsolicited 1) ∷ [])) → ⊥
+unasked : MediaLaw journals.empty_bay (journals.loads_disabled (said (notes.Unsolicited 1) ∷ [])) → ⊥
 unfolding reading fault_of tcode_of header_of offset_of rcode_of value_of length_of extended_of three four part_of is_to is_same asked_by begun_by belongs start_at lowest_from label_for free_from count_flying lowest_flying label_of with_label is_write kind_of slot_of window_at is_fifo point_step doorbell_step reset_step abort_step reply_step lost_step refusal verdict request_of check_of blank_bytes command_kind elements_from made block_head decide reads_eui live_login response_bytes start_step reply_step_of_manager decide_step fresh_id left_for enter_step back_step leave_step
 unasked = λ law. let bad = law.0.pushes in cc bad
 
@@ -54,39 +53,39 @@ abbrev first_told : List Note → ℕ
 first_told (notes.Unsolicited i ∷ rest) = i
 first_told rest = 0
 
-push_left_out : MediaLaw nobody journals.empty_bay (journals.told (journals.two_begin ++ (journals.enables ++ journals.loads))) → ⊥
+push_left_out : MediaLaw journals.empty_bay (journals.told (journals.two_begin ++ (journals.enables ++ journals.loads))) → ⊥
 unfolding reading fault_of tcode_of header_of offset_of rcode_of value_of length_of extended_of three four part_of is_to is_same asked_by begun_by belongs start_at lowest_from label_for free_from count_flying lowest_flying label_of with_label is_write kind_of slot_of window_at is_fifo point_step doorbell_step reset_step abort_step reply_step lost_step refusal verdict request_of check_of blank_bytes command_kind elements_from made block_head decide reads_eui live_login response_bytes start_step reply_step_of_manager decide_step fresh_id left_for enter_step back_step leave_step
 push_left_out = λ law. let bad = law.0.pushes in cc bad
 
-told_once : MediaLaw nobody rare.two_discs (refused.loads_again [])
+told_once : MediaLaw rare.two_discs (refused.loads_again [])
 unfolding reading fault_of tcode_of header_of offset_of rcode_of value_of length_of extended_of three four part_of is_to is_same asked_by begun_by belongs start_at lowest_from label_for free_from count_flying lowest_flying label_of with_label is_write kind_of slot_of window_at is_fifo point_step doorbell_step reset_step abort_step reply_step lost_step refusal verdict request_of check_of blank_bytes command_kind elements_from made block_head decide reads_eui live_login response_bytes start_step reply_step_of_manager decide_step fresh_id left_for enter_step back_step leave_step
 told_once = (record { pushes = refl; told = refl }, (record { pushes = refl; told = refl }, (record { pushes = refl; told = refl }, (record { pushes = refl; told = refl }, (record { pushes = refl; told = refl }, (record { pushes = refl; told = refl }, (record { pushes = refl; told = refl }, tt)))))))
 
-told_once_more : MediaLaw nobody rare.two_discs (refused.loads_again (notes.Unsolicited 1 ∷ [])) → ⊥
+told_once_more : MediaLaw rare.two_discs (refused.loads_again (notes.Unsolicited 1 ∷ [])) → ⊥
 unfolding reading fault_of tcode_of header_of offset_of rcode_of value_of length_of extended_of three four part_of is_to is_same asked_by begun_by belongs start_at lowest_from label_for free_from count_flying lowest_flying label_of with_label is_write kind_of slot_of window_at is_fifo point_step doorbell_step reset_step abort_step reply_step lost_step refusal verdict request_of check_of blank_bytes command_kind elements_from made block_head decide reads_eui live_login response_bytes start_step reply_step_of_manager decide_step fresh_id left_for enter_step back_step leave_step
 told_once_more = λ law. let bad = law.0.pushes in cc bad
 
-one_under_way : MediaLaw nobody rare.two_discs (refused.loads_under_way (notes.Unsent 1 ∷ []))
+one_under_way : MediaLaw rare.two_discs (refused.loads_under_way (notes.Unsent 1 ∷ []))
 unfolding reading fault_of tcode_of header_of offset_of rcode_of value_of length_of extended_of three four part_of is_to is_same asked_by begun_by belongs start_at lowest_from label_for free_from count_flying lowest_flying label_of with_label is_write kind_of slot_of window_at is_fifo point_step doorbell_step reset_step abort_step reply_step lost_step refusal verdict request_of check_of blank_bytes command_kind elements_from made block_head decide reads_eui live_login response_bytes start_step reply_step_of_manager decide_step fresh_id left_for enter_step back_step leave_step
 one_under_way = (record { pushes = refl; told = refl }, (record { pushes = refl; told = refl }, (record { pushes = refl; told = refl }, (record { pushes = refl; told = refl }, (record { pushes = refl; told = refl }, (record { pushes = refl; told = refl }, (record { pushes = refl; told = refl }, (record { pushes = refl; told = refl }, tt))))))))
 
-two_under_way : MediaLaw nobody rare.two_discs (refused.loads_under_way (notes.Unsolicited 1 ∷ [])) → ⊥
+two_under_way : MediaLaw rare.two_discs (refused.loads_under_way (notes.Unsolicited 1 ∷ [])) → ⊥
 unfolding reading fault_of tcode_of header_of offset_of rcode_of value_of length_of extended_of three four part_of is_to is_same asked_by begun_by belongs start_at lowest_from label_for free_from count_flying lowest_flying label_of with_label is_write kind_of slot_of window_at is_fifo point_step doorbell_step reset_step abort_step reply_step lost_step refusal verdict request_of check_of blank_bytes command_kind elements_from made block_head decide reads_eui live_login response_bytes start_step reply_step_of_manager decide_step fresh_id left_for enter_step back_step leave_step
 two_under_way = λ law. let bad = law.0.pushes in cc bad
 
-both_told : MediaLaw nobody journals.empty_bay (refused.tells_both (notes.Unsolicited 1 ∷ notes.Unsolicited 2 ∷ []))
+both_told : MediaLaw journals.empty_bay (refused.tells_both (notes.Unsolicited 1 ∷ notes.Unsolicited 2 ∷ []))
 unfolding reading fault_of tcode_of header_of offset_of rcode_of value_of length_of extended_of three four part_of is_to is_same asked_by begun_by belongs start_at lowest_from label_for free_from count_flying lowest_flying label_of with_label is_write kind_of slot_of window_at is_fifo point_step doorbell_step reset_step abort_step reply_step lost_step refusal verdict request_of check_of blank_bytes command_kind elements_from made block_head decide reads_eui live_login response_bytes start_step reply_step_of_manager decide_step fresh_id left_for enter_step back_step leave_step
 both_told = (record { pushes = refl; told = refl }, (record { pushes = refl; told = refl }, (record { pushes = refl; told = refl }, (record { pushes = refl; told = refl }, tt))))
 
-told_out_of_order : MediaLaw nobody journals.empty_bay (refused.tells_both (notes.Unsolicited 2 ∷ notes.Unsolicited 1 ∷ [])) → ⊥
+told_out_of_order : MediaLaw journals.empty_bay (refused.tells_both (notes.Unsolicited 2 ∷ notes.Unsolicited 1 ∷ [])) → ⊥
 unfolding reading fault_of tcode_of header_of offset_of rcode_of value_of length_of extended_of three four part_of is_to is_same asked_by begun_by belongs start_at lowest_from label_for free_from count_flying lowest_flying label_of with_label is_write kind_of slot_of window_at is_fifo point_step doorbell_step reset_step abort_step reply_step lost_step refusal verdict request_of check_of blank_bytes command_kind elements_from made block_head decide reads_eui live_login response_bytes start_step reply_step_of_manager decide_step fresh_id left_for enter_step back_step leave_step
 told_out_of_order = λ law. let bad : 2 ≡ 1 = ap first_told law.0.pushes in omega (arith, bad)
 
-told_left_out : MediaLaw nobody journals.empty_bay refused.told_left_out → ⊥
+told_left_out : MediaLaw journals.empty_bay refused.told_left_out → ⊥
 unfolding reading fault_of tcode_of header_of offset_of rcode_of value_of length_of extended_of three four part_of is_to is_same asked_by begun_by belongs start_at lowest_from label_for free_from count_flying lowest_flying label_of with_label is_write kind_of slot_of window_at is_fifo point_step doorbell_step reset_step abort_step reply_step lost_step refusal verdict request_of check_of blank_bytes command_kind elements_from made block_head decide reads_eui live_login response_bytes start_step reply_step_of_manager decide_step fresh_id left_for enter_step back_step leave_step
 told_left_out = λ law. let bad = law.0.told in cc bad
 
-told_of_a_status : MediaLaw nobody journals.one_disk (rare.behind journals.till_status (notes.Got 5 ∷ notes.Told 0 ∷ [])) → ⊥
+told_of_a_status : MediaLaw journals.one_disk (rare.behind journals.till_status (notes.Got 5 ∷ notes.Told 0 ∷ [])) → ⊥
 unfolding reading fault_of tcode_of header_of offset_of rcode_of value_of length_of extended_of three four part_of is_to is_same asked_by begun_by belongs start_at lowest_from label_for free_from count_flying lowest_flying label_of with_label is_write kind_of slot_of window_at is_fifo point_step doorbell_step reset_step abort_step reply_step lost_step refusal verdict request_of check_of blank_bytes command_kind elements_from made block_head decide reads_eui live_login response_bytes start_step reply_step_of_manager decide_step fresh_id left_for enter_step back_step leave_step
 told_of_a_status = λ law. let bad = law.0.told in cc bad
 

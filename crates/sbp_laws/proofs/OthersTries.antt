@@ -6,16 +6,16 @@ use Rattle.orb_layout.specs.StatusBlocks.{status_bytes}
 use Rattle.async_packet.specs.Packet.{write_block, write_response, read_block, read_block_response}
 use Rattle.async_packet.specs.Canon.{canon}
 use Rattle.sbp_laws.specs.Turns.{EachMoment, EachTurn}
-use Rattle.sbp_laws.specs.Lawful.{FormAt, Lawful, LawfulForOthers, injectors}
+use Rattle.sbp_laws.specs.Lawful.{FormAt, Lawful, LawfulForOthers, injectors, nobody}
 use Rattle.sbp_laws.specs.Journals as journals
 use Rattle.sbp_laws.specs.RareRuns as rare
 use Rattle.sbp_laws.specs.Tried.{OthersTried}
 use Rattle.sbp_laws.specs.OnceLaw.{OnceLaw}
 use Rattle.sbp_laws.specs.OrderLaw.{OrderLaw}
 use Rattle.sbp_laws.specs.ExecutionLaw.{ExecutionLaw}
-use Rattle.sbp_laws.specs.StatusLaw.{StatusLaw}
+use Rattle.sbp_laws.specs.StatusLaw.{StatusLaw, TakesEach}
 use Rattle.sbp_laws.specs.AnswerLaw.{AnswerLaw}
-use Rattle.sbp_laws.specs.CarriedLaw.{CarriedLaw}
+use Rattle.sbp_laws.specs.CarriedLaw.{CarriedLaw, EndsAsRead, RunsWhereDue}
 use Rattle.sbp_laws.specs.CauseLaw.{CauseLaw}
 use Rattle.sbp_laws.specs.JudgementLaw.{JudgementLaw}
 use Rattle.sbp_laws.specs.LoginLaw.{LoginLaw}
@@ -84,9 +84,9 @@ dies_carried : CarriedLaw (injectors (history (rare.wild_run rare.wild_dies).ent
 unfolding reading fault_of tcode_of header_of offset_of rcode_of value_of length_of extended_of three four part_of is_to is_same asked_by begun_by belongs start_at lowest_from label_for free_from count_flying lowest_flying label_of with_label is_write kind_of slot_of window_at is_fifo point_step doorbell_step reset_step abort_step reply_step lost_step refusal verdict request_of check_of blank_bytes command_kind elements_from made block_head decide reads_eui live_login response_bytes start_step reply_step_of_manager decide_step fresh_id left_for enter_step back_step leave_step
 dies_carried = record { carried = (tt, (tt, (tt, (tt, (tt, (tt, (tt, (tt, (tt, (tt, (tt, (tt, (tt, (tt, (tt, (tt, (tt, (tt, (tt, (tt, tt)))))))))))))))))))); due = (refl, (refl, (refl, (refl, (refl, (refl, (refl, (refl, (refl, (refl, tt)))))))))) }
 
-dies_cause : CauseLaw (injectors (history (rare.wild_run rare.wild_dies).entries)) (rare.wild_run rare.wild_dies).start (history (rare.wild_run rare.wild_dies).entries)
+dies_cause : CauseLaw (rare.wild_run rare.wild_dies).start (history (rare.wild_run rare.wild_dies).entries)
 unfolding reading fault_of tcode_of header_of offset_of rcode_of value_of length_of extended_of three four part_of is_to is_same asked_by begun_by belongs start_at lowest_from label_for free_from count_flying lowest_flying label_of with_label is_write kind_of slot_of window_at is_fifo point_step doorbell_step reset_step abort_step reply_step lost_step refusal verdict request_of check_of blank_bytes command_kind elements_from made block_head decide reads_eui live_login response_bytes start_step reply_step_of_manager decide_step fresh_id left_for enter_step back_step leave_step
-dies_cause = record { causes = (record { cuts = refl; cleared = refl; ends = refl; deaths = tt; faults = tt; failures = refl; operations = refl }, (record { cuts = refl; cleared = refl; ends = refl; deaths = tt; faults = tt; failures = refl; operations = refl }, (record { cuts = refl; cleared = refl; ends = refl; deaths = tt; faults = tt; failures = refl; operations = refl }, (record { cuts = refl; cleared = refl; ends = refl; deaths = (refl, tt); faults = (refl, tt); failures = refl; operations = refl }, (record { cuts = refl; cleared = refl; ends = refl; deaths = tt; faults = tt; failures = refl; operations = refl }, (record { cuts = refl; cleared = refl; ends = refl; deaths = tt; faults = tt; failures = refl; operations = refl }, (record { cuts = refl; cleared = refl; ends = refl; deaths = tt; faults = tt; failures = refl; operations = refl }, (record { cuts = refl; cleared = refl; ends = refl; deaths = tt; faults = tt; failures = refl; operations = refl }, (record { cuts = refl; cleared = refl; ends = refl; deaths = tt; faults = tt; failures = refl; operations = refl }, (record { cuts = refl; cleared = refl; ends = refl; deaths = tt; faults = tt; failures = refl; operations = refl }, tt)))))))))); aborted = (tt, (tt, (tt, (tt, (tt, (tt, (tt, (tt, (tt, (tt, (tt, (tt, (tt, (tt, (tt, (tt, (tt, (tt, (tt, (tt, tt)))))))))))))))))))) }
+dies_cause = record { causes = (record { cuts = refl; cleared = refl; ends = refl; deaths = tt; faults = tt; failures = refl; operations = refl; unserved = tt }, (record { cuts = refl; cleared = refl; ends = refl; deaths = tt; faults = tt; failures = refl; operations = refl; unserved = tt }, (record { cuts = refl; cleared = refl; ends = refl; deaths = tt; faults = tt; failures = refl; operations = refl; unserved = tt }, (record { cuts = refl; cleared = refl; ends = refl; deaths = (refl, tt); faults = (refl, tt); failures = refl; operations = refl; unserved = tt }, (record { cuts = refl; cleared = refl; ends = refl; deaths = tt; faults = tt; failures = refl; operations = refl; unserved = tt }, (record { cuts = refl; cleared = refl; ends = refl; deaths = tt; faults = tt; failures = refl; operations = refl; unserved = tt }, (record { cuts = refl; cleared = refl; ends = refl; deaths = tt; faults = tt; failures = refl; operations = refl; unserved = tt }, (record { cuts = refl; cleared = refl; ends = refl; deaths = tt; faults = tt; failures = refl; operations = refl; unserved = tt }, (record { cuts = refl; cleared = refl; ends = refl; deaths = tt; faults = tt; failures = refl; operations = refl; unserved = tt }, (record { cuts = refl; cleared = refl; ends = refl; deaths = tt; faults = tt; failures = refl; operations = refl; unserved = tt }, tt)))))))))); aborted = (tt, (tt, (tt, (tt, (tt, (tt, (tt, (tt, (tt, (tt, (tt, (tt, (tt, (tt, (tt, (tt, (tt, (tt, (tt, (tt, tt)))))))))))))))))))) }
 
 dies_judged : JudgementLaw (rare.wild_run rare.wild_dies).start (history (rare.wild_run rare.wild_dies).entries)
 unfolding reading fault_of tcode_of header_of offset_of rcode_of value_of length_of extended_of three four part_of is_to is_same asked_by begun_by belongs start_at lowest_from label_for free_from count_flying lowest_flying label_of with_label is_write kind_of slot_of window_at is_fifo point_step doorbell_step reset_step abort_step reply_step lost_step refusal verdict request_of check_of blank_bytes command_kind elements_from made block_head decide reads_eui live_login response_bytes start_step reply_step_of_manager decide_step fresh_id left_for enter_step back_step leave_step
@@ -96,32 +96,56 @@ dies_login : LoginLaw (rare.wild_run rare.wild_dies).start (history (rare.wild_r
 unfolding reading fault_of tcode_of header_of offset_of rcode_of value_of length_of extended_of three four part_of is_to is_same asked_by begun_by belongs start_at lowest_from label_for free_from count_flying lowest_flying label_of with_label is_write kind_of slot_of window_at is_fifo point_step doorbell_step reset_step abort_step reply_step lost_step refusal verdict request_of check_of blank_bytes command_kind elements_from made block_head decide reads_eui live_login response_bytes start_step reply_step_of_manager decide_step fresh_id left_for enter_step back_step leave_step
 dies_login = (record { rows = tt; decisions = refl; logins = refl }, (record { rows = tt; decisions = refl; logins = refl }, (record { rows = tt; decisions = refl; logins = refl }, (record { rows = tt; decisions = refl; logins = refl }, (record { rows = tt; decisions = refl; logins = refl }, (record { rows = tt; decisions = refl; logins = refl }, (record { rows = tt; decisions = refl; logins = refl }, (record { rows = tt; decisions = refl; logins = refl }, (record { rows = tt; decisions = refl; logins = refl }, (record { rows = tt; decisions = refl; logins = refl }, tt))))))))))
 
-dies_media : MediaLaw (injectors (history (rare.wild_run rare.wild_dies).entries)) (rare.wild_run rare.wild_dies).start (history (rare.wild_run rare.wild_dies).entries)
+dies_media : MediaLaw (rare.wild_run rare.wild_dies).start (history (rare.wild_run rare.wild_dies).entries)
 unfolding reading fault_of tcode_of header_of offset_of rcode_of value_of length_of extended_of three four part_of is_to is_same asked_by begun_by belongs start_at lowest_from label_for free_from count_flying lowest_flying label_of with_label is_write kind_of slot_of window_at is_fifo point_step doorbell_step reset_step abort_step reply_step lost_step refusal verdict request_of check_of blank_bytes command_kind elements_from made block_head decide reads_eui live_login response_bytes start_step reply_step_of_manager decide_step fresh_id left_for enter_step back_step leave_step
 dies_media = (record { pushes = refl; told = refl }, (record { pushes = refl; told = refl }, (record { pushes = refl; told = refl }, (record { pushes = refl; told = refl }, (record { pushes = refl; told = refl }, (record { pushes = refl; told = refl }, (record { pushes = refl; told = refl }, (record { pushes = refl; told = refl }, (record { pushes = refl; told = refl }, (record { pushes = refl; told = refl }, tt))))))))))
 
-dies_packets : EachMoment (SentAt (injectors (history (rare.wild_run rare.wild_dies).entries))) (history (rare.wild_run rare.wild_dies).entries)
+dies_packets : EachMoment SentAt (history (rare.wild_run rare.wild_dies).entries)
 unfolding reading fault_of tcode_of header_of offset_of rcode_of value_of length_of extended_of three four part_of is_to is_same asked_by begun_by belongs start_at lowest_from label_for free_from count_flying lowest_flying label_of with_label is_write kind_of slot_of window_at is_fifo point_step doorbell_step reset_step abort_step reply_step lost_step refusal verdict request_of check_of blank_bytes command_kind elements_from made block_head decide reads_eui live_login response_bytes start_step reply_step_of_manager decide_step fresh_id left_for enter_step back_step leave_step
-dies_packets = (tt, (tt, ((refl, λ e. absurd (cc e)), (tt, ((refl, λ e. record { in_generation = refl; spelled = record { packet = write_block (journals.to_first 0) 0x13000000 (status_bytes (record { src = 1; kind = kinds.Failed; orb = 0x00001000 })); canonical = refl; retry = refl; priority = refl; source = refl; destination = refl }; label = refl }), (tt, (tt, (tt, ((refl, λ e. absurd (cc e)), (tt, (tt, ((refl, λ e. record { in_generation = refl; spelled = record { packet = read_block (journals.to_first 0) 0x00001000 32; canonical = refl; retry = refl; priority = refl; source = refl; destination = refl }; label = refl }), ((refl, λ e. record { in_generation = refl; spelled = record { packet = write_response (journals.to_first 0) 0; canonical = refl; retry = refl; priority = refl; source = refl; destination = refl }; label = tt }), (tt, (tt, ((refl, λ e. absurd (cc e)), (tt, (tt, (tt, (tt, tt))))))))))))))))))))
+dies_packets = (tt, (tt, ((refl, λ e. record { in_generation = refl; spelled = record { packet = write_response (journals.to_target 0) 0; canonical = refl; retry = refl; priority = refl; source = refl; destination = refl }; label = tt }), (tt, ((refl, λ e. record { in_generation = refl; spelled = record { packet = write_block (journals.to_first 0) 0x13000000 (status_bytes (record { src = 1; kind = kinds.Failed; orb = 0x00001000 })); canonical = refl; retry = refl; priority = refl; source = refl; destination = refl }; label = refl }), (tt, (tt, (tt, ((refl, λ e. record { in_generation = refl; spelled = record { packet = read_block_response (journals.to_target 0) 7 []; canonical = refl; retry = refl; priority = refl; source = refl; destination = refl }; label = tt }), (tt, (tt, ((refl, λ e. record { in_generation = refl; spelled = record { packet = read_block (journals.to_first 0) 0x00001000 32; canonical = refl; retry = refl; priority = refl; source = refl; destination = refl }; label = refl }), ((refl, λ e. record { in_generation = refl; spelled = record { packet = write_response (journals.to_first 0) 0; canonical = refl; retry = refl; priority = refl; source = refl; destination = refl }; label = tt }), (tt, (tt, ((refl, λ e. absurd (cc e)), (tt, (tt, (tt, (tt, tt))))))))))))))))))))
 
-dies_answers : EachTurn (AnswersLaw (injectors (history (rare.wild_run rare.wild_dies).entries)) (rare.wild_run rare.wild_dies).start) (history (rare.wild_run rare.wild_dies).entries)
+dies_answers : EachTurn (AnswersLaw (rare.wild_run rare.wild_dies).start) (history (rare.wild_run rare.wild_dies).entries)
 unfolding reading fault_of tcode_of header_of offset_of rcode_of value_of length_of extended_of three four part_of is_to is_same asked_by begun_by belongs start_at lowest_from label_for free_from count_flying lowest_flying label_of with_label is_write kind_of slot_of window_at is_fifo point_step doorbell_step reset_step abort_step reply_step lost_step refusal verdict request_of check_of blank_bytes command_kind elements_from made block_head decide reads_eui live_login response_bytes start_step reply_step_of_manager decide_step fresh_id left_for enter_step back_step leave_step
-dies_answers = (record { begins = λ e. tt }, (record { begins = λ e. tt }, (record { begins = λ e. tt }, (record { begins = λ e. tt }, (record { begins = λ e. (refl, tt) }, (record { begins = λ e. tt }, (record { begins = λ e. (refl, tt) }, (record { begins = λ e. tt }, (record { begins = λ e. tt }, (record { begins = λ e. tt }, tt))))))))))
+dies_answers = (tt, (tt, (tt, (tt, ((refl, tt), (tt, ((refl, tt), (tt, (tt, (tt, tt))))))))))
 
-dies_requests : EachTurn (RequestsLaw (injectors (history (rare.wild_run rare.wild_dies).entries)) (rare.wild_run rare.wild_dies).start) (history (rare.wild_run rare.wild_dies).entries)
+dies_requests : EachTurn (RequestsLaw (rare.wild_run rare.wild_dies).start) (history (rare.wild_run rare.wild_dies).entries)
 unfolding reading fault_of tcode_of header_of offset_of rcode_of value_of length_of extended_of three four part_of is_to is_same asked_by begun_by belongs start_at lowest_from label_for free_from count_flying lowest_flying label_of with_label is_write kind_of slot_of window_at is_fifo point_step doorbell_step reset_step abort_step reply_step lost_step refusal verdict request_of check_of blank_bytes command_kind elements_from made block_head decide reads_eui live_login response_bytes start_step reply_step_of_manager decide_step fresh_id left_for enter_step back_step leave_step
-dies_requests = (λ e. tt, (λ e. tt, (λ e. cc e, (λ e. (record { sender = refl; receiver = refl; spelled = refl }, tt), (λ e. tt, (λ e. tt, (λ e. (record { sender = refl; receiver = refl; spelled = refl }, tt), (λ e. tt, (λ e. cc e, (λ e. tt, tt))))))))))
+dies_requests = (λ e. tt, (λ e. tt, (λ e. cc e, (λ e. (record { number = refl; in_generation = refl; sender = refl; receiver = refl; label = refl; spelled = refl }, tt), (λ e. tt, (λ e. tt, (λ e. (record { number = refl; in_generation = refl; sender = refl; receiver = refl; label = refl; spelled = refl }, tt), (λ e. tt, (λ e. cc e, (λ e. tt, tt))))))))))
 
-dies_after : EachTurn (AfterTurn (injectors (history (rare.wild_run rare.wild_dies).entries)) (rare.wild_run rare.wild_dies).start) (history (rare.wild_run rare.wild_dies).entries)
+dies_after : EachTurn (AfterTurn (rare.wild_run rare.wild_dies).start) (history (rare.wild_run rare.wild_dies).entries)
 unfolding reading fault_of tcode_of header_of offset_of rcode_of value_of length_of extended_of three four part_of is_to is_same asked_by begun_by belongs start_at lowest_from label_for free_from count_flying lowest_flying label_of with_label is_write kind_of slot_of window_at is_fifo point_step doorbell_step reset_step abort_step reply_step lost_step refusal verdict request_of check_of blank_bytes command_kind elements_from made block_head decide reads_eui live_login response_bytes start_step reply_step_of_manager decide_step fresh_id left_for enter_step back_step leave_step
-dies_after = (record { agents = (λ e. tt, (λ e. tt, (λ e. tt, (λ e. tt, (λ e. tt, (λ e. tt, (λ e. tt, (λ e. tt, tt)))))))); management = tt; roms = (λ e. tt, (λ e. tt, tt)) }, (record { agents = (λ e. tt, (λ e. tt, (λ e. tt, (λ e. tt, (λ e. tt, (λ e. tt, (λ e. tt, (λ e. tt, tt)))))))); management = tt; roms = (λ e. tt, (λ e. tt, tt)) }, (record { agents = (λ e. tt, (λ e. tt, (λ e. tt, (λ e. tt, (λ e. tt, (λ e. tt, (λ e. tt, (λ e. tt, tt)))))))); management = tt; roms = (λ e. tt, (λ e. tt, tt)) }, (record { agents = (λ e. tt, (λ e. tt, (λ e. tt, (λ e. tt, (λ e. tt, (λ e. tt, (λ e. tt, (λ e. tt, tt)))))))); management = tt; roms = (λ e. tt, (λ e. tt, tt)) }, (record { agents = (λ e. refl, (λ e. tt, (λ e. tt, (λ e. tt, (λ e. tt, (λ e. tt, (λ e. tt, (λ e. tt, tt)))))))); management = tt; roms = (λ e. tt, (λ e. tt, tt)) }, (record { agents = (λ e. refl, (λ e. tt, (λ e. tt, (λ e. tt, (λ e. tt, (λ e. tt, (λ e. tt, (λ e. tt, tt)))))))); management = tt; roms = (λ e. tt, (λ e. tt, tt)) }, (record { agents = (λ e. refl, (λ e. tt, (λ e. tt, (λ e. tt, (λ e. tt, (λ e. tt, (λ e. tt, (λ e. tt, tt)))))))); management = tt; roms = (λ e. tt, (λ e. tt, tt)) }, (record { agents = (λ e. tt, (λ e. tt, (λ e. tt, (λ e. tt, (λ e. tt, (λ e. tt, (λ e. tt, (λ e. tt, tt)))))))); management = tt; roms = (λ e. tt, (λ e. tt, tt)) }, (record { agents = (λ e. tt, (λ e. tt, (λ e. tt, (λ e. tt, (λ e. tt, (λ e. tt, (λ e. tt, (λ e. tt, tt)))))))); management = tt; roms = (λ e. tt, (λ e. tt, tt)) }, (record { agents = (λ e. tt, (λ e. tt, (λ e. tt, (λ e. tt, (λ e. tt, (λ e. tt, (λ e. tt, (λ e. tt, tt)))))))); management = tt; roms = (λ e. tt, (λ e. tt, tt)) }, tt))))))))))
+dies_after = (record { agents = (tt, (tt, (tt, (tt, (tt, (tt, (tt, (tt, tt)))))))); management = tt; roms = (tt, (tt, tt)) }, (record { agents = (tt, (tt, (tt, (tt, (tt, (tt, (tt, (tt, tt)))))))); management = tt; roms = (tt, (tt, tt)) }, (record { agents = (tt, (tt, (tt, (tt, (tt, (tt, (tt, (tt, tt)))))))); management = tt; roms = (tt, (tt, tt)) }, (record { agents = (tt, (tt, (tt, (tt, (tt, (tt, (tt, (tt, tt)))))))); management = tt; roms = (tt, (tt, tt)) }, (record { agents = (refl, (tt, (tt, (tt, (tt, (tt, (tt, (tt, tt)))))))); management = tt; roms = (tt, (tt, tt)) }, (record { agents = (refl, (tt, (tt, (tt, (tt, (tt, (tt, (tt, tt)))))))); management = tt; roms = (tt, (tt, tt)) }, (record { agents = (refl, (tt, (tt, (tt, (tt, (tt, (tt, (tt, tt)))))))); management = tt; roms = (tt, (tt, tt)) }, (record { agents = (tt, (tt, (tt, (tt, (tt, (tt, (tt, (tt, tt)))))))); management = tt; roms = (tt, (tt, tt)) }, (record { agents = (tt, (tt, (tt, (tt, (tt, (tt, (tt, (tt, tt)))))))); management = tt; roms = (tt, (tt, tt)) }, (record { agents = (tt, (tt, (tt, (tt, (tt, (tt, (tt, (tt, tt)))))))); management = tt; roms = (tt, (tt, tt)) }, tt))))))))))
 
 dies_action : ActionLaw (rare.wild_run rare.wild_dies).start (rare.wild_run rare.wild_dies).entries
 unfolding reading fault_of tcode_of header_of offset_of rcode_of value_of length_of extended_of three four part_of is_to is_same asked_by begun_by belongs start_at lowest_from label_for free_from count_flying lowest_flying label_of with_label is_write kind_of slot_of window_at is_fifo point_step doorbell_step reset_step abort_step reply_step lost_step refusal verdict request_of check_of blank_bytes command_kind elements_from made block_head decide reads_eui live_login response_bytes start_step reply_step_of_manager decide_step fresh_id left_for enter_step back_step leave_step
 dies_action = record { brings = (record { before = rare.wild_notes rare.wild_dies ++ notes.Ignored 5 ignored.Slot ∷ notes.Sent 6 0 1 0 (journals.done_by_first 0) ∷ notes.Got 6 ∷ []; last = notes.Settled; is = refl; delivers = record { begins = tt; lowest = (refl, (refl, (refl, (refl, (refl, (refl, (refl, (refl, (refl, (refl, (refl, (refl, (refl, tt))))))))))))); few = six_of_many; all = inr refl }; ends = refl }, (refl, (refl, tt))); ordered = (record { effects = refl; first = refl }, (record { effects = refl; first = refl }, (record { effects = refl; first = refl }, (record { effects = refl; first = refl }, (record { effects = refl; first = refl }, (record { effects = refl; first = refl }, (record { effects = refl; first = refl }, (tt, (tt, (tt, tt)))))))))) }
 
+dies_runs : EachTurn (RunsWhereDue nobody (rare.wild_run rare.wild_dies).start) (history (rare.wild_run rare.wild_dies).entries)
+unfolding reading fault_of tcode_of header_of offset_of rcode_of value_of length_of extended_of three four part_of is_to is_same asked_by begun_by belongs start_at lowest_from label_for free_from count_flying lowest_flying label_of with_label is_write kind_of slot_of window_at is_fifo point_step doorbell_step reset_step abort_step reply_step lost_step refusal verdict request_of check_of blank_bytes command_kind elements_from made block_head decide reads_eui live_login response_bytes start_step reply_step_of_manager decide_step fresh_id left_for enter_step back_step leave_step
+dies_runs = (refl, (refl, (refl, (refl, (refl, (refl, (refl, (refl, (refl, (refl, tt))))))))))
+
+dies_runs_end : EachTurn (EndsAsRead (rare.wild_run rare.wild_dies).start) (history (rare.wild_run rare.wild_dies).entries)
+unfolding reading fault_of tcode_of header_of offset_of rcode_of value_of length_of extended_of three four part_of is_to is_same asked_by begun_by belongs start_at lowest_from label_for free_from count_flying lowest_flying label_of with_label is_write kind_of slot_of window_at is_fifo point_step doorbell_step reset_step abort_step reply_step lost_step refusal verdict request_of check_of blank_bytes command_kind elements_from made block_head decide reads_eui live_login response_bytes start_step reply_step_of_manager decide_step fresh_id left_for enter_step back_step leave_step
+dies_runs_end = (tt, (tt, (tt, (tt, (tt, (tt, (tt, (tt, (tt, (tt, tt))))))))))
+
+dies_takes : EachTurn (TakesEach nobody) (history (rare.wild_run rare.wild_dies).entries)
+unfolding reading fault_of tcode_of header_of offset_of rcode_of value_of length_of extended_of three four part_of is_to is_same asked_by begun_by belongs start_at lowest_from label_for free_from count_flying lowest_flying label_of with_label is_write kind_of slot_of window_at is_fifo point_step doorbell_step reset_step abort_step reply_step lost_step refusal verdict request_of check_of blank_bytes command_kind elements_from made block_head decide reads_eui live_login response_bytes start_step reply_step_of_manager decide_step fresh_id left_for enter_step back_step leave_step
+dies_takes = (refl, (refl, (refl, (refl, (refl, (refl, (refl, (refl, (refl, (refl, tt))))))))))
+
+reset_ignored_runs : EachTurn (RunsWhereDue nobody (rare.wild_write (notes.Ignored 1 ignored.Login) (notes.Sent 2 0 0 1 (journals.done_by_target 0 7) ∷ [])).start) (history (rare.wild_write (notes.Ignored 1 ignored.Login) (notes.Sent 2 0 0 1 (journals.done_by_target 0 7) ∷ [])).entries)
+unfolding reading fault_of tcode_of header_of offset_of rcode_of value_of length_of extended_of three four part_of is_to is_same asked_by begun_by belongs start_at lowest_from label_for free_from count_flying lowest_flying label_of with_label is_write kind_of slot_of window_at is_fifo point_step doorbell_step reset_step abort_step reply_step lost_step refusal verdict request_of check_of blank_bytes command_kind elements_from made block_head decide reads_eui live_login response_bytes start_step reply_step_of_manager decide_step fresh_id left_for enter_step back_step leave_step
+reset_ignored_runs = (refl, (refl, (refl, (refl, tt))))
+
+reset_ignored_runs_end : EachTurn (EndsAsRead (rare.wild_write (notes.Ignored 1 ignored.Login) (notes.Sent 2 0 0 1 (journals.done_by_target 0 7) ∷ [])).start) (history (rare.wild_write (notes.Ignored 1 ignored.Login) (notes.Sent 2 0 0 1 (journals.done_by_target 0 7) ∷ [])).entries)
+unfolding reading fault_of tcode_of header_of offset_of rcode_of value_of length_of extended_of three four part_of is_to is_same asked_by begun_by belongs start_at lowest_from label_for free_from count_flying lowest_flying label_of with_label is_write kind_of slot_of window_at is_fifo point_step doorbell_step reset_step abort_step reply_step lost_step refusal verdict request_of check_of blank_bytes command_kind elements_from made block_head decide reads_eui live_login response_bytes start_step reply_step_of_manager decide_step fresh_id left_for enter_step back_step leave_step
+reset_ignored_runs_end = (tt, (tt, (tt, (tt, tt))))
+
+reset_ignored_takes : EachTurn (TakesEach nobody) (history (rare.wild_write (notes.Ignored 1 ignored.Login) (notes.Sent 2 0 0 1 (journals.done_by_target 0 7) ∷ [])).entries)
+unfolding reading fault_of tcode_of header_of offset_of rcode_of value_of length_of extended_of three four part_of is_to is_same asked_by begun_by belongs start_at lowest_from label_for free_from count_flying lowest_flying label_of with_label is_write kind_of slot_of window_at is_fifo point_step doorbell_step reset_step abort_step reply_step lost_step refusal verdict request_of check_of blank_bytes command_kind elements_from made block_head decide reads_eui live_login response_bytes start_step reply_step_of_manager decide_step fresh_id left_for enter_step back_step leave_step
+reset_ignored_takes = (refl, (refl, (refl, (refl, tt))))
+
 dies : LawfulForOthers (rare.wild_run rare.wild_dies)
-dies = record { moments = record { form = dies_form; once = dies_once; order = dies_order; execution = dies_execution; status = dies_status; answer = dies_answer; carried = dies_carried; cause = dies_cause; judgement = dies_judged; login = dies_login; media = dies_media; sent = record { packets = dies_packets; answers = dies_answers; requests = dies_requests; after = dies_after } }; action = dies_action }
+dies = record { moments = record { form = dies_form; once = dies_once; order = dies_order; execution = dies_execution; status = dies_status; answer = dies_answer; carried = dies_carried; runs = dies_runs; runs_end = dies_runs_end; takes = dies_takes; cause = dies_cause; judgement = dies_judged; login = dies_login; media = dies_media; sent = record { packets = dies_packets; answers = dies_answers; requests = dies_requests; after = dies_after } }; action = dies_action }
 
 reset_ignored_form : EachMoment FormAt (history (rare.wild_write (notes.Ignored 1 ignored.Login) (notes.Sent 2 0 0 1 (journals.done_by_target 0 7) ∷ [])).entries)
 unfolding reading fault_of tcode_of header_of offset_of rcode_of value_of length_of extended_of three four part_of is_to is_same asked_by begun_by belongs start_at lowest_from label_for free_from count_flying lowest_flying label_of with_label is_write kind_of slot_of window_at is_fifo point_step doorbell_step reset_step abort_step reply_step lost_step refusal verdict request_of check_of blank_bytes command_kind elements_from made block_head decide reads_eui live_login response_bytes start_step reply_step_of_manager decide_step fresh_id left_for enter_step back_step leave_step
@@ -151,9 +175,9 @@ reset_ignored_carried : CarriedLaw (injectors (history (rare.wild_write (notes.I
 unfolding reading fault_of tcode_of header_of offset_of rcode_of value_of length_of extended_of three four part_of is_to is_same asked_by begun_by belongs start_at lowest_from label_for free_from count_flying lowest_flying label_of with_label is_write kind_of slot_of window_at is_fifo point_step doorbell_step reset_step abort_step reply_step lost_step refusal verdict request_of check_of blank_bytes command_kind elements_from made block_head decide reads_eui live_login response_bytes start_step reply_step_of_manager decide_step fresh_id left_for enter_step back_step leave_step
 reset_ignored_carried = record { carried = (tt, (tt, (tt, (tt, (tt, (tt, (tt, (tt, tt)))))))); due = (refl, (refl, (refl, (refl, tt)))) }
 
-reset_ignored_cause : CauseLaw (injectors (history (rare.wild_write (notes.Ignored 1 ignored.Login) (notes.Sent 2 0 0 1 (journals.done_by_target 0 7) ∷ [])).entries)) (rare.wild_write (notes.Ignored 1 ignored.Login) (notes.Sent 2 0 0 1 (journals.done_by_target 0 7) ∷ [])).start (history (rare.wild_write (notes.Ignored 1 ignored.Login) (notes.Sent 2 0 0 1 (journals.done_by_target 0 7) ∷ [])).entries)
+reset_ignored_cause : CauseLaw (rare.wild_write (notes.Ignored 1 ignored.Login) (notes.Sent 2 0 0 1 (journals.done_by_target 0 7) ∷ [])).start (history (rare.wild_write (notes.Ignored 1 ignored.Login) (notes.Sent 2 0 0 1 (journals.done_by_target 0 7) ∷ [])).entries)
 unfolding reading fault_of tcode_of header_of offset_of rcode_of value_of length_of extended_of three four part_of is_to is_same asked_by begun_by belongs start_at lowest_from label_for free_from count_flying lowest_flying label_of with_label is_write kind_of slot_of window_at is_fifo point_step doorbell_step reset_step abort_step reply_step lost_step refusal verdict request_of check_of blank_bytes command_kind elements_from made block_head decide reads_eui live_login response_bytes start_step reply_step_of_manager decide_step fresh_id left_for enter_step back_step leave_step
-reset_ignored_cause = record { causes = (record { cuts = refl; cleared = refl; ends = refl; deaths = tt; faults = tt; failures = refl; operations = refl }, (record { cuts = refl; cleared = refl; ends = refl; deaths = tt; faults = tt; failures = refl; operations = refl }, (record { cuts = refl; cleared = refl; ends = refl; deaths = tt; faults = tt; failures = refl; operations = refl }, (record { cuts = refl; cleared = refl; ends = refl; deaths = tt; faults = tt; failures = refl; operations = refl }, tt)))); aborted = (tt, (tt, (tt, (tt, (tt, (tt, (tt, (tt, tt)))))))) }
+reset_ignored_cause = record { causes = (record { cuts = refl; cleared = refl; ends = refl; deaths = tt; faults = tt; failures = refl; operations = refl; unserved = tt }, (record { cuts = refl; cleared = refl; ends = refl; deaths = tt; faults = tt; failures = refl; operations = refl; unserved = tt }, (record { cuts = refl; cleared = refl; ends = refl; deaths = tt; faults = tt; failures = refl; operations = refl; unserved = tt }, (record { cuts = refl; cleared = refl; ends = refl; deaths = tt; faults = tt; failures = refl; operations = refl; unserved = tt }, tt)))); aborted = (tt, (tt, (tt, (tt, (tt, (tt, (tt, (tt, tt)))))))) }
 
 reset_ignored_judged : JudgementLaw (rare.wild_write (notes.Ignored 1 ignored.Login) (notes.Sent 2 0 0 1 (journals.done_by_target 0 7) ∷ [])).start (history (rare.wild_write (notes.Ignored 1 ignored.Login) (notes.Sent 2 0 0 1 (journals.done_by_target 0 7) ∷ [])).entries)
 unfolding reading fault_of tcode_of header_of offset_of rcode_of value_of length_of extended_of three four part_of is_to is_same asked_by begun_by belongs start_at lowest_from label_for free_from count_flying lowest_flying label_of with_label is_write kind_of slot_of window_at is_fifo point_step doorbell_step reset_step abort_step reply_step lost_step refusal verdict request_of check_of blank_bytes command_kind elements_from made block_head decide reads_eui live_login response_bytes start_step reply_step_of_manager decide_step fresh_id left_for enter_step back_step leave_step
@@ -163,32 +187,32 @@ reset_ignored_login : LoginLaw (rare.wild_write (notes.Ignored 1 ignored.Login) 
 unfolding reading fault_of tcode_of header_of offset_of rcode_of value_of length_of extended_of three four part_of is_to is_same asked_by begun_by belongs start_at lowest_from label_for free_from count_flying lowest_flying label_of with_label is_write kind_of slot_of window_at is_fifo point_step doorbell_step reset_step abort_step reply_step lost_step refusal verdict request_of check_of blank_bytes command_kind elements_from made block_head decide reads_eui live_login response_bytes start_step reply_step_of_manager decide_step fresh_id left_for enter_step back_step leave_step
 reset_ignored_login = (record { rows = tt; decisions = refl; logins = refl }, (record { rows = tt; decisions = refl; logins = refl }, (record { rows = tt; decisions = refl; logins = refl }, (record { rows = tt; decisions = refl; logins = refl }, tt))))
 
-reset_ignored_media : MediaLaw (injectors (history (rare.wild_write (notes.Ignored 1 ignored.Login) (notes.Sent 2 0 0 1 (journals.done_by_target 0 7) ∷ [])).entries)) (rare.wild_write (notes.Ignored 1 ignored.Login) (notes.Sent 2 0 0 1 (journals.done_by_target 0 7) ∷ [])).start (history (rare.wild_write (notes.Ignored 1 ignored.Login) (notes.Sent 2 0 0 1 (journals.done_by_target 0 7) ∷ [])).entries)
+reset_ignored_media : MediaLaw (rare.wild_write (notes.Ignored 1 ignored.Login) (notes.Sent 2 0 0 1 (journals.done_by_target 0 7) ∷ [])).start (history (rare.wild_write (notes.Ignored 1 ignored.Login) (notes.Sent 2 0 0 1 (journals.done_by_target 0 7) ∷ [])).entries)
 unfolding reading fault_of tcode_of header_of offset_of rcode_of value_of length_of extended_of three four part_of is_to is_same asked_by begun_by belongs start_at lowest_from label_for free_from count_flying lowest_flying label_of with_label is_write kind_of slot_of window_at is_fifo point_step doorbell_step reset_step abort_step reply_step lost_step refusal verdict request_of check_of blank_bytes command_kind elements_from made block_head decide reads_eui live_login response_bytes start_step reply_step_of_manager decide_step fresh_id left_for enter_step back_step leave_step
 reset_ignored_media = (record { pushes = refl; told = refl }, (record { pushes = refl; told = refl }, (record { pushes = refl; told = refl }, (record { pushes = refl; told = refl }, tt))))
 
-reset_ignored_packets : EachMoment (SentAt (injectors (history (rare.wild_write (notes.Ignored 1 ignored.Login) (notes.Sent 2 0 0 1 (journals.done_by_target 0 7) ∷ [])).entries))) (history (rare.wild_write (notes.Ignored 1 ignored.Login) (notes.Sent 2 0 0 1 (journals.done_by_target 0 7) ∷ [])).entries)
+reset_ignored_packets : EachMoment SentAt (history (rare.wild_write (notes.Ignored 1 ignored.Login) (notes.Sent 2 0 0 1 (journals.done_by_target 0 7) ∷ [])).entries)
 unfolding reading fault_of tcode_of header_of offset_of rcode_of value_of length_of extended_of three four part_of is_to is_same asked_by begun_by belongs start_at lowest_from label_for free_from count_flying lowest_flying label_of with_label is_write kind_of slot_of window_at is_fifo point_step doorbell_step reset_step abort_step reply_step lost_step refusal verdict request_of check_of blank_bytes command_kind elements_from made block_head decide reads_eui live_login response_bytes start_step reply_step_of_manager decide_step fresh_id left_for enter_step back_step leave_step
 reset_ignored_packets = ((refl, λ e. record { in_generation = refl; spelled = record { packet = write_response (journals.to_first 0) 7; canonical = refl; retry = refl; priority = refl; source = refl; destination = refl }; label = tt }), (tt, (tt, ((refl, λ e. absurd (cc e)), (tt, (tt, (tt, (tt, tt))))))))
 
-reset_ignored_answers : EachTurn (AnswersLaw (injectors (history (rare.wild_write (notes.Ignored 1 ignored.Login) (notes.Sent 2 0 0 1 (journals.done_by_target 0 7) ∷ [])).entries)) (rare.wild_write (notes.Ignored 1 ignored.Login) (notes.Sent 2 0 0 1 (journals.done_by_target 0 7) ∷ [])).start) (history (rare.wild_write (notes.Ignored 1 ignored.Login) (notes.Sent 2 0 0 1 (journals.done_by_target 0 7) ∷ [])).entries)
+reset_ignored_answers : EachTurn (AnswersLaw (rare.wild_write (notes.Ignored 1 ignored.Login) (notes.Sent 2 0 0 1 (journals.done_by_target 0 7) ∷ [])).start) (history (rare.wild_write (notes.Ignored 1 ignored.Login) (notes.Sent 2 0 0 1 (journals.done_by_target 0 7) ∷ [])).entries)
 unfolding reading fault_of tcode_of header_of offset_of rcode_of value_of length_of extended_of three four part_of is_to is_same asked_by begun_by belongs start_at lowest_from label_for free_from count_flying lowest_flying label_of with_label is_write kind_of slot_of window_at is_fifo point_step doorbell_step reset_step abort_step reply_step lost_step refusal verdict request_of check_of blank_bytes command_kind elements_from made block_head decide reads_eui live_login response_bytes start_step reply_step_of_manager decide_step fresh_id left_for enter_step back_step leave_step
-reset_ignored_answers = (record { begins = λ e. tt }, (record { begins = λ e. tt }, (record { begins = λ e. tt }, (record { begins = λ e. tt }, tt))))
+reset_ignored_answers = (tt, (tt, (tt, (tt, tt))))
 
-reset_ignored_requests : EachTurn (RequestsLaw (injectors (history (rare.wild_write (notes.Ignored 1 ignored.Login) (notes.Sent 2 0 0 1 (journals.done_by_target 0 7) ∷ [])).entries)) (rare.wild_write (notes.Ignored 1 ignored.Login) (notes.Sent 2 0 0 1 (journals.done_by_target 0 7) ∷ [])).start) (history (rare.wild_write (notes.Ignored 1 ignored.Login) (notes.Sent 2 0 0 1 (journals.done_by_target 0 7) ∷ [])).entries)
+reset_ignored_requests : EachTurn (RequestsLaw (rare.wild_write (notes.Ignored 1 ignored.Login) (notes.Sent 2 0 0 1 (journals.done_by_target 0 7) ∷ [])).start) (history (rare.wild_write (notes.Ignored 1 ignored.Login) (notes.Sent 2 0 0 1 (journals.done_by_target 0 7) ∷ [])).entries)
 unfolding reading fault_of tcode_of header_of offset_of rcode_of value_of length_of extended_of three four part_of is_to is_same asked_by begun_by belongs start_at lowest_from label_for free_from count_flying lowest_flying label_of with_label is_write kind_of slot_of window_at is_fifo point_step doorbell_step reset_step abort_step reply_step lost_step refusal verdict request_of check_of blank_bytes command_kind elements_from made block_head decide reads_eui live_login response_bytes start_step reply_step_of_manager decide_step fresh_id left_for enter_step back_step leave_step
 reset_ignored_requests = (λ e. cc e, (λ e. tt, (λ e. cc e, (λ e. tt, tt))))
 
-reset_ignored_after : EachTurn (AfterTurn (injectors (history (rare.wild_write (notes.Ignored 1 ignored.Login) (notes.Sent 2 0 0 1 (journals.done_by_target 0 7) ∷ [])).entries)) (rare.wild_write (notes.Ignored 1 ignored.Login) (notes.Sent 2 0 0 1 (journals.done_by_target 0 7) ∷ [])).start) (history (rare.wild_write (notes.Ignored 1 ignored.Login) (notes.Sent 2 0 0 1 (journals.done_by_target 0 7) ∷ [])).entries)
+reset_ignored_after : EachTurn (AfterTurn (rare.wild_write (notes.Ignored 1 ignored.Login) (notes.Sent 2 0 0 1 (journals.done_by_target 0 7) ∷ [])).start) (history (rare.wild_write (notes.Ignored 1 ignored.Login) (notes.Sent 2 0 0 1 (journals.done_by_target 0 7) ∷ [])).entries)
 unfolding reading fault_of tcode_of header_of offset_of rcode_of value_of length_of extended_of three four part_of is_to is_same asked_by begun_by belongs start_at lowest_from label_for free_from count_flying lowest_flying label_of with_label is_write kind_of slot_of window_at is_fifo point_step doorbell_step reset_step abort_step reply_step lost_step refusal verdict request_of check_of blank_bytes command_kind elements_from made block_head decide reads_eui live_login response_bytes start_step reply_step_of_manager decide_step fresh_id left_for enter_step back_step leave_step
-reset_ignored_after = (record { agents = (λ e. tt, (λ e. tt, (λ e. tt, (λ e. tt, (λ e. tt, (λ e. tt, (λ e. tt, (λ e. tt, tt)))))))); management = tt; roms = (λ e. tt, (λ e. tt, tt)) }, (record { agents = (λ e. tt, (λ e. tt, (λ e. tt, (λ e. tt, (λ e. tt, (λ e. tt, (λ e. tt, (λ e. tt, tt)))))))); management = tt; roms = (λ e. tt, (λ e. tt, tt)) }, (record { agents = (λ e. tt, (λ e. tt, (λ e. tt, (λ e. tt, (λ e. tt, (λ e. tt, (λ e. tt, (λ e. tt, tt)))))))); management = tt; roms = (λ e. tt, (λ e. tt, tt)) }, (record { agents = (λ e. tt, (λ e. tt, (λ e. tt, (λ e. tt, (λ e. tt, (λ e. tt, (λ e. tt, (λ e. tt, tt)))))))); management = tt; roms = (λ e. tt, (λ e. tt, tt)) }, tt))))
+reset_ignored_after = (record { agents = (tt, (tt, (tt, (tt, (tt, (tt, (tt, (tt, tt)))))))); management = tt; roms = (tt, (tt, tt)) }, (record { agents = (tt, (tt, (tt, (tt, (tt, (tt, (tt, (tt, tt)))))))); management = tt; roms = (tt, (tt, tt)) }, (record { agents = (tt, (tt, (tt, (tt, (tt, (tt, (tt, (tt, tt)))))))); management = tt; roms = (tt, (tt, tt)) }, (record { agents = (tt, (tt, (tt, (tt, (tt, (tt, (tt, (tt, tt)))))))); management = tt; roms = (tt, (tt, tt)) }, tt))))
 
 reset_ignored_action : ActionLaw (rare.wild_write (notes.Ignored 1 ignored.Login) (notes.Sent 2 0 0 1 (journals.done_by_target 0 7) ∷ [])).start (rare.wild_write (notes.Ignored 1 ignored.Login) (notes.Sent 2 0 0 1 (journals.done_by_target 0 7) ∷ [])).entries
 unfolding reading fault_of tcode_of header_of offset_of rcode_of value_of length_of extended_of three four part_of is_to is_same asked_by begun_by belongs start_at lowest_from label_for free_from count_flying lowest_flying label_of with_label is_write kind_of slot_of window_at is_fifo point_step doorbell_step reset_step abort_step reply_step lost_step refusal verdict request_of check_of blank_bytes command_kind elements_from made block_head decide reads_eui live_login response_bytes start_step reply_step_of_manager decide_step fresh_id left_for enter_step back_step leave_step
 reset_ignored_action = record { brings = ((refl, (refl, tt)), (refl, (refl, tt))); ordered = (record { effects = refl; first = refl }, (tt, (tt, (tt, tt)))) }
 
 reset_ignored : LawfulForOthers (rare.wild_write (notes.Ignored 1 ignored.Login) (notes.Sent 2 0 0 1 (journals.done_by_target 0 7) ∷ []))
-reset_ignored = record { moments = record { form = reset_ignored_form; once = reset_ignored_once; order = reset_ignored_order; execution = reset_ignored_execution; status = reset_ignored_status; answer = reset_ignored_answer; carried = reset_ignored_carried; cause = reset_ignored_cause; judgement = reset_ignored_judged; login = reset_ignored_login; media = reset_ignored_media; sent = record { packets = reset_ignored_packets; answers = reset_ignored_answers; requests = reset_ignored_requests; after = reset_ignored_after } }; action = reset_ignored_action }
+reset_ignored = record { moments = record { form = reset_ignored_form; once = reset_ignored_once; order = reset_ignored_order; execution = reset_ignored_execution; status = reset_ignored_status; answer = reset_ignored_answer; carried = reset_ignored_carried; runs = reset_ignored_runs; runs_end = reset_ignored_runs_end; takes = reset_ignored_takes; cause = reset_ignored_cause; judgement = reset_ignored_judged; login = reset_ignored_login; media = reset_ignored_media; sent = record { packets = reset_ignored_packets; answers = reset_ignored_answers; requests = reset_ignored_requests; after = reset_ignored_after } }; action = reset_ignored_action }
 
 not_of_all : Lawful (rare.wild_run rare.wild_dies) → ⊥
 unfolding reading fault_of tcode_of header_of offset_of rcode_of value_of length_of extended_of three four part_of is_to is_same asked_by begun_by belongs start_at lowest_from label_for free_from count_flying lowest_flying label_of with_label is_write kind_of slot_of window_at is_fifo point_step doorbell_step reset_step abort_step reply_step lost_step refusal verdict request_of check_of blank_bytes command_kind elements_from made block_head decide reads_eui live_login response_bytes start_step reply_step_of_manager decide_step fresh_id left_for enter_step back_step leave_step
@@ -204,7 +228,7 @@ reset_is_got = λ law. let bad = law.moments.judgement.0 in cc bad
 
 other_unanswered : LawfulForOthers rare.other_unanswered → ⊥
 unfolding reading fault_of tcode_of header_of offset_of rcode_of value_of length_of extended_of three four part_of is_to is_same asked_by begun_by belongs start_at lowest_from label_for free_from count_flying lowest_flying label_of with_label is_write kind_of slot_of window_at is_fifo point_step doorbell_step reset_step abort_step reply_step lost_step refusal verdict request_of check_of blank_bytes command_kind elements_from made block_head decide reads_eui live_login response_bytes start_step reply_step_of_manager decide_step fresh_id left_for enter_step back_step leave_step
-other_unanswered = λ law. law.moments.sent.answers.0.begins refl
+other_unanswered = λ law. law.moments.sent.answers.0
 
 other_sends_more : LawfulForOthers rare.other_sends_more → ⊥
 unfolding reading fault_of tcode_of header_of offset_of rcode_of value_of length_of extended_of three four part_of is_to is_same asked_by begun_by belongs start_at lowest_from label_for free_from count_flying lowest_flying label_of with_label is_write kind_of slot_of window_at is_fifo point_step doorbell_step reset_step abort_step reply_step lost_step refusal verdict request_of check_of blank_bytes command_kind elements_from made block_head decide reads_eui live_login response_bytes start_step reply_step_of_manager decide_step fresh_id left_for enter_step back_step leave_step

@@ -11,7 +11,7 @@ use Rattle.sbp_laws.specs.OrderLaw.{OrderAt}
 use Rattle.sbp_laws.specs.ExecutionLaw.{ExecutionAt}
 use Rattle.sbp_laws.specs.StatusLaw.{TakenAt, TakesEach}
 use Rattle.sbp_laws.specs.AnswerLaw.{AnswerAt}
-use Rattle.sbp_laws.specs.CarriedLaw.{CarriedAt, RunsWhereDue}
+use Rattle.sbp_laws.specs.CarriedLaw.{CarriedAt, EndsAsRead, RunsWhereDue}
 use Rattle.sbp_laws.specs.CauseLaw.{HasCauses, AbortedAt}
 use Rattle.sbp_laws.specs.JudgementLaw.{Judges}
 use Rattle.sbp_laws.specs.LoginLaw.{HasLogins}
@@ -21,7 +21,7 @@ use Rattle.sbp_laws.specs.SentRequests.{RequestsLaw}
 use Rattle.sbp_laws.specs.SentLaw.{AfterTurn}
 use Rattle.sbp_laws.specs.MediaLaw.{HasPushes}
 use Rattle.sbp_laws.specs.ActionLaw.{Brings, Ordered}
-use Rattle.sbp_laws.specs.Lawful.{FormAt, LawfulBut}
+use Rattle.sbp_laws.specs.Lawful.{FormAt, LawfulBut, nobody}
 
 -- The laws on one entry: a line with its event and its notes, the latest one first, behind a history.
 pub record Adds (wild : ℕ → Bool) (start : List Disk) (past : List Moment) (line : ℕ) (event : Event) (told : List Note) : Type 0 where
@@ -34,15 +34,18 @@ pub record Adds (wild : ℕ → Bool) (start : List Disk) (past : List Moment) (
   pub answer : EachMomentOf (AnswerAt wild start) past line event told
   pub carried : EachMomentOf (CarriedAt wild start) past line event told
   pub run_where_due : EachTurnOf (RunsWhereDue wild start) past line event told
-  pub causes : EachTurnOf (HasCauses wild start) past line event told
-  pub aborted : EachMomentOf (AbortedAt wild start) past line event told
+  pub runs : EachTurnOf (RunsWhereDue nobody start) past line event told
+  pub runs_end : EachTurnOf (EndsAsRead start) past line event told
+  pub takes : EachTurnOf (TakesEach nobody) past line event told
+  pub causes : EachTurnOf (HasCauses start) past line event told
+  pub aborted : EachMomentOf (AbortedAt start) past line event told
   pub judged : EachTurnOf (Judges start) past line event told
   pub logins : EachTurnOf (HasLogins start) past line event told
-  pub packets : EachMomentOf (SentAt wild) past line event told
-  pub answers : EachTurnOf (AnswersLaw wild start) past line event told
-  pub requests : EachTurnOf (RequestsLaw wild start) past line event told
-  pub after : EachTurnOf (AfterTurn wild start) past line event told
-  pub media : EachTurnOf (HasPushes wild start) past line event told
+  pub packets : EachMomentOf SentAt past line event told
+  pub answers : EachTurnOf (AnswersLaw start) past line event told
+  pub requests : EachTurnOf (RequestsLaw start) past line event told
+  pub after : EachTurnOf (AfterTurn start) past line event told
+  pub media : EachTurnOf (HasPushes start) past line event told
   pub brings : Brings start past line event (reverse told)
   pub ordered : EachTurnOf Ordered past line event told
 

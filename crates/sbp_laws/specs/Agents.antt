@@ -1,6 +1,6 @@
 -- What a turn brings of the target's agents: the run and the end of the present ORB, the death of an agent, and its requests (NCITS
 -- 325-1998, command block agents).
-use Rattle.std.specs.Prelude.{ℕ, zero, suc, ◌+◌, ◌==◌, ◌&&◌, ◌||◌, not, nat_le, is_none, is_some, Bool, true, false, if◌then◌else◌, List, [], ◌∷◌, ◌++◌, length, Option, Some, None, Result, Ok, Err}
+use Rattle.std.specs.Prelude.{ℕ, zero, suc, ◌+◌, ◌==◌, ◌&&◌, ◌||◌, not, nat_le, is_none, Bool, true, false, if◌then◌else◌, List, [], ◌∷◌, ◌++◌, length, Option, Some, None, Result, Ok, Err}
 use Rattle.std.specs.List.{list_any}
 use Rattle.orb_layout.specs.declared.ask.Ask.{Ask}
 use Rattle.orb_layout.specs.declared.ask.Ask.TheVariants.{Read, Write, Nothing}
@@ -30,7 +30,7 @@ use Rattle.sbp_journal.specs.Wire.{Terms, terms}
 use Rattle.sbp_journal.specs.declared.note.Note.{Note}
 use Rattle.sbp_journal.specs.declared.note.Note.TheVariants as notes
 use Rattle.sbp_laws.specs.Turns.{Turn}
-use Rattle.sbp_laws.specs.Packets.{packet_at, access_at, access_in_bytes, answered_at, answer_in, sender_in, receiver_in, id_for, to_peer, is_free, lowest_from, finds_label, free_labels}
+use Rattle.sbp_laws.specs.Packets.{packet_at, access_at, answered_at, answer_in, sender_in, receiver_in, id_for, finds_label, free_labels}
 use Rattle.sbp_laws.specs.Lists.{Orb, named, list_in, number_in}
 use Rattle.sbp_laws.specs.Targets.{Target, Agent, Reply, Purpose, for_agent, for_manager, for_nobody, purpose_of, target_at, over, agent_at, login_at, reply_of, plain_for, told_by, untold_by, is_serial}
 
@@ -197,38 +197,26 @@ abbrev pub outcomes_of : (finds_first finds : Body → Bool) → (fifo : ℕ) �
 outcomes_of finds_first finds fifo a = tried finds_first finds fifo a.step a.machine (body_of a.step.ask a.machine a.step.ended fifo)
 
 -- ---- whether the request that an agent has first in a turn finds a label
--- Of an answer that its medium did not tell the bytes of a chunk are not known, and so not whether its write equals the last request of a
--- label. A label serves it whatever the bytes are where it is free and its last request is no write of as many bytes at that address.
-abbrev pub is_alike : Option Access → (offset count : ℕ) → Bool
-is_alike None offset count = false
-is_alike (Some access) offset count = access.is_write && access.is_block && (access.offset == offset) && (access.count == count)
-
-abbrev pub access_of_last : Option (List ℕ) → Option Access
-access_of_last None = None
-access_of_last (Some bytes) = access_in_bytes bytes
-
-abbrev pub serves_any : Terms → (node offset count : ℕ) → ℕ → Bool
-serves_any wire node offset count label =
-    let t = to_peer wire 0 node label in is_free (wire.held t) && not (is_alike (access_of_last (wire.last t)) offset count)
-
 abbrev pub is_dead_label : Note → Bool
 is_dead_label (notes.Dead i list causes.Label) = true
 is_dead_label _ = false
 
--- Such a write finds a label where one serves it whatever its bytes are, none where none is free, and else as the turn tells.
-abbrev pub finds_untold : Terms → (node : ℕ) → (dies : Bool) → Body → Bool
-finds_untold wire node dies (block_write offset payload) =
-    is_some (lowest_from 64 (serves_any wire node offset (length payload)) 0) || (not (free_labels wire 0 node == 0) && not dies)
-finds_untold wire node dies body = true
+-- the turn tells that its request finds no label
+abbrev pub lacks_label_told : Turn → Bool
+lacks_label_told t = list_any is_dead_label t.rest
 
 abbrev pub is_answering : Phase → Bool
 is_answering phases.Answering = true
 is_answering _ = false
 
+-- Of an answer that its medium did not tell the bytes of a chunk are not known: its write finds a label as the turn tells, and that there are
+-- bytes that do is the cause law's where it finds none, the sent law's where it is sent.
+abbrev pub is_untold_chunk : AgentTurn → Bool
+is_untold_chunk a = a.untold && is_answering a.machine.phase
+
 abbrev pub finds_first : Target → Turn → AgentTurn → Body → Bool
 finds_first target t a =
-    let node = suc (initiator_at target (wire_before t) a.place) in
-    if a.untold && is_answering a.machine.phase then finds_untold (wire_after t) node (list_any is_dead_label t.rest) else finds_label (wire_after t) 0 node
+    if is_untold_chunk a then (λ body. not (lacks_label_told t)) else finds_label (wire_after t) 0 (suc (initiator_at target (wire_before t) a.place))
 
 -- the outcomes of an agent's turn
 abbrev pub agent_outcomes : Target → Turn → AgentTurn → Outcomes
@@ -276,16 +264,16 @@ agent_notes_for target t a =
     let i = initiator_at target (wire_before t) a.place in
     end_notes i (list_in (pointed_in t.past i a.pointer)) (named t.past i a.machine.present) (agent_outcomes target t a)
 
--- A request: the node that it goes to, and what it asks for. Of a chunk of an answer the bytes are the answer law's, and only their
--- number counts.
+-- A request: the node that it goes to, and what it asks for. Of a chunk of an answer that its medium did not tell only the number of its bytes
+-- counts.
 pub record Request : Type 0 where
   pub to : ℕ
   pub body : Body
-  pub is_answer : Bool
+  pub is_untold : Bool
 
 abbrev pub requests_of : ℕ → Bool → Option Body → List Request
-requests_of node is_answer None = []
-requests_of node is_answer (Some body) = record { to = node; body = body; is_answer = is_answer } ∷ []
+requests_of node is_untold None = []
+requests_of node is_untold (Some body) = record { to = node; body = body; is_untold = is_untold } ∷ []
 
 abbrev pub requests_to : ℕ → Option Body → List Request
 requests_to node body = requests_of node false body
@@ -304,4 +292,4 @@ abbrev pub agent_requests_for : Target → Turn → AgentTurn → List Request
 agent_requests_for target t a =
     let node = suc (initiator_at target (wire_before t) a.place) in
     let outcomes = agent_outcomes target t a in
-    requests_of node (is_answer outcomes) outcomes.sent ++ requests_to node (ahead_due target t a outcomes)
+    requests_of node (a.untold && is_answer outcomes) outcomes.sent ++ requests_to node (ahead_due target t a outcomes)

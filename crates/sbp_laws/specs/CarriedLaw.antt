@@ -4,7 +4,8 @@
 -- not, its command block and its direction are those of the append. Of a run, the ORB's buffer, by its page table where it has one, which
 -- was got since, has the append's length, and the data are the payloads, joined in order, that the target got since from its reads of that
 -- buffer's chunks. A command runs in the delivery after which its agent has all that it needs. The answer of a good status that is taken is
--- the payloads, joined in order, of the writes to the chunks of the ORB's buffer that its initiator got since the run.
+-- the payloads, joined in order, of the writes to the chunks of the ORB's buffer that its initiator got since the run. Of every initiator, also
+-- of one that injects packets, a command runs where its agent has all that it needs, and ends by the ORB that was read.
 use Rattle.std.specs.Prelude.{◌≡◌, ℕ, not, Bool, false, List, [], ◌∷◌, Option, Some, None, IsSomeAnd}
 use Rattle.std.specs.List.{filter}
 use Rattle.orb_layout.specs.declared.command.CommandOrb.{CommandOrb}
@@ -13,6 +14,9 @@ use Rattle.orb_layout.specs.declared.status.StatusKind.TheVariants as kinds
 use Rattle.page_table.specs.declared.segment.Segment.{Segment}
 use Rattle.page_table.specs.Buffer.{bytes_of, chunks}
 use Rattle.rbc_disk.specs.Disk.{Disk}
+use Rattle.rbc_command.specs.declared.sense.Sense.{Sense}
+use Rattle.rbc_disk.specs.Checks.{check_of}
+use Rattle.rbc_disk.specs.Runs.{failure_of, MayEnd}
 use Rattle.rbc_disk.specs.declared.command.Outcome.{Outcome}
 use Rattle.command_agent.specs.Machine as agent
 use Rattle.sbp_journal.specs.Run.{Moment, said}
@@ -21,6 +25,7 @@ use Rattle.sbp_journal.specs.declared.note.Note.TheVariants as notes
 use Rattle.sbp_laws.specs.Terms.{Request, request_at, plan_of}
 use Rattle.sbp_laws.specs.Turns.{Turn, EachMoment, EachTurn}
 use Rattle.sbp_laws.specs.Lists.{named, list_in, number_in, slot_at, command_at}
+use Rattle.sbp_laws.specs.DiskFold.{unit_at}
 use Rattle.sbp_laws.specs.Targets.{Target, unit_of}
 use Rattle.sbp_laws.specs.Agents.{AgentTurn, agent_turn, agent_event, target_before, wire_before, initiator_at}
 use Rattle.sbp_laws.specs.CarriedBytes.{WasRead, orb_read, Moved, reads_since, writes_since, joined, buffer_in, pieces_of}
@@ -102,6 +107,22 @@ of_others wild runs = filter (λ run. not (wild run.initiator)) runs
 
 abbrev pub RunsWhereDue : (ℕ → Bool) → List Disk → Turn → Type 0
 RunsWhereDue wild disks t = of_others wild (runs_in t.rest) ≡ of_others wild (runs_due disks t)
+
+-- ---- how a command ends
+-- A run ends as the ORB that was read has it, whoever sent it: by the check that holds on the plain disk, or, where none does, good or by a medium
+-- call that failed.
+abbrev pub EndsBy : Target → Option AgentTurn → (unit : ℕ) → (cdb : List ℕ) → Option Sense → Type 0
+EndsBy target None unit cdb check = ⊥
+EndsBy target (Some a) unit cdb check =
+    let plain = unit_at target.units unit in MayEnd (check_of cdb (agent.plan_of a.machine) plain a.place) (failure_of plain.medium.is_bay cdb) check
+
+abbrev pub EndEachBy : Target → Option AgentTurn → List Note → Type 0
+EndEachBy target a [] = Unit {0}
+EndEachBy target a (notes.Ran i list number unit cdb bytes check ∷ rest) = EndsBy target a unit cdb check × EndEachBy target a rest
+EndEachBy target a (note ∷ rest) = EndEachBy target a rest
+
+abbrev pub EndsAsRead : List Disk → Turn → Type 0
+EndsAsRead disks t = EndEachBy (target_before disks t) (agent_turn (agent_event disks t) (target_before disks t) t.rest) t.rest
 
 pub record CarriedLaw (wild : ℕ → Bool) (disks : List Disk) (past : List Moment) : Type 0 where
   pub carried : EachMoment (CarriedAt wild disks) past

@@ -4,7 +4,7 @@
 -- refused or has a payload of another length, and where an ORB or its page table is illegal; the ORB that was present ends behind it as
 -- failed or illegal. A management operation fails by the same causes. An operation ends, a list is dropped and a session becomes stuck
 -- where the initiator's rules say. A unit is cleared by a unit reset and a target reset.
-use Rattle.std.specs.Prelude.{◌≡◌, ℕ, ◌==◌, ◌&&◌, ◌||◌, Bool, true, false, List, [], ◌∷◌, Option, Some, None}
+use Rattle.std.specs.Prelude.{◌≡◌, ℕ, ◌%◌, ◌^◌, ◌==◌, ◌&&◌, ◌||◌, Bool, true, false, List, [], ◌∷◌, Option, Some, None}
 use Rattle.orb_layout.specs.declared.status.StatusKind.{StatusKind}
 use Rattle.orb_layout.specs.declared.status.StatusKind.TheVariants as kinds
 use Rattle.rbc_disk.specs.Disk.{Disk}
@@ -13,27 +13,32 @@ use Rattle.sbp_journal.specs.declared.operation.FunctionWord.TheVariants as func
 use Rattle.sbp_journal.specs.declared.note.Note.TheVariants as notes
 use Rattle.sbp_laws.specs.Terms.{runs, ended_status}
 use Rattle.sbp_laws.specs.Turns.{Turn, EachMoment, EachTurn}
-use Rattle.sbp_laws.specs.Lists.{Orb, aborted_by}
-use Rattle.sbp_laws.specs.Agents.{target_before}
-use Rattle.sbp_laws.specs.Management.{cuts_due, cleared_due, failures_due, began_with}
+use Rattle.sbp_laws.specs.Lists.{Orb, named}
+use Rattle.sbp_laws.specs.Targets.{Decided, target_at}
+use Rattle.sbp_laws.specs.Agents.{agent_event, agent_turn, target_before}
+use Rattle.sbp_laws.specs.Management.{cuts_due, cleared_due, failures_due}
 use Rattle.sbp_laws.specs.Operations.{operation_notes}
-use Rattle.sbp_laws.specs.NoteKinds.{is_cut_note, is_cleared_note, is_failure_note, is_end_note, is_operation_note, counts, of_kind}
-use Rattle.sbp_laws.specs.Deaths.{ends_due}
-use Rattle.sbp_laws.specs.Deaths.{DeathsHaveRows, FaultsFollowDeaths}
+use Rattle.sbp_laws.specs.NoteKinds.{is_cut_note, is_cleared_note, is_failure_note, is_end_note, is_operation_note, of_kind}
+use Rattle.sbp_laws.specs.Deaths.{ends_due, DeathsHaveRows, DiesUnserved, FaultsFollowDeaths}
 
 -- Row by row, the notes of a turn are those that have their cause in it.
-pub record HasCauses (wild : ℕ → Bool) (disks : List Disk) (t : Turn) : Type 0 where
+pub record HasCauses (disks : List Disk) (t : Turn) : Type 0 where
   pub cuts : of_kind is_cut_note t.rest ≡ cuts_due disks (target_before disks t) t
   pub cleared : of_kind is_cleared_note t.rest ≡ cleared_due (target_before disks t) t
-  pub ends : of_kind (counts wild) (of_kind is_end_note t.rest) ≡ of_kind (counts wild) (ends_due disks t)
+  pub ends : of_kind is_end_note t.rest ≡ ends_due disks t
   pub deaths : DeathsHaveRows disks t t.rest
   pub faults : FaultsFollowDeaths None t.rest
   pub failures : of_kind is_failure_note t.rest ≡ failures_due (target_before disks t) t
-  pub operations : of_kind (counts wild) (of_kind is_operation_note t.rest) ≡ of_kind (counts wild) (operation_notes t)
+  pub operations : of_kind is_operation_note t.rest ≡ operation_notes t
+  pub unserved : DiesUnserved (target_before disks t) t (agent_turn (agent_event disks t) (target_before disks t) t.rest)
 
 -- ---- aborted ORBs
--- An `mgmt I abort` with 00 came, and the ORB had neither run nor ended then. The line `abort I K` for this very ORB brought it about: that line
--- sent the write of MANAGEMENT_AGENT with which the operation began.
+-- An `mgmt I abort` with 00 came for this very ORB, which had neither run nor ended then: the management ORB that the target got for it has
+-- the address of the ORB's slot.
+abbrev pub abort_names : List Moment → (i : ℕ) → Option Decided → Option Orb
+abort_names past i None = None
+abort_names past i (Some decided) = named past i (decided.orb.first % 2 ^ 48)
+
 abbrev pub is_orb_of : Option Orb → (n k : ℕ) → Bool
 is_orb_of None n k = false
 is_orb_of (Some one) n k = (one.list == n) && (one.number == k)
@@ -45,14 +50,14 @@ is_none_status (Some status) = false
 abbrev pub is_marked : List Disk → List Moment → (i n k : ℕ) → Bool
 is_marked disks [] i n k = false
 is_marked disks (said (notes.Managed j functions.Abort subject status login) ∷ past) i n k =
-    ((i == j) && (status == 0) && is_orb_of (aborted_by past (began_with disks past) i) n k && (runs past i n k == 0) && is_none_status (ended_status past i n k))
+    ((i == j) && (status == 0) && is_orb_of (abort_names past i (target_at disks past).decided) n k && (runs past i n k == 0) && is_none_status (ended_status past i n k))
     || is_marked disks past i n k
 is_marked disks (_ ∷ past) i n k = is_marked disks past i n k
 
-abbrev pub AbortedAt : (ℕ → Bool) → List Disk → Moment → List Moment → Type 0
-AbortedAt wild disks (said (notes.Ended i (Some n) (Some k) kinds.Aborted)) past = wild i ≡ false → is_marked disks past i n k ≡ true
-AbortedAt wild disks moment past = Unit {0}
+abbrev pub AbortedAt : List Disk → Moment → List Moment → Type 0
+AbortedAt disks (said (notes.Ended i (Some n) (Some k) kinds.Aborted)) past = is_marked disks past i n k ≡ true
+AbortedAt disks moment past = Unit {0}
 
-pub record CauseLaw (wild : ℕ → Bool) (disks : List Disk) (past : List Moment) : Type 0 where
-  pub causes : EachTurn (HasCauses wild disks) past
-  pub aborted : EachMoment (AbortedAt wild disks) past
+pub record CauseLaw (disks : List Disk) (past : List Moment) : Type 0 where
+  pub causes : EachTurn (HasCauses disks) past
+  pub aborted : EachMoment (AbortedAt disks) past

@@ -1,19 +1,21 @@
 -- The rows of `dead` (NCITS 325-1998, agents): a main transaction timed out, finds no label, was answered by another rcode than 0, or brought
 -- a payload of another length; or an ORB or a page table is illegal. An ORB ends as failed or illegal directly behind a `dead`.
-use Rattle.std.specs.Prelude.{◌≡◌, ℕ, not, Bool, true, false, List, [], ◌∷◌, Option, Some, None}
+use Rattle.std.specs.Prelude.{◌≡◌, ℕ, suc, ◌&&◌, not, length, Bool, true, false, List, [], ◌∷◌, Option, Some, None}
 use Rattle.orb_layout.specs.declared.status.StatusKind.TheVariants as kinds
 use Rattle.orb_layout.specs.declared.ask.FailCause.{FailCause}
 use Rattle.orb_layout.specs.declared.ask.FailCause.TheVariants as causes
 use Rattle.orb_layout.specs.Replies.{Answer, Payload, Done, Refused, Expired}
-use Rattle.label_table.specs.Bodies.{Body}
+use Rattle.label_table.specs.Bodies.{Body, block_write}
 use Rattle.command_agent.specs.declared.step.Which.{Which}
 use Rattle.command_agent.specs.declared.step.Which.TheVariants.{Main, Ahead}
 use Rattle.rbc_disk.specs.Disk.{Disk}
 use Rattle.sbp_journal.specs.declared.note.Note.{Note}
 use Rattle.sbp_journal.specs.declared.note.Note.TheVariants as notes
-use Rattle.sbp_laws.specs.Turns.{Turn}
+use Rattle.sbp_laws.specs.Turns.{Turn, Where}
 use Rattle.sbp_laws.specs.Targets.{Target, login_at}
-use Rattle.sbp_laws.specs.Agents.{agent_notes_for, Event, replies, AgentTurn, agent_turn, agent_event, body_of, finds_first, fifo_in, target_before}
+use Rattle.sbp_journal.specs.Wire.{Terms}
+use Rattle.sbp_laws.specs.Packets.{finds_label}
+use Rattle.sbp_laws.specs.Agents.{initiator_at, is_untold_chunk, lacks_label_told, wire_before, wire_after, agent_notes_for, Event, replies, AgentTurn, agent_turn, agent_event, body_of, finds_first, fifo_in, target_before}
 
 -- ---- the rows of `dead`
 -- a reply to the main transaction of an agent
@@ -60,6 +62,23 @@ abbrev pub DeathsHaveRows : List Disk → Turn → List Note → Type 0
 DeathsHaveRows disks t [] = Unit {0}
 DeathsHaveRows disks t (notes.Dead i list cause ∷ rest) = (death_row cause disks t ≡ true) × DeathsHaveRows disks t rest
 DeathsHaveRows disks t (note ∷ rest) = DeathsHaveRows disks t rest
+
+-- Of a chunk of an answer that its medium did not tell there are bytes, so many, with which its write finds no label, where the turn has a death
+-- for want of one.
+pub record IsUnserved (wire : Terms) (node offset count : ℕ) : Type 0 where
+  pub payload : List ℕ
+  pub size : length payload ≡ count
+  pub finds : finds_label wire 0 node (block_write offset payload) ≡ false
+
+abbrev pub UnservedBody : Terms → (node : ℕ) → Option Body → Type 0
+UnservedBody wire node (Some (block_write offset payload)) = IsUnserved wire node offset (length payload)
+UnservedBody wire node body = Unit {0}
+
+abbrev pub DiesUnserved : Target → Turn → Option AgentTurn → Type 0
+DiesUnserved target t None = Unit {0}
+DiesUnserved target t (Some a) =
+    Where (is_untold_chunk a && lacks_label_told t)
+    (UnservedBody (wire_after t) (suc (initiator_at target (wire_before t) a.place)) (body_of a.step.ask a.machine a.step.ended 0))
 
 -- an end as failed or illegal stands directly behind a `dead` of its initiator
 abbrev pub FollowsDeath : Option Note → (i : ℕ) → Type 0

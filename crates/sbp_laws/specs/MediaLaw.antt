@@ -98,17 +98,9 @@ told_due target t (said (notes.Got serial)) =
     told_at (receiver_in ((terms t.past).sent serial)) (list_any (λ push. push == serial) target.pushes)
 told_due target t moment = []
 
--- of the initiators that did not inject packets
-abbrev pub counts : (ℕ → Bool) → Note → Bool
-counts wild (notes.Unsolicited i) = not (wild i)
-counts wild (notes.Unsent i) = not (wild i)
-counts wild (notes.Told i) = not (wild i)
-counts wild note = true
+pub record HasPushes (disks : List Disk) (t : Turn) : Type 0 where
+  pub pushes : of_kind is_push_note t.rest ≡ push_notes (target_before disks t) (wire_after t) (logins_told (target_before disks t) t)
+  pub told : of_kind is_told_note t.rest ≡ told_due (target_before disks t) t t.start
 
-pub record HasPushes (wild : ℕ → Bool) (disks : List Disk) (t : Turn) : Type 0 where
-  pub pushes : of_kind (counts wild) (of_kind is_push_note t.rest)
-      ≡ of_kind (counts wild) (push_notes (target_before disks t) (wire_after t) (logins_told (target_before disks t) t))
-  pub told : of_kind (counts wild) (of_kind is_told_note t.rest) ≡ of_kind (counts wild) (told_due (target_before disks t) t t.start)
-
-abbrev pub MediaLaw : (ℕ → Bool) → List Disk → List Moment → Type 0
-MediaLaw wild disks past = EachTurn (HasPushes wild disks) past
+abbrev pub MediaLaw : List Disk → List Moment → Type 0
+MediaLaw disks past = EachTurn (HasPushes disks) past

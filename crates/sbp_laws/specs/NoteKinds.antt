@@ -1,8 +1,6 @@
 -- The notes of a kind among those of a turn.
-use Rattle.std.specs.Prelude.{ℕ, ◌||◌, not, Bool, true, false, List}
+use Rattle.std.specs.Prelude.{Bool, true, false, List}
 use Rattle.std.specs.List.{filter}
-use Rattle.orb_layout.specs.declared.status.StatusKind.{StatusKind}
-use Rattle.orb_layout.specs.declared.status.StatusKind.TheVariants as kinds
 use Rattle.sbp_journal.specs.declared.note.Note.{Note}
 use Rattle.sbp_journal.specs.declared.note.Note.TheVariants as notes
 
@@ -29,19 +27,6 @@ is_operation_note (notes.Op i operation word) = true
 is_operation_note (notes.Drop i n) = true
 is_operation_note (notes.Stuck i) = true
 is_operation_note _ = false
-
--- of an initiator that injected packets, the ends as failed and illegal, and the deaths; nothing of its operations
-abbrev pub is_fault : StatusKind → Bool
-is_fault kinds.Failed = true
-is_fault (kinds.Illegal meaning) = true
-is_fault _ = false
-
-abbrev pub counts : (ℕ → Bool) → Note → Bool
-counts wild (notes.Ended i list number status) = not (wild i) || is_fault status
-counts wild (notes.Op i operation word) = not (wild i)
-counts wild (notes.Drop i n) = not (wild i)
-counts wild (notes.Stuck i) = not (wild i)
-counts wild note = true
 
 abbrev pub of_kind : (Note → Bool) → List Note → List Note
 of_kind kind rest = filter kind rest

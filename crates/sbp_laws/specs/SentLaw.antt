@@ -6,7 +6,7 @@
 -- address, its length and its value. After each turn an ACTIVE agent has one main transaction under way and at most one read ahead, a
 -- management operation one request, a `rom` operation one read, and an agent is SUSPENDED only where its last ORB's status was answered, the
 -- next pointer last read is null, and no DOORBELL came since the read of it was sent.
-use Rattle.std.specs.Prelude.{◌≡◌, ℕ, zero, suc, ◌+◌, Bool, true, false, List, [], ◌∷◌, ◌++◌, map, reverse, Option, Some, None, IsSomeAnd}
+use Rattle.std.specs.Prelude.{◌≡◌, ℕ, zero, suc, Bool, true, false, List, [], ◌∷◌, ◌++◌, map, reverse, Option, Some, None, IsSomeAnd}
 use Rattle.orb_layout.specs.declared.pointer.OrbPointer.TheVariants.{Null}
 use Rattle.rbc_disk.specs.Disk.{Disk}
 use Rattle.command_agent.specs.Machine as agent
@@ -15,11 +15,10 @@ use Rattle.command_agent.specs.declared.step.AgentState.TheVariants as states
 use Rattle.mgmt_agent.specs.declared.operation.Operation.{Operation}
 use Rattle.sbp_journal.specs.Run.{Moment, said}
 use Rattle.sbp_journal.specs.Wire.{Terms, terms}
-use Rattle.sbp_laws.specs.Turns.{Turn, EachMoment, EachTurn}
+use Rattle.sbp_laws.specs.Turns.{Turn, Where, EachMoment, EachTurn}
 use Rattle.sbp_laws.specs.Packets.{is_under_way}
 use Rattle.sbp_laws.specs.Hosts.{host_at, Underway, is_rom}
-use Rattle.sbp_laws.specs.Targets.{Target, Agent, target_at, over}
-use Rattle.sbp_laws.specs.Agents.{initiator_at, initiator_with}
+use Rattle.sbp_laws.specs.Targets.{Agent, target_at, over}
 use Rattle.sbp_laws.specs.Budget.{initiators}
 use Rattle.sbp_laws.specs.SentPackets.{SentAt}
 use Rattle.sbp_laws.specs.SentAnswers.{AnswersLaw}
@@ -43,36 +42,29 @@ RunsBy states.Active wire a = Runs wire a.main
 RunsBy states.Suspended wire a = IsAtRest a
 RunsBy state wire a = Unit {0}
 
--- of the initiators that injected no packets
-abbrev pub AgentsRun : (ℕ → Bool) → Target → Terms → (place : ℕ) → List Agent → Type 0
-AgentsRun wild target wire place [] = Unit {0}
-AgentsRun wild target wire place (a ∷ agents) =
-    (wild (initiator_at target wire place) ≡ false → RunsBy (agent.state_in a.machine.phase) wire a) × AgentsRun wild target wire (place + 1) agents
+abbrev pub AgentsRun : Terms → List Agent → Type 0
+AgentsRun wire [] = Unit {0}
+AgentsRun wire (a ∷ agents) = RunsBy (agent.state_in a.machine.phase) wire a × AgentsRun wire agents
 
-abbrev pub ManagerRuns : (ℕ → Bool) → Option Operation → Terms → Option ℕ → Type 0
-ManagerRuns wild None wire serial = Unit {0}
-ManagerRuns wild (Some operation) wire serial = wild (initiator_with wire operation.source) ≡ false → Runs wire serial
-
--- a condition, where it counts
-abbrev pub Where : Bool → Type 0 → Type 0
-Where true holds = holds
-Where false holds = Unit {0}
+abbrev pub ManagerRuns : Option Operation → Terms → Option ℕ → Type 0
+ManagerRuns None wire serial = Unit {0}
+ManagerRuns (Some operation) wire serial = Runs wire serial
 
 abbrev pub RomRuns : Option Underway → Terms → Type 0
 RomRuns None wire = Unit {0}
 RomRuns (Some underway) wire = Where (is_rom (Some underway)) (is_under_way wire underway.latest ≡ true)
 
-abbrev pub RomsRun : (ℕ → Bool) → List Moment → (count : ℕ) → Type 0
-RomsRun wild past zero = Unit {0}
-RomsRun wild past (suc i) = (wild i ≡ false → RomRuns (host_at past i).operation (terms past)) × RomsRun wild past i
+abbrev pub RomsRun : List Moment → (count : ℕ) → Type 0
+RomsRun past zero = Unit {0}
+RomsRun past (suc i) = RomRuns (host_at past i).operation (terms past) × RomsRun past i
 
-pub record AfterTurn (wild : ℕ → Bool) (disks : List Disk) (t : Turn) : Type 0 where
-  pub agents : AgentsRun wild (over (target_at disks (end_of t))) (terms (end_of t)) 0 (over (target_at disks (end_of t))).agents
-  pub management : ManagerRuns wild (target_at disks (end_of t)).manager.operation (terms (end_of t)) (target_at disks (end_of t)).manages
-  pub roms : RomsRun wild (end_of t) (initiators (end_of t))
+pub record AfterTurn (disks : List Disk) (t : Turn) : Type 0 where
+  pub agents : AgentsRun (terms (end_of t)) (over (target_at disks (end_of t))).agents
+  pub management : ManagerRuns (target_at disks (end_of t)).manager.operation (terms (end_of t)) (target_at disks (end_of t)).manages
+  pub roms : RomsRun (end_of t) (initiators (end_of t))
 
-pub record SentLaw (wild : ℕ → Bool) (disks : List Disk) (past : List Moment) : Type 0 where
-  pub packets : EachMoment (SentAt wild) past
-  pub answers : EachTurn (AnswersLaw wild disks) past
-  pub requests : EachTurn (RequestsLaw wild disks) past
-  pub after : EachTurn (AfterTurn wild disks) past
+pub record SentLaw (disks : List Disk) (past : List Moment) : Type 0 where
+  pub packets : EachMoment SentAt past
+  pub answers : EachTurn (AnswersLaw disks) past
+  pub requests : EachTurn (RequestsLaw disks) past
+  pub after : EachTurn (AfterTurn disks) past

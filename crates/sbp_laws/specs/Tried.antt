@@ -1,18 +1,17 @@
 -- What the laws say of the journals of Journals.antt: of each law one that it accepts, and others that it refuses.
-use Rattle.std.specs.Prelude.{◌≡◌, [], ◌∷◌, None, Some, List, replicate, true, false, ◌++◌, not, Bool}
+use Rattle.std.specs.Prelude.{◌≡◌, [], ◌∷◌, None, Some, List, replicate, true, false, ◌++◌}
 use Rattle.orb_layout.specs.Pointers.{quad_bytes}
 use Rattle.rbc_disk.specs.Disk.{Disk}
 use Rattle.sbp_journal.specs.Run.{Moment, said}
 use Rattle.sbp_journal.specs.declared.note.Note.TheVariants as notes
-use Rattle.sbp_journal.specs.Wire.{terms}
-use Rattle.sbp_laws.specs.Agents.{finds_untold}
+use Rattle.sbp_laws.specs.Turns.{EachTurn}
 use Rattle.sbp_laws.specs.Lawful.{nobody, LawfulForOthers, Lawful}
 use Rattle.sbp_laws.specs.OnceLaw.{OnceLaw}
 use Rattle.sbp_laws.specs.OrderLaw.{OrderLaw}
 use Rattle.sbp_laws.specs.ExecutionLaw.{ExecutionLaw}
-use Rattle.sbp_laws.specs.StatusLaw.{StatusLaw}
+use Rattle.sbp_laws.specs.StatusLaw.{StatusLaw, TakesEach}
 use Rattle.sbp_laws.specs.AnswerLaw.{AnswerLaw}
-use Rattle.sbp_laws.specs.CarriedLaw.{CarriedLaw}
+use Rattle.sbp_laws.specs.CarriedLaw.{CarriedLaw, EndsAsRead, RunsWhereDue}
 use Rattle.sbp_laws.specs.CauseLaw.{CauseLaw}
 use Rattle.sbp_laws.specs.JudgementLaw.{JudgementLaw}
 use Rattle.sbp_laws.specs.LoginLaw.{LoginLaw}
@@ -117,66 +116,65 @@ pub record CarriedTried : Type 0 where
   pub read_too_early : CarriedLaw nobody journals.one_disk refused.read_too_early → ⊥
 
 pub record CauseTried : Type 0 where
-  pub accepts : CauseLaw nobody journals.one_disk journals.whole
-  pub dead_at_time_out : CauseLaw nobody journals.one_disk journals.dead_at_time_out
-  pub death_left_out : CauseLaw nobody journals.one_disk journals.death_left_out → ⊥
-  pub dead_twice : CauseLaw nobody journals.one_disk journals.dead_twice → ⊥
-  pub dead_at_an_orb : CauseLaw nobody journals.one_disk journals.dead_at_an_orb → ⊥
-  pub aborted_unasked : CauseLaw nobody journals.one_disk journals.aborted_unasked → ⊥
-  pub stuck_at_time_out : CauseLaw nobody journals.one_disk journals.stuck_at_time_out
-  pub stuck_left_out : CauseLaw nobody journals.one_disk journals.stuck_left_out → ⊥
-  pub state_ends : CauseLaw nobody journals.one_disk journals.state_ends_in_error
-  pub state_ends_well : CauseLaw nobody journals.one_disk journals.state_ends_well → ⊥
-  pub state_ends_never : CauseLaw nobody journals.one_disk journals.state_ends_never → ⊥
-  pub drops_at_reset : CauseLaw nobody journals.one_disk journals.drops_at_reset
-  pub drop_left_out : CauseLaw nobody journals.one_disk journals.drop_left_out → ⊥
-  pub unit_is_reset : CauseLaw nobody journals.one_disk (rare.unit_reset rare.unit_reset_notes)
-  pub cut_of_other_left_out : CauseLaw nobody journals.one_disk (rare.unit_reset (notes.Cleared 0 ∷ notes.Managed 0 functions.UnitReset 1 0 None ∷ [])) → ⊥
-  pub own_list_cut : CauseLaw nobody journals.one_disk (rare.unit_reset (notes.Cut 0 (Some 0) cuts.UnitReset ∷ notes.Cleared 0 ∷ notes.Managed 0 functions.UnitReset 1 0 None ∷ [])) → ⊥
-  pub cleared_left_out : CauseLaw nobody journals.one_disk (rare.unit_reset (notes.Cut 1 (Some 0) cuts.UnitReset ∷ notes.Managed 0 functions.UnitReset 1 0 None ∷ [])) → ⊥
-  pub abort_set_cuts : CauseLaw nobody journals.one_disk (rare.abort_set (notes.Cut 0 (Some 0) cuts.AbortSet ∷ []))
-  pub abort_set_cuts_not : CauseLaw nobody journals.one_disk (rare.abort_set []) → ⊥
-  pub logout_cuts : CauseLaw nobody journals.one_disk (rare.log_out (notes.Cut 0 (Some 0) cuts.Logout ∷ []))
-  pub logout_cuts_otherwise : CauseLaw nobody journals.one_disk (rare.log_out (notes.Cut 0 (Some 0) cuts.AbortSet ∷ [])) → ⊥
-  pub target_is_reset : CauseLaw nobody journals.one_disk (rare.target_reset (notes.Cut 0 (Some 0) cuts.TargetReset ∷ notes.Cleared 0 ∷ []))
-  pub target_reset_clears_not : CauseLaw nobody journals.one_disk (rare.target_reset (notes.Cut 0 (Some 0) cuts.TargetReset ∷ [])) → ⊥
-  pub agent_reset_cuts_not : CauseLaw nobody journals.one_disk refused.agent_reset_cuts_not → ⊥
-  pub agent_reset_drops_not : CauseLaw nobody journals.one_disk refused.agent_reset_drops_not → ⊥
-  pub operation_ends_otherwise : CauseLaw nobody journals.one_disk refused.operation_ends_otherwise → ⊥
-  pub reset_cuts_both : CauseLaw nobody journals.one_disk (rare.sees_reset (rare.cut_by_reset 0 ∷ rare.cut_by_reset 1 ∷ []))
-  pub reset_cuts_one : CauseLaw nobody journals.one_disk (rare.sees_reset (rare.cut_by_reset 0 ∷ [])) → ⊥
-  pub cuts_out_of_order : CauseLaw nobody journals.one_disk (rare.sees_reset (rare.cut_by_reset 1 ∷ rare.cut_by_reset 0 ∷ [])) → ⊥
-  pub dead_refused : CauseLaw nobody journals.one_disk (rare.orb_answered 7 [] (rare.dies_of causes.Refused kinds.Failed))
-  pub refusal_passes : CauseLaw nobody journals.one_disk (rare.orb_answered 7 [] []) → ⊥
-  pub refused_otherwise : CauseLaw nobody journals.one_disk (rare.orb_answered 7 [] (rare.dies_of causes.Grammar kinds.Failed)) → ⊥
-  pub dead_short : CauseLaw nobody journals.one_disk (rare.orb_answered 0 (quad_bytes (0 ∷ 0 ∷ 0 ∷ 0 ∷ 0 ∷ 0 ∷ [])) (rare.dies_of causes.Grammar kinds.Failed))
-  pub dead_short_otherwise : CauseLaw nobody journals.one_disk (rare.orb_answered 0 (quad_bytes (0 ∷ 0 ∷ 0 ∷ 0 ∷ 0 ∷ 0 ∷ [])) (rare.dies_of causes.Refused kinds.Failed)) → ⊥
-  pub dead_illegal : CauseLaw nobody journals.one_disk (rare.orb_answered 0 rare.format_1 (rare.dies_of causes.Grammar (kinds.Illegal 1)))
-  pub illegal_fails : CauseLaw nobody journals.one_disk (rare.orb_answered 0 rare.format_1 (rare.dies_of causes.Grammar kinds.Failed)) → ⊥
-  pub illegal_otherwise : CauseLaw nobody journals.one_disk (rare.orb_answered 0 rare.format_1 (rare.dies_of causes.Grammar (kinds.Illegal 3))) → ⊥
-  pub illegal_lives : CauseLaw nobody journals.one_disk (rare.orb_answered 0 rare.format_1 (notes.Ended 0 (Some 0) (Some 0) (kinds.Illegal 1) ∷ [])) → ⊥
-  pub dummy_lives : CauseLaw nobody journals.one_disk (rare.orb_answered 0 rare.dummy_bytes (notes.Ended 0 (Some 0) (Some 0) kinds.Dummy ∷ []))
-  pub dummy_dies : CauseLaw nobody journals.one_disk (rare.orb_answered 0 rare.dummy_bytes (rare.dies_of causes.Grammar kinds.Dummy)) → ⊥
-  pub management_times_out : CauseLaw nobody journals.one_disk (rare.management_times_out (rare.management_fails causes.Timeout))
-  pub management_goes_on : CauseLaw nobody journals.one_disk (rare.management_times_out []) → ⊥
-  pub management_fails_otherwise : CauseLaw nobody journals.one_disk (rare.management_times_out (rare.management_fails causes.Label)) → ⊥
-  pub management_refused : CauseLaw nobody journals.one_disk (rare.management_answered 7 [] (rare.management_fails causes.Refused))
-  pub management_refused_otherwise : CauseLaw nobody journals.one_disk (rare.management_answered 7 [] (rare.management_fails causes.Grammar)) → ⊥
-  pub management_short : CauseLaw nobody journals.one_disk (rare.management_answered 0 (quad_bytes (0 ∷ 0 ∷ 0 ∷ 0 ∷ 0 ∷ 0 ∷ [])) (rare.management_fails causes.Grammar))
-  pub management_short_otherwise : CauseLaw nobody journals.one_disk (rare.management_answered 0 (quad_bytes (0 ∷ 0 ∷ 0 ∷ 0 ∷ 0 ∷ 0 ∷ [])) (rare.management_fails causes.Refused)) → ⊥
-  pub aborted_left_out : CauseLaw nobody journals.one_disk refused.aborted_left_out → ⊥
-  pub aborts_behind_sight : CauseLaw nobody journals.one_disk runs.abort_behind_sight
-  pub aborted_left_out_behind_sight : CauseLaw nobody journals.one_disk refused.aborted_left_out_behind_sight → ⊥
-  pub aborts_behind_time_out : CauseLaw nobody journals.one_disk (runs.abort_behind_time_out 0)
-  pub aborted_of_another_line : CauseLaw nobody journals.one_disk (runs.abort_behind_time_out 1) → ⊥
-  pub dead_at_pointer : CauseLaw nobody journals.one_disk (refused.reread_times_out refused.dies_by)
-  pub pointer_ends_an_orb : CauseLaw nobody journals.one_disk (refused.reread_times_out (refused.dies_by ++ notes.Ended 0 (Some 0) (Some 0) kinds.Failed ∷ [])) → ⊥
-  pub status_ends_again : CauseLaw nobody journals.one_disk (refused.status_times_out (refused.dies_by ++ notes.Ended 0 (Some 0) (Some 0) kinds.Failed ∷ [])) → ⊥
-  pub untold_finds_no_label : CauseLaw nobody rare.untold_disk (rare.untold (rare.dies_of causes.Label kinds.Failed)) → ⊥
-  pub dead_label : CauseLaw nobody journals.one_disk (rare.labels_gone (rare.dies_of causes.Label kinds.Failed))
-  pub no_label_lives : CauseLaw nobody journals.one_disk (rare.labels_gone []) → ⊥
-  pub management_without_label : CauseLaw nobody journals.one_disk (rare.labels_gone_to_manager (rare.management_fails causes.Label))
-  pub management_waits_for_label : CauseLaw nobody journals.one_disk (rare.labels_gone_to_manager []) → ⊥
+  pub accepts : CauseLaw journals.one_disk journals.whole
+  pub dead_at_time_out : CauseLaw journals.one_disk journals.dead_at_time_out
+  pub death_left_out : CauseLaw journals.one_disk journals.death_left_out → ⊥
+  pub dead_twice : CauseLaw journals.one_disk journals.dead_twice → ⊥
+  pub dead_at_an_orb : CauseLaw journals.one_disk journals.dead_at_an_orb → ⊥
+  pub aborted_unasked : CauseLaw journals.one_disk journals.aborted_unasked → ⊥
+  pub stuck_at_time_out : CauseLaw journals.one_disk journals.stuck_at_time_out
+  pub stuck_left_out : CauseLaw journals.one_disk journals.stuck_left_out → ⊥
+  pub state_ends : CauseLaw journals.one_disk journals.state_ends_in_error
+  pub state_ends_well : CauseLaw journals.one_disk journals.state_ends_well → ⊥
+  pub state_ends_never : CauseLaw journals.one_disk journals.state_ends_never → ⊥
+  pub drops_at_reset : CauseLaw journals.one_disk journals.drops_at_reset
+  pub drop_left_out : CauseLaw journals.one_disk journals.drop_left_out → ⊥
+  pub unit_is_reset : CauseLaw journals.one_disk (rare.unit_reset rare.unit_reset_notes)
+  pub cut_of_other_left_out : CauseLaw journals.one_disk (rare.unit_reset (notes.Cleared 0 ∷ notes.Managed 0 functions.UnitReset 1 0 None ∷ [])) → ⊥
+  pub own_list_cut : CauseLaw journals.one_disk (rare.unit_reset (notes.Cut 0 (Some 0) cuts.UnitReset ∷ notes.Cleared 0 ∷ notes.Managed 0 functions.UnitReset 1 0 None ∷ [])) → ⊥
+  pub cleared_left_out : CauseLaw journals.one_disk (rare.unit_reset (notes.Cut 1 (Some 0) cuts.UnitReset ∷ notes.Managed 0 functions.UnitReset 1 0 None ∷ [])) → ⊥
+  pub abort_set_cuts : CauseLaw journals.one_disk (rare.abort_set (notes.Cut 0 (Some 0) cuts.AbortSet ∷ []))
+  pub abort_set_cuts_not : CauseLaw journals.one_disk (rare.abort_set []) → ⊥
+  pub logout_cuts : CauseLaw journals.one_disk (rare.log_out (notes.Cut 0 (Some 0) cuts.Logout ∷ []))
+  pub logout_cuts_otherwise : CauseLaw journals.one_disk (rare.log_out (notes.Cut 0 (Some 0) cuts.AbortSet ∷ [])) → ⊥
+  pub target_is_reset : CauseLaw journals.one_disk (rare.target_reset (notes.Cut 0 (Some 0) cuts.TargetReset ∷ notes.Cleared 0 ∷ []))
+  pub target_reset_clears_not : CauseLaw journals.one_disk (rare.target_reset (notes.Cut 0 (Some 0) cuts.TargetReset ∷ [])) → ⊥
+  pub agent_reset_cuts_not : CauseLaw journals.one_disk refused.agent_reset_cuts_not → ⊥
+  pub agent_reset_drops_not : CauseLaw journals.one_disk refused.agent_reset_drops_not → ⊥
+  pub operation_ends_otherwise : CauseLaw journals.one_disk refused.operation_ends_otherwise → ⊥
+  pub reset_cuts_both : CauseLaw journals.one_disk (rare.sees_reset (rare.cut_by_reset 0 ∷ rare.cut_by_reset 1 ∷ []))
+  pub reset_cuts_one : CauseLaw journals.one_disk (rare.sees_reset (rare.cut_by_reset 0 ∷ [])) → ⊥
+  pub cuts_out_of_order : CauseLaw journals.one_disk (rare.sees_reset (rare.cut_by_reset 1 ∷ rare.cut_by_reset 0 ∷ [])) → ⊥
+  pub dead_refused : CauseLaw journals.one_disk (rare.orb_answered 7 [] (rare.dies_of causes.Refused kinds.Failed))
+  pub refusal_passes : CauseLaw journals.one_disk (rare.orb_answered 7 [] []) → ⊥
+  pub refused_otherwise : CauseLaw journals.one_disk (rare.orb_answered 7 [] (rare.dies_of causes.Grammar kinds.Failed)) → ⊥
+  pub dead_short : CauseLaw journals.one_disk (rare.orb_answered 0 (quad_bytes (0 ∷ 0 ∷ 0 ∷ 0 ∷ 0 ∷ 0 ∷ [])) (rare.dies_of causes.Grammar kinds.Failed))
+  pub dead_short_otherwise : CauseLaw journals.one_disk (rare.orb_answered 0 (quad_bytes (0 ∷ 0 ∷ 0 ∷ 0 ∷ 0 ∷ 0 ∷ [])) (rare.dies_of causes.Refused kinds.Failed)) → ⊥
+  pub dead_illegal : CauseLaw journals.one_disk (rare.orb_answered 0 rare.format_1 (rare.dies_of causes.Grammar (kinds.Illegal 1)))
+  pub illegal_fails : CauseLaw journals.one_disk (rare.orb_answered 0 rare.format_1 (rare.dies_of causes.Grammar kinds.Failed)) → ⊥
+  pub illegal_otherwise : CauseLaw journals.one_disk (rare.orb_answered 0 rare.format_1 (rare.dies_of causes.Grammar (kinds.Illegal 3))) → ⊥
+  pub illegal_lives : CauseLaw journals.one_disk (rare.orb_answered 0 rare.format_1 (notes.Ended 0 (Some 0) (Some 0) (kinds.Illegal 1) ∷ [])) → ⊥
+  pub dummy_lives : CauseLaw journals.one_disk (rare.orb_answered 0 rare.dummy_bytes (notes.Ended 0 (Some 0) (Some 0) kinds.Dummy ∷ []))
+  pub dummy_dies : CauseLaw journals.one_disk (rare.orb_answered 0 rare.dummy_bytes (rare.dies_of causes.Grammar kinds.Dummy)) → ⊥
+  pub management_times_out : CauseLaw journals.one_disk (rare.management_times_out (rare.management_fails causes.Timeout))
+  pub management_goes_on : CauseLaw journals.one_disk (rare.management_times_out []) → ⊥
+  pub management_fails_otherwise : CauseLaw journals.one_disk (rare.management_times_out (rare.management_fails causes.Label)) → ⊥
+  pub management_refused : CauseLaw journals.one_disk (rare.management_answered 7 [] (rare.management_fails causes.Refused))
+  pub management_refused_otherwise : CauseLaw journals.one_disk (rare.management_answered 7 [] (rare.management_fails causes.Grammar)) → ⊥
+  pub management_short : CauseLaw journals.one_disk (rare.management_answered 0 (quad_bytes (0 ∷ 0 ∷ 0 ∷ 0 ∷ 0 ∷ 0 ∷ [])) (rare.management_fails causes.Grammar))
+  pub management_short_otherwise : CauseLaw journals.one_disk (rare.management_answered 0 (quad_bytes (0 ∷ 0 ∷ 0 ∷ 0 ∷ 0 ∷ 0 ∷ [])) (rare.management_fails causes.Refused)) → ⊥
+  pub aborted_left_out : CauseLaw journals.one_disk refused.aborted_left_out → ⊥
+  pub aborts_behind_sight : CauseLaw journals.one_disk runs.abort_behind_sight
+  pub aborted_left_out_behind_sight : CauseLaw journals.one_disk refused.aborted_left_out_behind_sight → ⊥
+  pub aborts_behind_time_out : CauseLaw journals.one_disk (runs.abort_behind_time_out 0)
+  pub dead_at_pointer : CauseLaw journals.one_disk (refused.reread_times_out refused.dies_by)
+  pub pointer_ends_an_orb : CauseLaw journals.one_disk (refused.reread_times_out (refused.dies_by ++ notes.Ended 0 (Some 0) (Some 0) kinds.Failed ∷ [])) → ⊥
+  pub status_ends_again : CauseLaw journals.one_disk (refused.status_times_out (refused.dies_by ++ notes.Ended 0 (Some 0) (Some 0) kinds.Failed ∷ [])) → ⊥
+  pub untold_finds_no_label : CauseLaw rare.untold_disk (rare.untold (rare.dies_of causes.Label kinds.Failed)) → ⊥
+  pub dead_label : CauseLaw journals.one_disk (rare.labels_gone (rare.dies_of causes.Label kinds.Failed))
+  pub no_label_lives : CauseLaw journals.one_disk (rare.labels_gone []) → ⊥
+  pub management_without_label : CauseLaw journals.one_disk (rare.labels_gone_to_manager (rare.management_fails causes.Label))
+  pub management_waits_for_label : CauseLaw journals.one_disk (rare.labels_gone_to_manager []) → ⊥
 
 pub record JudgementTried : Type 0 where
   pub accepts : JudgementLaw journals.one_disk journals.whole
@@ -225,65 +223,63 @@ pub record LoginTried : Type 0 where
   pub other_function : LoginLaw journals.one_disk refused.other_function → ⊥
 
 pub record SentTried : Type 0 where
-  pub accepts : SentLaw nobody journals.one_disk journals.whole
-  pub unanswered : SentLaw nobody journals.one_disk journals.unanswered → ⊥
-  pub answered_twice : SentLaw nobody journals.one_disk journals.answered_twice → ⊥
-  pub answered_otherwise : SentLaw nobody journals.one_disk journals.answered_otherwise → ⊥
-  pub not_fetched : SentLaw nobody journals.one_disk journals.not_fetched → ⊥
-  pub fetched_elsewhere : SentLaw nobody journals.one_disk journals.fetched_elsewhere → ⊥
-  pub linked_too_early : SentLaw nobody journals.one_disk (journals.served_linked 0 0x10000040) → ⊥
-  pub resting_label : SentLaw nobody journals.one_disk (journals.asks_again 0) → ⊥
-  pub other_src : SentLaw nobody journals.one_disk journals.status_src_0 → ⊥
-  pub status_unsent : SentLaw nobody journals.one_disk journals.status_unsent → ⊥
-  pub nothing_read_ahead : SentLaw nobody journals.one_disk journals.reads_nothing_ahead → ⊥
-  pub doorbell_ignored : SentLaw nobody journals.one_disk journals.doorbell_ignored → ⊥
-  pub other_place : SentLaw nobody journals.one_disk (journals.responds 0xfffff0040020) → ⊥
-  pub serial_left_out : SentLaw nobody journals.one_disk (refused.appends_as 2 0 journals.pointer_packet) → ⊥
-  pub other_generation : SentLaw nobody journals.one_disk (refused.appends_as 1 1 journals.pointer_packet) → ⊥
-  pub other_retry : SentLaw nobody journals.one_disk (refused.appends_as 1 0 (refused.pointer_by 0 journals.first_id 0 0xfffff0040008)) → ⊥
-  pub other_source : SentLaw nobody journals.one_disk (refused.appends_as 1 0 (refused.pointer_by 1 journals.second_id 0 0xfffff0040008)) → ⊥
-  pub higher_label : SentLaw nobody journals.one_disk (refused.appends_as 1 0 (refused.pointer_by 1 journals.first_id 1 0xfffff0040008)) → ⊥
-  pub other_register : SentLaw nobody journals.one_disk (refused.appends_as 1 0 (refused.pointer_by 1 journals.first_id 0 0xfffff0040010)) → ⊥
-  pub other_value : SentLaw nobody journals.one_disk (refused.appends_as 1 0 (refused.points_to 0x10000040)) → ⊥
-  pub other_number : SentLaw nobody journals.one_disk (refused.rings_with 2) → ⊥
-  pub other_state : SentLaw nobody journals.one_disk (refused.reads_state 1) → ⊥
-  pub conflict_left_out : SentLaw nobody journals.one_disk (refused.second_manages 0) → ⊥
-  pub dummy_served_plain : SentLaw nobody journals.one_disk (refused.serves_dummy (refused.plain_bytes 0x82900000)) → ⊥
-  pub other_table : SentLaw nobody journals.one_disk refused.other_table → ⊥
-  pub other_data : SentLaw nobody journals.one_disk refused.other_data_served → ⊥
-  pub chunk_elsewhere : SentLaw nobody journals.one_disk refused.chunk_elsewhere → ⊥
-  pub chunk_too_long : SentLaw nobody journals.one_disk refused.chunk_too_long → ⊥
-  pub other_rom : SentLaw nobody journals.one_disk (refused.reads_rom 0) → ⊥
-  pub rom_not_read_on : SentLaw nobody journals.one_disk (said (notes.Got 2) ∷ refused.reads_rom 0) → ⊥
-  pub other_management_orb : SentLaw nobody journals.one_disk refused.other_management_orb → ⊥
-  pub eui_not_read : SentLaw nobody journals.one_disk (said (notes.Got 4) ∷ journals.told journals.reads_login) → ⊥
-  pub management_status_elsewhere : SentLaw nobody journals.one_disk refused.management_status_elsewhere → ⊥
-  pub pointer_read_whole : SentLaw nobody journals.one_disk (refused.rereads_by 32) → ⊥
-  pub status_unasked : SentLaw nobody journals.one_disk refused.status_unasked → ⊥
-  pub status_elsewhere : SentLaw nobody journals.one_disk (refused.sends_behind_end (refused.block_packet 0x13000020 0x41000000 0x10000000) []) → ⊥
-  pub status_of_another : SentLaw nobody journals.one_disk (refused.sends_behind_end (refused.block_packet 0x13000000 0x41000000 0x10000040) []) → ⊥
-  pub reads_ahead_at_null : SentLaw nobody journals.one_disk (refused.sends_behind_end (journals.status_packet 0x41000000) (notes.Sent 6 0 0 1 (journals.fetch_packet 1 0) ∷ [])) → ⊥
-  pub untold_elsewhere : SentLaw nobody rare.untold_disk (rare.untold (notes.Sent 5 0 0 1 (rare.block_packet 0x11000040 rare.some_block) ∷ [])) → ⊥
-  pub ahead_past_its_reserve : SentLaw nobody journals.one_disk (refused.checked_beside 48 (refused.fetches_ahead ∷ [])) → ⊥
-  pub ahead_within_reserve_left_out : SentLaw nobody journals.one_disk (refused.checked_beside 47 []) → ⊥
-  pub untold_finds : (dies : Bool) → finds_untold (terms (journals.told journals.begins)) 1 dies rare.some_chunk ≡ true
-  pub untold_finds_none : (dies : Bool) → finds_untold (terms (rare.labels_gone [])) 1 dies rare.some_chunk ≡ false
-  pub untold_may_find : (dies : Bool) → finds_untold (terms rare.one_label_left) 1 dies rare.some_chunk ≡ not dies
+  pub accepts : SentLaw journals.one_disk journals.whole
+  pub unanswered : SentLaw journals.one_disk journals.unanswered → ⊥
+  pub answered_twice : SentLaw journals.one_disk journals.answered_twice → ⊥
+  pub answered_otherwise : SentLaw journals.one_disk journals.answered_otherwise → ⊥
+  pub not_fetched : SentLaw journals.one_disk journals.not_fetched → ⊥
+  pub fetched_elsewhere : SentLaw journals.one_disk journals.fetched_elsewhere → ⊥
+  pub linked_too_early : SentLaw journals.one_disk (journals.served_linked 0 0x10000040) → ⊥
+  pub resting_label : SentLaw journals.one_disk (journals.asks_again 0) → ⊥
+  pub other_src : SentLaw journals.one_disk journals.status_src_0 → ⊥
+  pub status_unsent : SentLaw journals.one_disk journals.status_unsent → ⊥
+  pub nothing_read_ahead : SentLaw journals.one_disk journals.reads_nothing_ahead → ⊥
+  pub doorbell_ignored : SentLaw journals.one_disk journals.doorbell_ignored → ⊥
+  pub other_place : SentLaw journals.one_disk (journals.responds 0xfffff0040020) → ⊥
+  pub serial_left_out : SentLaw journals.one_disk (refused.appends_as 2 0 journals.pointer_packet) → ⊥
+  pub other_generation : SentLaw journals.one_disk (refused.appends_as 1 1 journals.pointer_packet) → ⊥
+  pub other_retry : SentLaw journals.one_disk (refused.appends_as 1 0 (refused.pointer_by 0 journals.first_id 0 0xfffff0040008)) → ⊥
+  pub other_source : SentLaw journals.one_disk (refused.appends_as 1 0 (refused.pointer_by 1 journals.second_id 0 0xfffff0040008)) → ⊥
+  pub higher_label : SentLaw journals.one_disk (refused.appends_as 1 0 (refused.pointer_by 1 journals.first_id 1 0xfffff0040008)) → ⊥
+  pub other_register : SentLaw journals.one_disk (refused.appends_as 1 0 (refused.pointer_by 1 journals.first_id 0 0xfffff0040010)) → ⊥
+  pub other_value : SentLaw journals.one_disk (refused.appends_as 1 0 (refused.points_to 0x10000040)) → ⊥
+  pub other_number : SentLaw journals.one_disk (refused.rings_with 2) → ⊥
+  pub other_state : SentLaw journals.one_disk (refused.reads_state 1) → ⊥
+  pub conflict_left_out : SentLaw journals.one_disk (refused.second_manages 0) → ⊥
+  pub dummy_served_plain : SentLaw journals.one_disk (refused.serves_dummy (refused.plain_bytes 0x82900000)) → ⊥
+  pub other_table : SentLaw journals.one_disk refused.other_table → ⊥
+  pub other_data : SentLaw journals.one_disk refused.other_data_served → ⊥
+  pub chunk_elsewhere : SentLaw journals.one_disk refused.chunk_elsewhere → ⊥
+  pub chunk_too_long : SentLaw journals.one_disk refused.chunk_too_long → ⊥
+  pub other_rom : SentLaw journals.one_disk (refused.reads_rom 0) → ⊥
+  pub rom_not_read_on : SentLaw journals.one_disk (said (notes.Got 2) ∷ refused.reads_rom 0) → ⊥
+  pub other_management_orb : SentLaw journals.one_disk refused.other_management_orb → ⊥
+  pub eui_not_read : SentLaw journals.one_disk (said (notes.Got 4) ∷ journals.told journals.reads_login) → ⊥
+  pub management_status_elsewhere : SentLaw journals.one_disk refused.management_status_elsewhere → ⊥
+  pub pointer_read_whole : SentLaw journals.one_disk (refused.rereads_by 32) → ⊥
+  pub status_unasked : SentLaw journals.one_disk refused.status_unasked → ⊥
+  pub status_elsewhere : SentLaw journals.one_disk (refused.sends_behind_end (refused.block_packet 0x13000020 0x41000000 0x10000000) []) → ⊥
+  pub status_of_another : SentLaw journals.one_disk (refused.sends_behind_end (refused.block_packet 0x13000000 0x41000000 0x10000040) []) → ⊥
+  pub reads_ahead_at_null : SentLaw journals.one_disk (refused.sends_behind_end (journals.status_packet 0x41000000) (notes.Sent 6 0 0 1 (journals.fetch_packet 1 0) ∷ [])) → ⊥
+  pub untold_elsewhere : SentLaw rare.untold_disk (rare.untold (notes.Sent 5 0 0 1 (rare.block_packet 0x11000040 rare.some_block) ∷ [])) → ⊥
+  pub aborted_of_another_line : SentLaw journals.one_disk (runs.abort_behind_time_out 1) → ⊥
+  pub ahead_past_its_reserve : SentLaw journals.one_disk (refused.checked_beside 48 (refused.fetches_ahead ∷ [])) → ⊥
+  pub ahead_within_reserve_left_out : SentLaw journals.one_disk (refused.checked_beside 47 []) → ⊥
 
 pub record MediaTried : Type 0 where
-  pub unsolicited : MediaLaw nobody journals.empty_bay (journals.loads_enabled (notes.Unsolicited 1))
-  pub none_enabled : MediaLaw nobody journals.empty_bay (journals.loads_disabled [])
-  pub unsent : MediaLaw nobody journals.empty_bay (journals.loads_enabled (notes.Unsent 1)) → ⊥
-  pub unasked : MediaLaw nobody journals.empty_bay (journals.loads_disabled (said (notes.Unsolicited 1) ∷ [])) → ⊥
-  pub push_left_out : MediaLaw nobody journals.empty_bay (journals.told (journals.two_begin ++ (journals.enables ++ journals.loads))) → ⊥
-  pub told_once : MediaLaw nobody rare.two_discs (refused.loads_again [])
-  pub told_once_more : MediaLaw nobody rare.two_discs (refused.loads_again (notes.Unsolicited 1 ∷ [])) → ⊥
-  pub one_under_way : MediaLaw nobody rare.two_discs (refused.loads_under_way (notes.Unsent 1 ∷ []))
-  pub two_under_way : MediaLaw nobody rare.two_discs (refused.loads_under_way (notes.Unsolicited 1 ∷ [])) → ⊥
-  pub both_told : MediaLaw nobody journals.empty_bay (refused.tells_both (notes.Unsolicited 1 ∷ notes.Unsolicited 2 ∷ []))
-  pub told_out_of_order : MediaLaw nobody journals.empty_bay (refused.tells_both (notes.Unsolicited 2 ∷ notes.Unsolicited 1 ∷ [])) → ⊥
-  pub told_left_out : MediaLaw nobody journals.empty_bay refused.told_left_out → ⊥
-  pub told_of_a_status : MediaLaw nobody journals.one_disk (rare.behind journals.till_status (notes.Got 5 ∷ notes.Told 0 ∷ [])) → ⊥
+  pub unsolicited : MediaLaw journals.empty_bay (journals.loads_enabled (notes.Unsolicited 1))
+  pub none_enabled : MediaLaw journals.empty_bay (journals.loads_disabled [])
+  pub unsent : MediaLaw journals.empty_bay (journals.loads_enabled (notes.Unsent 1)) → ⊥
+  pub unasked : MediaLaw journals.empty_bay (journals.loads_disabled (said (notes.Unsolicited 1) ∷ [])) → ⊥
+  pub push_left_out : MediaLaw journals.empty_bay (journals.told (journals.two_begin ++ (journals.enables ++ journals.loads))) → ⊥
+  pub told_once : MediaLaw rare.two_discs (refused.loads_again [])
+  pub told_once_more : MediaLaw rare.two_discs (refused.loads_again (notes.Unsolicited 1 ∷ [])) → ⊥
+  pub one_under_way : MediaLaw rare.two_discs (refused.loads_under_way (notes.Unsent 1 ∷ []))
+  pub two_under_way : MediaLaw rare.two_discs (refused.loads_under_way (notes.Unsolicited 1 ∷ [])) → ⊥
+  pub both_told : MediaLaw journals.empty_bay (refused.tells_both (notes.Unsolicited 1 ∷ notes.Unsolicited 2 ∷ []))
+  pub told_out_of_order : MediaLaw journals.empty_bay (refused.tells_both (notes.Unsolicited 2 ∷ notes.Unsolicited 1 ∷ [])) → ⊥
+  pub told_left_out : MediaLaw journals.empty_bay refused.told_left_out → ⊥
+  pub told_of_a_status : MediaLaw journals.one_disk (rare.behind journals.till_status (notes.Got 5 ∷ notes.Told 0 ∷ [])) → ⊥
 
 pub record ActionTried : Type 0 where
   pub accepts : ActionLaw journals.one_disk journals.whole_entries
@@ -339,11 +335,14 @@ pub record KeepsLaws (start : List Disk) (past : List Moment) : Type 0 where
   pub status : StatusLaw nobody past
   pub answer : AnswerLaw nobody start past
   pub carried : CarriedLaw nobody start past
-  pub cause : CauseLaw nobody start past
+  pub runs : EachTurn (RunsWhereDue nobody start) past
+  pub runs_end : EachTurn (EndsAsRead start) past
+  pub takes : EachTurn (TakesEach nobody) past
+  pub cause : CauseLaw start past
   pub judgement : JudgementLaw start past
   pub login : LoginLaw start past
-  pub sent : SentLaw nobody start past
-  pub media : MediaLaw nobody start past
+  pub sent : SentLaw start past
+  pub media : MediaLaw start past
 
 pub record RunsTried : Type 0 where
   pub capacity : KeepsLaws journals.one_disk runs.capacity_told

@@ -16,6 +16,11 @@ pub record Turn : Type 0 where
 abbrev pub turn : List Moment → Moment → List Note → Turn
 turn past start rest = record { past = past; start = start; rest = rest }
 
+-- a condition, where it counts
+abbrev pub Where : Bool → Type 0 → Type 0
+Where true holds = holds
+Where false holds = Unit {0}
+
 -- ---- each moment of a history meets a condition on it and on what stood before it
 module _ (At : Moment → List Moment → Type 0) where
   abbrev pub EachMoment : List Moment → Type 0

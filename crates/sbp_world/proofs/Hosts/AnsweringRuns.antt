@@ -98,10 +98,8 @@ module _ {past : List Moment} {lines : ℕ} (s : Scene) (sound : Sound past line
     response = response;
     is = sends.shows s sound i inside serial again told gets own_reply packets_are;
     due = due;
-    law = λ wild disks. record {
-      begins = λ e.
-          let rest = in_order (response ∷ effects) [] in
-          subst (λ xs. Begins xs (sends_of rest)) (sym (due disks rest))
-          (subst (Begins (response ∷ [])) (sym (sends_last effects (response ∷ []) none)) (refl, tt));
-    };
+    law = λ disks.
+        let rest = in_order (response ∷ effects) [] in
+        subst (λ xs. Begins xs (sends_of rest)) (sym (due disks rest))
+        (subst (Begins (response ∷ [])) (sym (sends_last effects (response ∷ []) none)) (refl, tt));
   }

@@ -56,7 +56,7 @@ pub record IsAnswered (past : List Moment) (serial : ℕ) (now : List Moment) : 
   pub response : Note
   pub is : now ≡ said response ∷ (map said effects ++ said (notes.Got serial) ∷ past)
   pub due : (disks : List Disk) (rest : List Note) → answers_to disks (turn past (said (notes.Got serial)) rest) ((terms past).sent serial) ≡ response ∷ []
-  pub law : (wild : ℕ → Bool) (disks : List Disk) → AnswersLaw wild disks (turn past (said (notes.Got serial)) (in_order (response ∷ effects) []))
+  pub law : (disks : List Disk) → AnswersLaw disks (turn past (said (notes.Got serial)) (in_order (response ∷ effects) []))
 
 -- the lines that deliver packets, behind some of their deliveries
 abbrev pub IsDelivering : Event → List (Option Told) → Type 0

@@ -1,0 +1,11 @@
+pub mod Alike
+pub mod Histories
+pub mod NotesByKind
+pub mod Runs
+pub mod Ends
+pub mod Takings
+pub mod Packets
+pub mod Turned
+pub mod Settling
+pub mod Lines
+pub mod Journal
