@@ -20,11 +20,11 @@ use Rattle.sbp_journal.specs.declared.note.Note.TheVariants as notes
 use Rattle.sbp_journal.specs.declared.operation.FunctionWord.TheVariants as functions
 use Rattle.sbp_journal.specs.declared.operation.Operation.TheVariants as operations
 use Rattle.sbp_journal.specs.declared.operation.OpWord.TheVariants as words
-use Rattle.sbp_laws.specs.Journals.{told, begins, appends_first, appended, resets, till_pointer, till_orb, till_status, points_agent, takes_status, ran, ended, two_appended, comes_again, rings_suspended, links_second, state_packet, target_id, first_id, second_id, header, to_target, to_first, done_by_target, done_by_first, fetch_packet, orb_packet, pointer_packet, status_packet, test_ready, ready_block, capacity_block, block_of, write_block_0, two_begin, enables, loads, reads_login, begin_entry, append_entry, entry}
+use Rattle.sbp_laws.specs.Journals.{told, begins, appends_first, appended, resets, till_pointer, till_orb, till_status, points_agent, takes_status, ran, ended, two_appended, comes_again, rings_suspended, links_second, state_packet, target_id, first_id, second_id, header, to_target, to_first, done_by_target, done_by_first, fetch_packet, orb_packet, pointer_packet, status_packet, test_ready, ready_block, capacity_block, login_orb, block_of, write_block_0, two_begin, enables, loads, reads_login, begin_entry, append_entry, entry}
 use Rattle.sbp_laws.specs.WorkedRuns as runs
 use Rattle.sbp_laws.specs.WorkedRuns.{till_capacity}
 use Rattle.sbp_laws.specs.RareRuns as rare
-use Rattle.sbp_laws.specs.RareRuns.{behind, from_second, to_second, read_block_0, reads_block, untold_disk}
+use Rattle.sbp_laws.specs.RareRuns.{behind, from_second, to_second, read_block_0, reads_block, starts_login, untold_disk}
 
 -- a run without its latest moments, and with these notes instead
 abbrev pub instead : (count : ℕ) → List Moment → List Note → List Moment
@@ -369,6 +369,23 @@ abbrev pub chunk_otherwise : List Moment
 chunk_otherwise =
     told (till_capacity ++ said (notes.Got 4) ∷ said (notes.Ran 0 (Some 0) (Some 0) 0 capacity_block [] None)
     ∷ said (notes.Sent 5 0 0 1 (canon (write_block (to_first 0) 0x11000000 (quad_bytes (0 ∷ 0xdeadbeef ∷ []))))) ∷ [])
+
+-- ---- a second write of ORB_POINTER while the agent is ACTIVE, and its answer
+abbrev pub points_again : (rcode : ℕ) → List Moment
+points_again rcode =
+    told (till_pointer ++ (points_agent ++ said (notes.Got 2)
+    ∷ said (notes.Sent 4 0 1 0 (canon (write_block (to_target 1) 0xfffff0040008 (quad_bytes (0 ∷ 0x10000000 ∷ [])))))
+    ∷ said (notes.Got 4) ∷ said (notes.Sent 5 0 0 1 (done_by_target 1 rcode)) ∷ []))
+
+-- ---- a good ORB makes the agent dead; and a login fails though its ORB came
+abbrev pub good_orb_dies : List Note
+good_orb_dies = notes.Dead 0 (Some 0) causes.Grammar ∷ notes.Ended 0 (Some 0) (Some 0) (kinds.Illegal 0xff) ∷ []
+
+abbrev pub good_login_fails : List Note
+good_login_fails = notes.ManageFailed 0 causes.Grammar ∷ []
+
+abbrev pub login_read : List Moment
+login_read = starts_login ++ asked 4 (events.Deliver 3) ∷ said (notes.Got 3) ∷ said (notes.Sent 4 0 1 0 (canon (read_block_response (to_target 0) 0 (management_bytes login_orb)))) ∷ []
 
 -- ---- initiator 0 injects a read of the target's ROM: behind the answer the target sends more to initiator 1, or not
 abbrev pub rom_read : List ℕ

@@ -4,7 +4,9 @@ use Rattle.orb_layout.specs.Pointers.{quad_bytes}
 use Rattle.rbc_disk.specs.Disk.{Disk}
 use Rattle.sbp_journal.specs.Run.{Moment, history, said}
 use Rattle.sbp_journal.specs.declared.note.Note.TheVariants as notes
-use Rattle.sbp_laws.specs.Turns.{EachTurn}
+use Rattle.sbp_laws.specs.Turns.{EachTurn, turn}
+use Rattle.sbp_laws.specs.Targets.{target_at}
+use Rattle.sbp_laws.specs.Deaths.{illegal_in, DeathsHaveRows, FailuresHaveRows, IllegalsHaveCodes}
 use Rattle.sbp_laws.specs.Lawful.{nobody, LawfulForOthers, Lawful}
 use Rattle.sbp_laws.specs.OnceLaw.{OnceLaw}
 use Rattle.sbp_laws.specs.OrderLaw.{OrderLaw}
@@ -171,6 +173,9 @@ pub record CauseTried : Type 0 where
   pub pointer_ends_an_orb : CauseLaw journals.one_disk (refused.reread_times_out (refused.dies_by ++ notes.Ended 0 (Some 0) (Some 0) kinds.Failed ∷ [])) → ⊥
   pub status_ends_again : CauseLaw journals.one_disk (refused.status_times_out (refused.dies_by ++ notes.Ended 0 (Some 0) (Some 0) kinds.Failed ∷ [])) → ⊥
   pub untold_finds_no_label : CauseLaw rare.untold_disk (rare.untold (rare.dies_of causes.Label kinds.Failed)) → ⊥
+  pub good_orb_dies : DeathsHaveRows journals.one_disk (turn (journals.told journals.till_orb) (said (notes.Got 4)) refused.good_orb_dies) refused.good_orb_dies → ⊥
+  pub good_orb_illegal : IllegalsHaveCodes (illegal_in journals.one_disk (turn (journals.told journals.till_orb) (said (notes.Got 4)) refused.good_orb_dies)) refused.good_orb_dies → ⊥
+  pub good_login_fails : FailuresHaveRows (target_at journals.one_disk (journals.told refused.login_read)) (turn (journals.told refused.login_read) (said (notes.Got 4)) refused.good_login_fails) refused.good_login_fails → ⊥
   pub dead_label : CauseLaw journals.one_disk (rare.labels_gone (rare.dies_of causes.Label kinds.Failed))
   pub no_label_lives : CauseLaw journals.one_disk (rare.labels_gone []) → ⊥
   pub management_without_label : CauseLaw journals.one_disk (rare.labels_gone_to_manager (rare.management_fails causes.Label))
@@ -264,6 +269,7 @@ pub record SentTried : Type 0 where
   pub untold_elsewhere : SentLaw rare.untold_disk (rare.untold (notes.Sent 5 0 0 1 (rare.block_packet 0x11000040 rare.some_block) ∷ [])) → ⊥
   pub aborted_of_another_line : SentLaw journals.one_disk (runs.abort_behind_time_out 1) → ⊥
   pub chunk_otherwise : SentLaw journals.one_disk refused.chunk_otherwise → ⊥
+  pub pointer_taken_in_active : SentLaw journals.one_disk (refused.points_again 0) → ⊥
   pub ahead_past_its_reserve : SentLaw journals.one_disk (refused.checked_beside 48 (refused.fetches_ahead ∷ [])) → ⊥
   pub ahead_within_reserve_left_out : SentLaw journals.one_disk (refused.checked_beside 47 []) → ⊥
 
