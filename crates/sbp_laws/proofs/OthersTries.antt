@@ -1,14 +1,16 @@
 -- The runs of a wild initiator that the laws for the others were tried on.
 use Rattle.std.proofs.Common.{◌≤◌, [], ◌∷◌, ◌++◌, refl, inr, arith}
-use Rattle.std.specs.Prelude.{None, true}
+use Rattle.std.specs.Prelude.{None, Some, true, slice_index_or}
+use Rattle.rbc_command.specs.SenseData.{no_command}
 use Rattle.sbp_journal.specs.Run.{history}
 use Rattle.orb_layout.specs.StatusBlocks.{status_bytes}
-use Rattle.async_packet.specs.Packet.{write_block, write_response, read_block, read_block_response}
+use Rattle.async_packet.specs.Packet.{write_block, write_response, read_block, read_block_response, read_quadlet_response}
 use Rattle.async_packet.specs.Canon.{canon}
 use Rattle.sbp_laws.specs.Turns.{EachMoment, EachTurn}
 use Rattle.sbp_laws.specs.Lawful.{FormAt, Lawful, LawfulForOthers, injectors, nobody}
 use Rattle.sbp_laws.specs.Journals as journals
 use Rattle.sbp_laws.specs.RareRuns as rare
+use Rattle.sbp_laws.specs.Refused as refused
 use Rattle.sbp_laws.specs.Tried.{OthersTried}
 use Rattle.sbp_laws.specs.OnceLaw.{OnceLaw}
 use Rattle.sbp_laws.specs.OrderLaw.{OrderLaw}
@@ -24,7 +26,7 @@ use Rattle.sbp_laws.specs.ActionLaw.{ActionLaw}
 use Rattle.sbp_laws.specs.SentPackets.{SentAt}
 use Rattle.sbp_laws.specs.SentAnswers.{AnswersLaw}
 use Rattle.sbp_laws.specs.SentRequests.{RequestsLaw}
-use Rattle.sbp_laws.specs.SentLaw.{AfterTurn}
+use Rattle.sbp_laws.specs.SentLaw.{AfterTurn, SentLaw}
 use Rattle.sbp_laws.proofs.Forms.{typed}
 use Rattle.async_packet.specs.Reading.{reading}
 use Rattle.async_packet.specs.Faults.{fault_of}
@@ -44,6 +46,7 @@ use Rattle.rbc_disk.specs.Disk.{blank_bytes}
 use Rattle.orb_layout.specs.StatusBlocks.{command_kind}
 use Rattle.page_table.specs.Elements.{elements_from}
 use Rattle.config_rom.specs.Make.{made}
+use Rattle.config_rom.specs.Sum.{sum_of, low_bits}
 use Rattle.media_bay.specs.Unsolicited.{block_head}
 use Rattle.mgmt_agent.specs.Decisions.{decide, reads_eui, live_login, response_bytes}
 use Rattle.mgmt_agent.specs.Machine.{start_step, reply_step as reply_step_of_manager, decide_step}
@@ -86,7 +89,7 @@ dies_carried = record { carried = (tt, (tt, (tt, (tt, (tt, (tt, (tt, (tt, (tt, (
 
 dies_cause : CauseLaw (rare.wild_run rare.wild_dies).start (history (rare.wild_run rare.wild_dies).entries)
 unfolding reading fault_of tcode_of header_of offset_of rcode_of value_of length_of extended_of three four part_of is_to is_same asked_by begun_by belongs start_at lowest_from label_for free_from count_flying lowest_flying label_of with_label is_write kind_of slot_of window_at is_fifo point_step doorbell_step reset_step abort_step reply_step lost_step refusal verdict request_of check_of blank_bytes command_kind elements_from made block_head decide reads_eui live_login response_bytes start_step reply_step_of_manager decide_step fresh_id left_for enter_step back_step leave_step
-dies_cause = record { causes = (record { cuts = refl; cleared = refl; ends = refl; deaths = tt; faults = tt; failures = refl; operations = refl; unserved = tt }, (record { cuts = refl; cleared = refl; ends = refl; deaths = tt; faults = tt; failures = refl; operations = refl; unserved = tt }, (record { cuts = refl; cleared = refl; ends = refl; deaths = tt; faults = tt; failures = refl; operations = refl; unserved = tt }, (record { cuts = refl; cleared = refl; ends = refl; deaths = (refl, tt); faults = (refl, tt); failures = refl; operations = refl; unserved = tt }, (record { cuts = refl; cleared = refl; ends = refl; deaths = tt; faults = tt; failures = refl; operations = refl; unserved = tt }, (record { cuts = refl; cleared = refl; ends = refl; deaths = tt; faults = tt; failures = refl; operations = refl; unserved = tt }, (record { cuts = refl; cleared = refl; ends = refl; deaths = tt; faults = tt; failures = refl; operations = refl; unserved = tt }, (record { cuts = refl; cleared = refl; ends = refl; deaths = tt; faults = tt; failures = refl; operations = refl; unserved = tt }, (record { cuts = refl; cleared = refl; ends = refl; deaths = tt; faults = tt; failures = refl; operations = refl; unserved = tt }, (record { cuts = refl; cleared = refl; ends = refl; deaths = tt; faults = tt; failures = refl; operations = refl; unserved = tt }, tt)))))))))); aborted = (tt, (tt, (tt, (tt, (tt, (tt, (tt, (tt, (tt, (tt, (tt, (tt, (tt, (tt, (tt, (tt, (tt, (tt, (tt, (tt, tt)))))))))))))))))))) }
+dies_cause = record { causes = (record { cuts = refl; cleared = refl; ends = refl; deaths = tt; faults = tt; failures = refl; operations = refl; unserved = tt; codes = tt; failing = tt; once = refl }, (record { cuts = refl; cleared = refl; ends = refl; deaths = tt; faults = tt; failures = refl; operations = refl; unserved = tt; codes = tt; failing = tt; once = refl }, (record { cuts = refl; cleared = refl; ends = refl; deaths = tt; faults = tt; failures = refl; operations = refl; unserved = tt; codes = tt; failing = tt; once = refl }, (record { cuts = refl; cleared = refl; ends = refl; deaths = (refl, tt); faults = (refl, tt); failures = refl; operations = refl; unserved = tt; codes = tt; failing = tt; once = refl }, (record { cuts = refl; cleared = refl; ends = refl; deaths = tt; faults = tt; failures = refl; operations = refl; unserved = tt; codes = tt; failing = tt; once = refl }, (record { cuts = refl; cleared = refl; ends = refl; deaths = tt; faults = tt; failures = refl; operations = refl; unserved = tt; codes = tt; failing = tt; once = refl }, (record { cuts = refl; cleared = refl; ends = refl; deaths = tt; faults = tt; failures = refl; operations = refl; unserved = tt; codes = tt; failing = tt; once = refl }, (record { cuts = refl; cleared = refl; ends = refl; deaths = tt; faults = tt; failures = refl; operations = refl; unserved = tt; codes = tt; failing = tt; once = refl }, (record { cuts = refl; cleared = refl; ends = refl; deaths = tt; faults = tt; failures = refl; operations = refl; unserved = tt; codes = tt; failing = tt; once = refl }, (record { cuts = refl; cleared = refl; ends = refl; deaths = tt; faults = tt; failures = refl; operations = refl; unserved = tt; codes = tt; failing = tt; once = refl }, tt)))))))))); aborted = (tt, (tt, (tt, (tt, (tt, (tt, (tt, (tt, (tt, (tt, (tt, (tt, (tt, (tt, (tt, (tt, (tt, (tt, (tt, (tt, tt)))))))))))))))))))) }
 
 dies_judged : JudgementLaw (rare.wild_run rare.wild_dies).start (history (rare.wild_run rare.wild_dies).entries)
 unfolding reading fault_of tcode_of header_of offset_of rcode_of value_of length_of extended_of three four part_of is_to is_same asked_by begun_by belongs start_at lowest_from label_for free_from count_flying lowest_flying label_of with_label is_write kind_of slot_of window_at is_fifo point_step doorbell_step reset_step abort_step reply_step lost_step refusal verdict request_of check_of blank_bytes command_kind elements_from made block_head decide reads_eui live_login response_bytes start_step reply_step_of_manager decide_step fresh_id left_for enter_step back_step leave_step
@@ -177,7 +180,7 @@ reset_ignored_carried = record { carried = (tt, (tt, (tt, (tt, (tt, (tt, (tt, (t
 
 reset_ignored_cause : CauseLaw (rare.wild_write (notes.Ignored 1 ignored.Login) (notes.Sent 2 0 0 1 (journals.done_by_target 0 7) ∷ [])).start (history (rare.wild_write (notes.Ignored 1 ignored.Login) (notes.Sent 2 0 0 1 (journals.done_by_target 0 7) ∷ [])).entries)
 unfolding reading fault_of tcode_of header_of offset_of rcode_of value_of length_of extended_of three four part_of is_to is_same asked_by begun_by belongs start_at lowest_from label_for free_from count_flying lowest_flying label_of with_label is_write kind_of slot_of window_at is_fifo point_step doorbell_step reset_step abort_step reply_step lost_step refusal verdict request_of check_of blank_bytes command_kind elements_from made block_head decide reads_eui live_login response_bytes start_step reply_step_of_manager decide_step fresh_id left_for enter_step back_step leave_step
-reset_ignored_cause = record { causes = (record { cuts = refl; cleared = refl; ends = refl; deaths = tt; faults = tt; failures = refl; operations = refl; unserved = tt }, (record { cuts = refl; cleared = refl; ends = refl; deaths = tt; faults = tt; failures = refl; operations = refl; unserved = tt }, (record { cuts = refl; cleared = refl; ends = refl; deaths = tt; faults = tt; failures = refl; operations = refl; unserved = tt }, (record { cuts = refl; cleared = refl; ends = refl; deaths = tt; faults = tt; failures = refl; operations = refl; unserved = tt }, tt)))); aborted = (tt, (tt, (tt, (tt, (tt, (tt, (tt, (tt, tt)))))))) }
+reset_ignored_cause = record { causes = (record { cuts = refl; cleared = refl; ends = refl; deaths = tt; faults = tt; failures = refl; operations = refl; unserved = tt; codes = tt; failing = tt; once = refl }, (record { cuts = refl; cleared = refl; ends = refl; deaths = tt; faults = tt; failures = refl; operations = refl; unserved = tt; codes = tt; failing = tt; once = refl }, (record { cuts = refl; cleared = refl; ends = refl; deaths = tt; faults = tt; failures = refl; operations = refl; unserved = tt; codes = tt; failing = tt; once = refl }, (record { cuts = refl; cleared = refl; ends = refl; deaths = tt; faults = tt; failures = refl; operations = refl; unserved = tt; codes = tt; failing = tt; once = refl }, tt)))); aborted = (tt, (tt, (tt, (tt, (tt, (tt, (tt, (tt, tt)))))))) }
 
 reset_ignored_judged : JudgementLaw (rare.wild_write (notes.Ignored 1 ignored.Login) (notes.Sent 2 0 0 1 (journals.done_by_target 0 7) ∷ [])).start (history (rare.wild_write (notes.Ignored 1 ignored.Login) (notes.Sent 2 0 0 1 (journals.done_by_target 0 7) ∷ [])).entries)
 unfolding reading fault_of tcode_of header_of offset_of rcode_of value_of length_of extended_of three four part_of is_to is_same asked_by begun_by belongs start_at lowest_from label_for free_from count_flying lowest_flying label_of with_label is_write kind_of slot_of window_at is_fifo point_step doorbell_step reset_step abort_step reply_step lost_step refusal verdict request_of check_of blank_bytes command_kind elements_from made block_head decide reads_eui live_login response_bytes start_step reply_step_of_manager decide_step fresh_id left_for enter_step back_step leave_step
@@ -234,5 +237,41 @@ other_sends_more : LawfulForOthers rare.other_sends_more → ⊥
 unfolding reading fault_of tcode_of header_of offset_of rcode_of value_of length_of extended_of three four part_of is_to is_same asked_by begun_by belongs start_at lowest_from label_for free_from count_flying lowest_flying label_of with_label is_write kind_of slot_of window_at is_fifo point_step doorbell_step reset_step abort_step reply_step lost_step refusal verdict request_of check_of blank_bytes command_kind elements_from made block_head decide reads_eui live_login response_bytes start_step reply_step_of_manager decide_step fresh_id left_for enter_step back_step leave_step
 other_sends_more = λ law. law.moments.sent.requests.0 refl
 
+target_answers : SentLaw rare.untold_disk (history (refused.target_sends []).entries)
+unfolding reading fault_of tcode_of header_of offset_of rcode_of value_of length_of extended_of three four part_of is_to is_same asked_by begun_by belongs start_at lowest_from label_for free_from count_flying lowest_flying label_of with_label is_write kind_of slot_of window_at is_fifo point_step doorbell_step reset_step abort_step reply_step lost_step refusal verdict request_of check_of blank_bytes command_kind elements_from made block_head decide reads_eui live_login response_bytes start_step reply_step_of_manager decide_step fresh_id left_for enter_step back_step leave_step sum_of low_bits
+target_answers = record { packets = ((refl, λ e. record { in_generation = refl; spelled = record { packet = read_quadlet_response (journals.to_first 0) 0 (slice_index_or (made 0x0200000000000010 1) 0 0); canonical = refl; retry = refl; priority = refl; source = refl; destination = refl }; label = tt }), (tt, (tt, ((refl, λ e. absurd (cc e)), (tt, (tt, (tt, (tt, tt)))))))); answers = ((refl, tt), (tt, (tt, (tt, tt)))); requests = (λ e. tt, (λ e. tt, (λ e. cc e, (λ e. tt, tt)))); after = (record { agents = (tt, (tt, (tt, (tt, (tt, (tt, (tt, (tt, tt)))))))); management = tt; roms = (tt, (tt, tt)) }, (record { agents = (tt, (tt, (tt, (tt, (tt, (tt, (tt, (tt, tt)))))))); management = tt; roms = (tt, (tt, tt)) }, (record { agents = (tt, (tt, (tt, (tt, (tt, (tt, (tt, (tt, tt)))))))); management = tt; roms = (tt, (tt, tt)) }, (record { agents = (tt, (tt, (tt, (tt, (tt, (tt, (tt, (tt, tt)))))))); management = tt; roms = (tt, (tt, tt)) }, tt)))) }
+
+target_reads_the_other : LawfulForOthers (refused.target_sends (refused.reads_the_other ∷ [])) → ⊥
+unfolding reading fault_of tcode_of header_of offset_of rcode_of value_of length_of extended_of three four part_of is_to is_same asked_by begun_by belongs start_at lowest_from label_for free_from count_flying lowest_flying label_of with_label is_write kind_of slot_of window_at is_fifo point_step doorbell_step reset_step abort_step reply_step lost_step refusal verdict request_of check_of blank_bytes command_kind elements_from made block_head decide reads_eui live_login response_bytes start_step reply_step_of_manager decide_step fresh_id left_for enter_step back_step leave_step
+target_reads_the_other = λ law. law.moments.sent.requests.0 refl
+
+target_tells_the_other : LawfulForOthers (refused.target_sends (refused.tells_the_other ∷ [])) → ⊥
+unfolding reading fault_of tcode_of header_of offset_of rcode_of value_of length_of extended_of three four part_of is_to is_same asked_by begun_by belongs start_at lowest_from label_for free_from count_flying lowest_flying label_of with_label is_write kind_of slot_of window_at is_fifo point_step doorbell_step reset_step abort_step reply_step lost_step refusal verdict request_of check_of blank_bytes command_kind elements_from made block_head decide reads_eui live_login response_bytes start_step reply_step_of_manager decide_step fresh_id left_for enter_step back_step leave_step
+target_tells_the_other = λ law. law.moments.sent.requests.0 refl
+
+target_answers_twice : LawfulForOthers (refused.target_sends (refused.target_answers ∷ [])) → ⊥
+unfolding reading fault_of tcode_of header_of offset_of rcode_of value_of length_of extended_of three four part_of is_to is_same asked_by begun_by belongs start_at lowest_from label_for free_from count_flying lowest_flying label_of with_label is_write kind_of slot_of window_at is_fifo point_step doorbell_step reset_step abort_step reply_step lost_step refusal verdict request_of check_of blank_bytes command_kind elements_from made block_head decide reads_eui live_login response_bytes start_step reply_step_of_manager decide_step fresh_id left_for enter_step back_step leave_step
+target_answers_twice = λ law. law.moments.sent.requests.0 refl
+
+wild_request_left_out : LawfulForOthers (refused.wild_appends []) → ⊥
+unfolding reading fault_of tcode_of header_of offset_of rcode_of value_of length_of extended_of three four part_of is_to is_same asked_by begun_by belongs start_at lowest_from label_for free_from count_flying lowest_flying label_of with_label is_write kind_of slot_of window_at is_fifo point_step doorbell_step reset_step abort_step reply_step lost_step refusal verdict request_of check_of blank_bytes command_kind elements_from made block_head decide reads_eui live_login response_bytes start_step reply_step_of_manager decide_step fresh_id left_for enter_step back_step leave_step
+wild_request_left_out = λ law. law.moments.sent.requests.0 refl
+
+wild_request_twice : LawfulForOthers (refused.wild_appends (refused.first_request ∷ refused.first_request ∷ [])) → ⊥
+unfolding reading fault_of tcode_of header_of offset_of rcode_of value_of length_of extended_of three four part_of is_to is_same asked_by begun_by belongs start_at lowest_from label_for free_from count_flying lowest_flying label_of with_label is_write kind_of slot_of window_at is_fifo point_step doorbell_step reset_step abort_step reply_step lost_step refusal verdict request_of check_of blank_bytes command_kind elements_from made block_head decide reads_eui live_login response_bytes start_step reply_step_of_manager decide_step fresh_id left_for enter_step back_step leave_step
+wild_request_twice = λ law. (law.moments.sent.requests.0 refl).1
+
+wild_run_forged : LawfulForOthers refused.wild_runs → ⊥
+unfolding reading fault_of tcode_of header_of offset_of rcode_of value_of length_of extended_of three four part_of is_to is_same asked_by begun_by belongs start_at lowest_from label_for free_from count_flying lowest_flying label_of with_label is_write kind_of slot_of window_at is_fifo point_step doorbell_step reset_step abort_step reply_step lost_step refusal verdict request_of check_of blank_bytes command_kind elements_from made block_head decide reads_eui live_login response_bytes start_step reply_step_of_manager decide_step fresh_id left_for enter_step back_step leave_step
+wild_run_forged = λ law. let bad = law.moments.runs.0 in cc bad
+
+wild_ends_as_read : EachTurn (EndsAsRead journals.one_disk) (refused.wild_ends None)
+unfolding reading fault_of tcode_of header_of offset_of rcode_of value_of length_of extended_of three four part_of is_to is_same asked_by begun_by belongs start_at lowest_from label_for free_from count_flying lowest_flying label_of with_label is_write kind_of slot_of window_at is_fifo point_step doorbell_step reset_step abort_step reply_step lost_step refusal verdict request_of check_of blank_bytes command_kind elements_from made block_head decide reads_eui live_login response_bytes start_step reply_step_of_manager decide_step fresh_id left_for enter_step back_step leave_step
+wild_ends_as_read = ((tt, tt), (tt, (tt, (tt, (tt, (tt, (tt, (tt, (tt, tt)))))))))
+
+wild_ends_otherwise : EachTurn (EndsAsRead journals.one_disk) (refused.wild_ends (Some no_command)) → ⊥
+unfolding reading fault_of tcode_of header_of offset_of rcode_of value_of length_of extended_of three four part_of is_to is_same asked_by begun_by belongs start_at lowest_from label_for free_from count_flying lowest_flying label_of with_label is_write kind_of slot_of window_at is_fifo point_step doorbell_step reset_step abort_step reply_step lost_step refusal verdict request_of check_of blank_bytes command_kind elements_from made block_head decide reads_eui live_login response_bytes start_step reply_step_of_manager decide_step fresh_id left_for enter_step back_step leave_step
+wild_ends_otherwise = λ law. let bad = (law.0).0 in cc bad
+
 pub tried : OthersTried
-tried = record { dies = dies; reset_is_ignored = reset_ignored; not_of_all = not_of_all; death_left_out = death_left_out; reset_is_got = reset_is_got; other_unanswered = other_unanswered; other_sends_more = other_sends_more }
+tried = record { target_answers = target_answers; target_reads_the_other = target_reads_the_other; target_tells_the_other = target_tells_the_other; target_answers_twice = target_answers_twice; wild_request_left_out = wild_request_left_out; wild_request_twice = wild_request_twice; wild_run_forged = wild_run_forged; wild_ends_as_read = wild_ends_as_read; wild_ends_otherwise = wild_ends_otherwise; dies = dies; reset_is_ignored = reset_ignored; not_of_all = not_of_all; death_left_out = death_left_out; reset_is_got = reset_is_got; other_unanswered = other_unanswered; other_sends_more = other_sends_more }

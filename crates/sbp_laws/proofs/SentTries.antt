@@ -255,5 +255,13 @@ aborted_of_another_line : SentLaw journals.one_disk (runs.abort_behind_time_out 
 unfolding reading fault_of tcode_of header_of offset_of rcode_of value_of length_of extended_of three four part_of is_to is_same asked_by begun_by belongs start_at lowest_from label_for free_from count_flying lowest_flying label_of with_label is_write kind_of slot_of window_at is_fifo point_step doorbell_step reset_step abort_step reply_step lost_step refusal verdict request_of check_of blank_bytes command_kind elements_from made block_head decide reads_eui live_login response_bytes start_step reply_step_of_manager decide_step fresh_id left_for enter_step back_step leave_step
 aborted_of_another_line = λ law. law.requests.1.1.1.1.1.1.1.1.1.1.1.1.1.1.1.1.1.0 refl
 
+chunk_otherwise : SentLaw journals.one_disk refused.chunk_otherwise → ⊥
+unfolding reading fault_of tcode_of header_of offset_of rcode_of value_of length_of extended_of three four part_of is_to is_same asked_by begun_by belongs start_at lowest_from label_for free_from count_flying lowest_flying label_of with_label is_write kind_of slot_of window_at is_fifo point_step doorbell_step reset_step abort_step reply_step lost_step refusal verdict request_of check_of blank_bytes command_kind elements_from made block_head decide reads_eui live_login response_bytes start_step reply_step_of_manager decide_step fresh_id left_for enter_step back_step leave_step
+chunk_otherwise = λ law. let bad : 0xde ≡ 0 = ap (λ xs. slice_index xs 20) ((law.requests.0 refl).0.spelled) in omega (arith, bad)
+
+pointer_taken_in_active : SentLaw journals.one_disk (refused.points_again 0) → ⊥
+unfolding reading fault_of tcode_of header_of offset_of rcode_of value_of length_of extended_of three four part_of is_to is_same asked_by begun_by belongs start_at lowest_from label_for free_from count_flying lowest_flying label_of with_label is_write kind_of slot_of window_at is_fifo point_step doorbell_step reset_step abort_step reply_step lost_step refusal verdict request_of check_of blank_bytes command_kind elements_from made block_head decide reads_eui live_login response_bytes start_step reply_step_of_manager decide_step fresh_id left_for enter_step back_step leave_step
+pointer_taken_in_active = λ law. let bad : 0 ≡ 0x40 = ap (λ xs. slice_index xs 6) (ap first_bytes (law.answers.0).0) in omega (arith, bad)
+
 pub tried : SentTried
-tried = record { accepts = accepts; unanswered = unanswered; answered_twice = answered_twice; answered_otherwise = answered_otherwise; not_fetched = not_fetched; fetched_elsewhere = fetched_elsewhere; linked_too_early = linked_too_early; resting_label = resting_label; other_src = other_src; status_unsent = status_unsent; nothing_read_ahead = nothing_read_ahead; doorbell_ignored = doorbell_ignored; other_place = other_place; serial_left_out = serial_left_out; other_generation = other_generation; other_retry = other_retry; other_source = other_source; higher_label = higher_label; other_register = other_register; other_value = other_value; other_number = other_number; other_state = other_state; conflict_left_out = conflict_left_out; dummy_served_plain = dummy_served_plain; other_table = other_table; other_data = other_data; chunk_elsewhere = chunk_elsewhere; chunk_too_long = chunk_too_long; other_rom = other_rom; rom_not_read_on = rom_not_read_on; other_management_orb = other_management_orb; eui_not_read = eui_not_read; management_status_elsewhere = management_status_elsewhere; pointer_read_whole = pointer_read_whole; status_unasked = status_unasked; status_elsewhere = status_elsewhere; status_of_another = status_of_another; reads_ahead_at_null = reads_ahead_at_null; untold_elsewhere = untold_elsewhere; aborted_of_another_line = aborted_of_another_line; ahead_past_its_reserve = ahead_past_its_reserve; ahead_within_reserve_left_out = ahead_within_reserve_left_out }
+tried = record { pointer_taken_in_active = pointer_taken_in_active; chunk_otherwise = chunk_otherwise; accepts = accepts; unanswered = unanswered; answered_twice = answered_twice; answered_otherwise = answered_otherwise; not_fetched = not_fetched; fetched_elsewhere = fetched_elsewhere; linked_too_early = linked_too_early; resting_label = resting_label; other_src = other_src; status_unsent = status_unsent; nothing_read_ahead = nothing_read_ahead; doorbell_ignored = doorbell_ignored; other_place = other_place; serial_left_out = serial_left_out; other_generation = other_generation; other_retry = other_retry; other_source = other_source; higher_label = higher_label; other_register = other_register; other_value = other_value; other_number = other_number; other_state = other_state; conflict_left_out = conflict_left_out; dummy_served_plain = dummy_served_plain; other_table = other_table; other_data = other_data; chunk_elsewhere = chunk_elsewhere; chunk_too_long = chunk_too_long; other_rom = other_rom; rom_not_read_on = rom_not_read_on; other_management_orb = other_management_orb; eui_not_read = eui_not_read; management_status_elsewhere = management_status_elsewhere; pointer_read_whole = pointer_read_whole; status_unasked = status_unasked; status_elsewhere = status_elsewhere; status_of_another = status_of_another; reads_ahead_at_null = reads_ahead_at_null; untold_elsewhere = untold_elsewhere; aborted_of_another_line = aborted_of_another_line; ahead_past_its_reserve = ahead_past_its_reserve; ahead_within_reserve_left_out = ahead_within_reserve_left_out }

@@ -19,7 +19,7 @@ use Rattle.sbp_laws.specs.Agents.{agent_event, agent_turn, target_before}
 use Rattle.sbp_laws.specs.Management.{cuts_due, cleared_due, failures_due}
 use Rattle.sbp_laws.specs.Operations.{operation_notes}
 use Rattle.sbp_laws.specs.NoteKinds.{is_cut_note, is_cleared_note, is_failure_note, is_end_note, is_operation_note, of_kind}
-use Rattle.sbp_laws.specs.Deaths.{ends_due, DeathsHaveRows, DiesUnserved, FaultsFollowDeaths}
+use Rattle.sbp_laws.specs.Deaths.{dies_again, ends_due, illegal_in, DeathsHaveRows, DiesUnserved, FailuresHaveRows, FaultsFollowDeaths, IllegalsHaveCodes}
 
 -- Row by row, the notes of a turn are those that have their cause in it.
 pub record HasCauses (disks : List Disk) (t : Turn) : Type 0 where
@@ -31,6 +31,9 @@ pub record HasCauses (disks : List Disk) (t : Turn) : Type 0 where
   pub failures : of_kind is_failure_note t.rest ≡ failures_due (target_before disks t) t
   pub operations : of_kind is_operation_note t.rest ≡ operation_notes t
   pub unserved : DiesUnserved (target_before disks t) t (agent_turn (agent_event disks t) (target_before disks t) t.rest)
+  pub codes : IllegalsHaveCodes (illegal_in disks t) t.rest
+  pub failing : FailuresHaveRows (target_before disks t) t t.rest
+  pub once : dies_again disks t ≡ false
 
 -- ---- aborted ORBs
 -- An `mgmt I abort` with 00 came for this very ORB, which had neither run nor ended then: the management ORB that the target got for it has

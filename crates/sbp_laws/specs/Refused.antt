@@ -1,5 +1,5 @@
 -- Journals that are each refused by a law, since they differ in a note from a worked run or from a part of one.
-use Rattle.std.specs.Prelude.{ℕ, zero, suc, ◌+◌, true, List, [], ◌∷◌, ◌++◌, map, drop, reverse, replicate, Option, None, Some}
+use Rattle.std.specs.Prelude.{ℕ, zero, suc, ◌+◌, true, List, [], ◌∷◌, ◌++◌, map, drop, reverse, replicate, slice_index_or, Option, None, Some}
 use Rattle.async_packet.specs.Packet.{write_quadlet, write_block, write_response, read_quadlet, read_block, read_quadlet_response, read_block_response}
 use Rattle.async_packet.specs.Canon.{canon}
 use Rattle.orb_layout.specs.declared.status.StatusKind.{StatusKind}
@@ -8,7 +8,8 @@ use Rattle.orb_layout.specs.declared.ask.FailCause.TheVariants as causes
 use Rattle.orb_layout.specs.ManagementOrbs.{management_bytes}
 use Rattle.orb_layout.specs.Pointers.{quad_bytes}
 use Rattle.rbc_command.specs.declared.sense.Sense.{Sense}
-use Rattle.sbp_journal.specs.Run.{Entry, Moment, asked, said}
+use Rattle.config_rom.specs.Make.{made}
+use Rattle.sbp_journal.specs.Run.{Run, Entry, Moment, asked, said}
 use Rattle.sbp_journal.specs.declared.cause.Cause.TheVariants as ignored
 use Rattle.sbp_journal.specs.declared.event.Event.{Event}
 use Rattle.sbp_journal.specs.declared.event.Event.TheVariants as events
@@ -19,10 +20,11 @@ use Rattle.sbp_journal.specs.declared.note.Note.TheVariants as notes
 use Rattle.sbp_journal.specs.declared.operation.FunctionWord.TheVariants as functions
 use Rattle.sbp_journal.specs.declared.operation.Operation.TheVariants as operations
 use Rattle.sbp_journal.specs.declared.operation.OpWord.TheVariants as words
-use Rattle.sbp_laws.specs.Journals.{told, begins, appends_first, appended, resets, till_pointer, till_orb, till_status, points_agent, takes_status, ran, ended, two_appended, comes_again, rings_suspended, links_second, state_packet, target_id, first_id, second_id, header, to_target, to_first, done_by_target, done_by_first, fetch_packet, orb_packet, pointer_packet, status_packet, test_ready, ready_block, block_of, write_block_0, two_begin, enables, loads, reads_login, begin_entry, append_entry, entry}
+use Rattle.sbp_laws.specs.Journals.{told, begins, appends_first, appended, resets, till_pointer, till_orb, till_status, points_agent, takes_status, ran, ended, two_appended, comes_again, rings_suspended, links_second, state_packet, target_id, first_id, second_id, header, to_target, to_first, done_by_target, done_by_first, fetch_packet, orb_packet, pointer_packet, status_packet, test_ready, ready_block, capacity_block, login_orb, block_of, write_block_0, two_begin, enables, loads, reads_login, begin_entry, append_entry, entry}
 use Rattle.sbp_laws.specs.WorkedRuns as runs
+use Rattle.sbp_laws.specs.WorkedRuns.{till_capacity}
 use Rattle.sbp_laws.specs.RareRuns as rare
-use Rattle.sbp_laws.specs.RareRuns.{behind, from_second, to_second, read_block_0, reads_block}
+use Rattle.sbp_laws.specs.RareRuns.{behind, from_second, to_second, read_block_0, reads_block, starts_login, untold_disk}
 
 -- a run without its latest moments, and with these notes instead
 abbrev pub instead : (count : ℕ) → List Moment → List Note → List Moment
@@ -361,3 +363,68 @@ status_unasked = instead 0 (told (till_pointer ++ (points_agent ++ said (notes.G
 -- media
 abbrev pub told_left_out : List Moment
 told_left_out = instead 5 runs.load_told []
+
+-- ---- a chunk of an answer that its medium tells, with other bytes
+abbrev pub chunk_otherwise : List Moment
+chunk_otherwise =
+    told (till_capacity ++ said (notes.Got 4) ∷ said (notes.Ran 0 (Some 0) (Some 0) 0 capacity_block [] None)
+    ∷ said (notes.Sent 5 0 0 1 (canon (write_block (to_first 0) 0x11000000 (quad_bytes (0 ∷ 0xdeadbeef ∷ []))))) ∷ [])
+
+-- ---- a second write of ORB_POINTER while the agent is ACTIVE, and its answer
+abbrev pub points_again : (rcode : ℕ) → List Moment
+points_again rcode =
+    told (till_pointer ++ (points_agent ++ said (notes.Got 2)
+    ∷ said (notes.Sent 4 0 1 0 (canon (write_block (to_target 1) 0xfffff0040008 (quad_bytes (0 ∷ 0x10000000 ∷ [])))))
+    ∷ said (notes.Got 4) ∷ said (notes.Sent 5 0 0 1 (done_by_target 1 rcode)) ∷ []))
+
+-- ---- a good ORB makes the agent dead; and a login fails though its ORB came
+abbrev pub good_orb_dies : List Note
+good_orb_dies = notes.Dead 0 (Some 0) causes.Grammar ∷ notes.Ended 0 (Some 0) (Some 0) (kinds.Illegal 0xff) ∷ []
+
+abbrev pub good_login_fails : List Note
+good_login_fails = notes.ManageFailed 0 causes.Grammar ∷ []
+
+abbrev pub login_read : List Moment
+login_read = starts_login ++ asked 4 (events.Deliver 3) ∷ said (notes.Got 3) ∷ said (notes.Sent 4 0 1 0 (canon (read_block_response (to_target 0) 0 (management_bytes login_orb)))) ∷ []
+
+-- ---- initiator 0 injects a read of the target's ROM: behind the answer the target sends more to initiator 1, or not
+abbrev pub rom_read : List ℕ
+rom_read = canon (read_quadlet (to_target 0) 0xfffff0000400)
+
+abbrev pub wild_reads : List Entry
+wild_reads = entry 2 (events.Inject 0 rom_read) (notes.Injected 1 ∷ notes.Sent 1 0 1 0 rom_read ∷ []) ∷ entry 1 (events.Begin 2 true) (notes.Begin 2 true ∷ []) ∷ []
+
+abbrev pub target_answers : Note
+target_answers = notes.Sent 2 0 0 1 (canon (read_quadlet_response (to_first 0) 0 (slice_index_or (made 0x0200000000000010 1) 0 0)))
+
+abbrev pub target_sends : List Note → Run
+target_sends more = record { start = untold_disk; entries = entry 3 (events.Deliver 1) (notes.Got 1 ∷ target_answers ∷ more) ∷ wild_reads }
+
+abbrev pub reads_the_other : Note
+reads_the_other = notes.Sent 3 0 0 2 (canon (read_block (to_second 0) 0x11000000 512))
+
+abbrev pub tells_the_other : Note
+tells_the_other = notes.Sent 3 0 0 2 (canon (write_block (to_second 0) 0x13000000 (quad_bytes (0x41000000 ∷ 0x10000000 ∷ []))))
+
+-- it then appends: its request is left out, or sent once or twice
+abbrev pub wild_appends : List Note → Run
+wild_appends requests = record {
+  start = untold_disk;
+  entries = entry 3 (events.Act 0 (actions.Append test_ready)) (notes.Append 0 0 0 ready_block Nothing ∷ notes.Rung 0 0 0 ∷ requests) ∷ wild_reads;
+}
+
+abbrev pub first_request : Note
+first_request = notes.Sent 2 0 1 0 pointer_packet
+
+-- a run of the one that injected is told though none is due
+abbrev pub wild_runs : Run
+wild_runs = record {
+  start = untold_disk;
+  entries = entry 3 (events.Deliver 1) (notes.Got 1 ∷ notes.Ran 0 None None 0 ready_block [] None ∷ target_answers ∷ []) ∷ wild_reads;
+}
+
+-- the ORB of one that injected comes, and its command ends so
+abbrev pub wild_ends : Option Sense → List Moment
+wild_ends check =
+    told (till_orb ++ asked 5 (events.Inject 0 rom_read) ∷ said (notes.Injected 5) ∷ said (notes.Sent 5 0 1 0 rom_read)
+    ∷ asked 6 (events.Deliver 4) ∷ said (notes.Got 4) ∷ ran check ∷ [])

@@ -6,7 +6,7 @@
 -- address, its length and its value. After each turn an ACTIVE agent has one main transaction under way and at most one read ahead, a
 -- management operation one request, a `rom` operation one read, and an agent is SUSPENDED only where its last ORB's status was answered, the
 -- next pointer last read is null, and no DOORBELL came since the read of it was sent.
-use Rattle.std.specs.Prelude.{◌≡◌, ℕ, zero, suc, Bool, true, false, List, [], ◌∷◌, ◌++◌, map, reverse, Option, Some, None, IsSomeAnd}
+use Rattle.std.specs.Prelude.{◌≡◌, ℕ, zero, suc, true, false, List, [], ◌∷◌, ◌++◌, map, reverse, Option, Some, None, IsSomeAnd}
 use Rattle.orb_layout.specs.declared.pointer.OrbPointer.TheVariants.{Null}
 use Rattle.rbc_disk.specs.Disk.{Disk}
 use Rattle.command_agent.specs.Machine as agent

@@ -1,13 +1,12 @@
 -- The answer to a request that a node got: its rcode, and the bytes that a read gives (IEEE 1394-1995, response codes; NCITS 325-1998, agent
 -- registers, ORBs and page tables in an initiator's memory).
-use Rattle.std.specs.Prelude.{ℕ, zero, suc, ◌+◌, ◌-◌, ◌*◌, ◌/◌, ◌%◌, ◌^◌, ◌==◌, ◌&&◌, not, nat_le, nat_lt, is_some, Bool, true, false, if◌then◌else◌, List, [], ◌∷◌, ◌++◌, length, take, drop, replicate, position, slice_index_or, Option, Some, None, Result, Ok, Err}
+use Rattle.std.specs.Prelude.{ℕ, zero, suc, ◌+◌, ◌-◌, ◌*◌, ◌/◌, ◌%◌, ◌^◌, ◌==◌, ◌&&◌, not, nat_le, nat_lt, is_some, Bool, true, false, if◌then◌else◌, List, [], ◌∷◌, ◌++◌, length, take, drop, replicate, position, slice_index_or, Option, Some, None}
 use Rattle.byteorder.specs.Endian.{big_bytes}
 use Rattle.sbp_base.specs.Quadlets.{quad}
 use Rattle.orb_layout.specs.declared.command.CommandOrb.{CommandOrb}
 use Rattle.orb_layout.specs.declared.management.ManagementOrb.{ManagementOrb}
 use Rattle.orb_layout.specs.declared.pointer.OrbPointer.{OrbPointer}
 use Rattle.orb_layout.specs.declared.pointer.OrbPointer.TheVariants.{Null, At}
-use Rattle.orb_layout.specs.declared.ask.Ask.{Ask}
 use Rattle.orb_layout.specs.CommandOrbs.{command_bytes}
 use Rattle.orb_layout.specs.ManagementOrbs.{management_bytes}
 use Rattle.orb_layout.specs.Pointers.{quad_bytes, pointer_at, pointer_high, pointer_low}
@@ -19,11 +18,8 @@ use Rattle.bus_memory.specs.Windows.{start, window_at, is_fifo}
 use Rattle.orb_list.specs.Requests.{Asked}
 use Rattle.orb_list.specs.Layout.{orb_of, table_bytes}
 use Rattle.command_agent.specs.Machine as agent
-use Rattle.command_agent.specs.Steps as steps
 use Rattle.command_agent.specs.declared.step.AgentState.{AgentState}
 use Rattle.command_agent.specs.declared.step.AgentState.TheVariants as states
-use Rattle.command_agent.specs.declared.step.PointRefusal.{PointRefusal}
-use Rattle.command_agent.specs.declared.step.PointRefusal.TheVariants as refusals
 use Rattle.sbp_journal.specs.Run.{Moment, said}
 use Rattle.sbp_journal.specs.Addresses.{Access, Register, agent_state, orb_pointer, Start, management_agent, register, start_at, is_start, start_serves, begins_in_rom, lies_in_rom, rom_base}
 use Rattle.sbp_journal.specs.Rows.{TargetFacts, target_rcode, WindowFacts, window_rcode}
@@ -65,14 +61,18 @@ pointer_of (Some address) = At address
 abbrev pub pointer_bytes : OrbPointer → List ℕ
 pointer_bytes pointer = quad_bytes (pointer_high pointer ∷ pointer_low pointer ∷ [])
 
--- conflict_error (4) to a pointer that is not taken, data_error (5) to a null one
-abbrev pub pointed_rcode : Result Ask PointRefusal → ℕ
-pointed_rcode (Ok ask) = 0
-pointed_rcode (Err refusals.Conflict) = 4
-pointed_rcode (Err refusals.Null) = 5
+-- a write of ORB_POINTER: conflict_error (4) to an agent that is ACTIVE or DEAD, and else data_error (5) where it is null
+abbrev pub taken_rcode : OrbPointer → ℕ
+taken_rcode Null = 5
+taken_rcode (At address) = 0
+
+abbrev pub pointed_rcode : AgentState → OrbPointer → ℕ
+pointed_rcode states.Active pointer = 4
+pointed_rcode states.Dead pointer = 4
+pointed_rcode state pointer = taken_rcode pointer
 
 abbrev pub register_rcode : Register → Agent → Access → ℕ
-register_rcode orb_pointer a access = if access.is_write then pointed_rcode (steps.point_step a.machine (pointer_at access.payload 0)).0 else 0
+register_rcode orb_pointer a access = if access.is_write then pointed_rcode (agent.state_in a.machine.phase) (pointer_at access.payload 0) else 0
 register_rcode _ a access = 0
 
 -- conflict_error while a management operation is under way

@@ -2,9 +2,11 @@
 use Rattle.std.specs.Prelude.{◌≡◌, [], ◌∷◌, None, Some, List, replicate, true, false, ◌++◌}
 use Rattle.orb_layout.specs.Pointers.{quad_bytes}
 use Rattle.rbc_disk.specs.Disk.{Disk}
-use Rattle.sbp_journal.specs.Run.{Moment, said}
+use Rattle.sbp_journal.specs.Run.{Moment, history, said}
 use Rattle.sbp_journal.specs.declared.note.Note.TheVariants as notes
-use Rattle.sbp_laws.specs.Turns.{EachTurn}
+use Rattle.sbp_laws.specs.Turns.{EachTurn, turn}
+use Rattle.sbp_laws.specs.Targets.{target_at}
+use Rattle.sbp_laws.specs.Deaths.{illegal_in, DeathsHaveRows, FailuresHaveRows, IllegalsHaveCodes}
 use Rattle.sbp_laws.specs.Lawful.{nobody, LawfulForOthers, Lawful}
 use Rattle.sbp_laws.specs.OnceLaw.{OnceLaw}
 use Rattle.sbp_laws.specs.OrderLaw.{OrderLaw}
@@ -171,6 +173,9 @@ pub record CauseTried : Type 0 where
   pub pointer_ends_an_orb : CauseLaw journals.one_disk (refused.reread_times_out (refused.dies_by ++ notes.Ended 0 (Some 0) (Some 0) kinds.Failed ∷ [])) → ⊥
   pub status_ends_again : CauseLaw journals.one_disk (refused.status_times_out (refused.dies_by ++ notes.Ended 0 (Some 0) (Some 0) kinds.Failed ∷ [])) → ⊥
   pub untold_finds_no_label : CauseLaw rare.untold_disk (rare.untold (rare.dies_of causes.Label kinds.Failed)) → ⊥
+  pub good_orb_dies : DeathsHaveRows journals.one_disk (turn (journals.told journals.till_orb) (said (notes.Got 4)) refused.good_orb_dies) refused.good_orb_dies → ⊥
+  pub good_orb_illegal : IllegalsHaveCodes (illegal_in journals.one_disk (turn (journals.told journals.till_orb) (said (notes.Got 4)) refused.good_orb_dies)) refused.good_orb_dies → ⊥
+  pub good_login_fails : FailuresHaveRows (target_at journals.one_disk (journals.told refused.login_read)) (turn (journals.told refused.login_read) (said (notes.Got 4)) refused.good_login_fails) refused.good_login_fails → ⊥
   pub dead_label : CauseLaw journals.one_disk (rare.labels_gone (rare.dies_of causes.Label kinds.Failed))
   pub no_label_lives : CauseLaw journals.one_disk (rare.labels_gone []) → ⊥
   pub management_without_label : CauseLaw journals.one_disk (rare.labels_gone_to_manager (rare.management_fails causes.Label))
@@ -263,6 +268,8 @@ pub record SentTried : Type 0 where
   pub reads_ahead_at_null : SentLaw journals.one_disk (refused.sends_behind_end (journals.status_packet 0x41000000) (notes.Sent 6 0 0 1 (journals.fetch_packet 1 0) ∷ [])) → ⊥
   pub untold_elsewhere : SentLaw rare.untold_disk (rare.untold (notes.Sent 5 0 0 1 (rare.block_packet 0x11000040 rare.some_block) ∷ [])) → ⊥
   pub aborted_of_another_line : SentLaw journals.one_disk (runs.abort_behind_time_out 1) → ⊥
+  pub chunk_otherwise : SentLaw journals.one_disk refused.chunk_otherwise → ⊥
+  pub pointer_taken_in_active : SentLaw journals.one_disk (refused.points_again 0) → ⊥
   pub ahead_past_its_reserve : SentLaw journals.one_disk (refused.checked_beside 48 (refused.fetches_ahead ∷ [])) → ⊥
   pub ahead_within_reserve_left_out : SentLaw journals.one_disk (refused.checked_beside 47 []) → ⊥
 
@@ -377,3 +384,12 @@ pub record OthersTried : Type 0 where
   pub reset_is_got : LawfulForOthers (rare.wild_write (notes.Got 1) (notes.Sent 2 0 0 1 (journals.done_by_target 0 0) ∷ [])) → ⊥
   pub other_unanswered : LawfulForOthers rare.other_unanswered → ⊥
   pub other_sends_more : LawfulForOthers rare.other_sends_more → ⊥
+  pub target_answers : SentLaw rare.untold_disk (history (refused.target_sends []).entries)
+  pub target_reads_the_other : LawfulForOthers (refused.target_sends (refused.reads_the_other ∷ [])) → ⊥
+  pub target_tells_the_other : LawfulForOthers (refused.target_sends (refused.tells_the_other ∷ [])) → ⊥
+  pub target_answers_twice : LawfulForOthers (refused.target_sends (refused.target_answers ∷ [])) → ⊥
+  pub wild_request_left_out : LawfulForOthers (refused.wild_appends []) → ⊥
+  pub wild_request_twice : LawfulForOthers (refused.wild_appends (refused.first_request ∷ refused.first_request ∷ [])) → ⊥
+  pub wild_run_forged : LawfulForOthers refused.wild_runs → ⊥
+  pub wild_ends_as_read : EachTurn (EndsAsRead journals.one_disk) (refused.wild_ends None)
+  pub wild_ends_otherwise : EachTurn (EndsAsRead journals.one_disk) (refused.wild_ends (Some no_command)) → ⊥
