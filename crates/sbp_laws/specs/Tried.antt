@@ -6,7 +6,7 @@ use Rattle.sbp_journal.specs.Run.{Moment, said}
 use Rattle.sbp_journal.specs.declared.note.Note.TheVariants as notes
 use Rattle.sbp_journal.specs.Wire.{terms}
 use Rattle.sbp_laws.specs.Agents.{finds_untold}
-use Rattle.sbp_laws.specs.Lawful.{nobody, LawfulForOthers, Lawful}
+use Rattle.sbp_laws.specs.Lawful.{nobody, injectors, LawfulForOthers, Lawful}
 use Rattle.sbp_laws.specs.OnceLaw.{OnceLaw}
 use Rattle.sbp_laws.specs.OrderLaw.{OrderLaw}
 use Rattle.sbp_laws.specs.ExecutionLaw.{ExecutionLaw}
@@ -378,3 +378,10 @@ pub record OthersTried : Type 0 where
   pub reset_is_got : LawfulForOthers (rare.wild_write (notes.Got 1) (notes.Sent 2 0 0 1 (journals.done_by_target 0 0) ∷ [])) → ⊥
   pub other_unanswered : LawfulForOthers rare.other_unanswered → ⊥
   pub other_sends_more : LawfulForOthers rare.other_sends_more → ⊥
+
+-- N of `dead` and `cut` is the list that the pointer named as it was taken, and not one that was prepared there since.
+pub record NamedTried : Type 0 where
+  pub dies_unnamed : CauseLaw (injectors (rare.dies_unnamed None)) journals.one_disk (rare.dies_unnamed None)
+  pub cut_unnamed : CauseLaw (injectors (rare.cut_unnamed None)) journals.one_disk (rare.cut_unnamed None)
+  pub dies_named_since : CauseLaw (injectors (rare.dies_unnamed (Some 0))) journals.one_disk (rare.dies_unnamed (Some 0)) → ⊥
+  pub cut_named_since : CauseLaw (injectors (rare.cut_unnamed (Some 0))) journals.one_disk (rare.cut_unnamed (Some 0)) → ⊥
