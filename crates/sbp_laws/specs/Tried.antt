@@ -377,3 +377,10 @@ pub record OthersTried : Type 0 where
   pub reset_is_got : LawfulForOthers (rare.wild_write (notes.Got 1) (notes.Sent 2 0 0 1 (journals.done_by_target 0 0) ∷ [])) → ⊥
   pub other_unanswered : LawfulForOthers rare.other_unanswered → ⊥
   pub other_sends_more : LawfulForOthers rare.other_sends_more → ⊥
+
+-- N of `dead` and `cut` is the list that the pointer named as it was taken, and not one that was prepared there since.
+pub record NamedTried : Type 0 where
+  pub dies_unnamed : CauseLaw journals.one_disk (rare.dies_unnamed None)
+  pub cut_unnamed : CauseLaw journals.one_disk (rare.cut_unnamed None)
+  pub dies_named_since : CauseLaw journals.one_disk (rare.dies_unnamed (Some 0)) → ⊥
+  pub cut_named_since : CauseLaw journals.one_disk (rare.cut_unnamed (Some 0)) → ⊥
