@@ -1,13 +1,14 @@
 -- What a turn has of deaths, ends and requests of the target: where its runs are the same and its chunks are told, they are the same.
-use Rattle.std.proofs.Common.{◌≡◌, ◌∙◌, ℕ, suc, ◌&&◌, Bool, true, false, not, if◌then◌else◌, List, ◌++◌, Option, Some, None, refl, sym, ap}
+use Rattle.std.proofs.Common.{◌≡◌, ◌∙◌, ℕ, suc, ◌&&◌, Bool, true, false, not, if◌then◌else◌, List, ◌++◌, ◌∷◌, Option, Some, None, refl, sym, ap}
+use Rattle.rbc_disk.specs.Disk.{Disk}
 use Rattle.label_table.specs.Bodies.{Body}
 use Rattle.command_agent.specs.Machine as agent
 use Rattle.command_agent.specs.declared.step.AgentStep.{AgentStep}
 use Rattle.sbp_journal.specs.Run.{Moment}
 use Rattle.sbp_journal.specs.declared.note.Note.{Note}
-use Rattle.sbp_laws.specs.Agents.{AgentTurn, agent_outcomes, ahead_due, body_of, end_notes, fifo_in, finds_first, initiator_at, is_answer, is_untold_chunk, lacks_label_told, pointed_in, requests_of, requests_to, tried, unsent, wire_after, wire_before}
+use Rattle.sbp_laws.specs.Agents.{AgentTurn, agent_outcomes, ahead_due, body_of, end_notes, fifo_in, finds_first, initiator_at, is_answer, is_untold_chunk, lacks_label_told, list_taken, requests_of, requests_to, tried, unsent, wire_after, wire_before}
 use Rattle.sbp_laws.specs.Deaths.{ends_by}
-use Rattle.sbp_laws.specs.Lists.{list_in, named}
+use Rattle.sbp_laws.specs.Lists.{named}
 use Rattle.sbp_laws.specs.Packets.{finds_label}
 use Rattle.sbp_laws.specs.SentRequests.{agent_requests}
 use Rattle.sbp_laws.specs.Targets.{Target, login_at}
@@ -51,12 +52,12 @@ module _ (chunk : List ℕ) (target : Target) (past : List Moment) (start : Mome
       (agree (body_of a.step.ask a.machine a.step.ended (fifo_in (login_at target a.place))) told also)
 
 module _ (chunk : List ℕ) (target : Target) (past : List Moment) (start : Moment) (rest other : List Note) where
-  pub same_ends : (a : Option AgentTurn) → LabelsAsTold chunk target (turn past start rest) a → LabelsAsTold chunk target (turn past start other) a
-      → ends_by target (turn past start rest) a ≡ ends_by target (turn past start other) a
-  same_ends None told also = refl
-  same_ends (Some a) told also =
+  same_ends_by : (disks : List Disk) (a : Option AgentTurn) → LabelsAsTold chunk target (turn past start rest) a → LabelsAsTold chunk target (turn past start other) a
+      → ends_by disks target (turn past start rest) a ≡ ends_by disks target (turn past start other) a
+  same_ends_by disks None told also = refl
+  same_ends_by disks (Some a) told also =
       let i = initiator_at target (wire_before (turn past start rest)) a.place in
-      ap (λ outcomes. end_notes i (list_in (pointed_in past i a.pointer)) (named past i a.machine.present) outcomes) (same_outcomes chunk target past start rest other a told also)
+      ap (λ outcomes. end_notes i (list_taken disks (start ∷ past) a.place) (named past i a.machine.present) outcomes) (same_outcomes chunk target past start rest other a told also)
 
   pub same_agent_requests : (a : Option AgentTurn) → LabelsAsTold chunk target (turn past start rest) a → LabelsAsTold chunk target (turn past start other) a
       → agent_requests target (turn past start rest) a ≡ agent_requests target (turn past start other) a
@@ -64,3 +65,7 @@ module _ (chunk : List ℕ) (target : Target) (past : List Moment) (start : Mome
   same_agent_requests (Some a) told also =
       let node = suc (initiator_at target (wire_before (turn past start rest)) a.place) in
       ap (λ outcomes. requests_of node (a.untold && is_answer outcomes) outcomes.sent ++ requests_to node (ahead_due target (turn past start rest) a outcomes)) (same_outcomes chunk target past start rest other a told also)
+
+pub same_ends : (disks : List Disk) (chunk : List ℕ) (target : Target) (past : List Moment) (start : Moment) (rest other : List Note) (a : Option AgentTurn)
+    → LabelsAsTold chunk target (turn past start rest) a → LabelsAsTold chunk target (turn past start other) a → ends_by disks target (turn past start rest) a ≡ ends_by disks target (turn past start other) a
+same_ends disks chunk target past start rest other a told also = same_ends_by chunk target past start rest other disks a told also

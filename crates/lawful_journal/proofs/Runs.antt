@@ -160,7 +160,7 @@ load_by_runs target wire (note ∷ rest) = load_by_runs target wire rest
 abbrev turn_with : Target → Reply → Option Told → Bool → Option AgentTurn
 turn_with target reply told untold =
     let s = reply_of target reply told in
-    Some (record { place = reply.place; untold = untold; pointer = (agent_at target reply.place).pointer; which = reply.which; step = s.0; machine = s.1 })
+    Some (record { place = reply.place; untold = untold; which = reply.which; step = s.0; machine = s.1 })
 
 turn_by_runs : (target : Target) (rest : List Note) (event : Event) → agent_turn event target rest ≡ agent_turn event target (of_kind is_run_note rest)
 turn_by_runs target rest (replies reply) =

@@ -70,9 +70,9 @@ module _ (telling : Telling) (disks : List Disk) (past : List Moment) (start : M
 
   same_ends_due : ends_due disks (turn past start rest) ≡ ends_due disks (turn past start other)
   same_ends_due =
-      same_ends (telling.chunks ((wire_after (turn past start rest)).count + 1)) (target_before disks (turn past start rest)) past start rest other
+      same_ends disks (telling.chunks ((wire_after (turn past start rest)).count + 1)) (target_before disks (turn past start rest)) past start rest other
       (agent_turn (agent_event disks (turn past start rest)) (target_before disks (turn past start rest)) rest) h.told.labels also_told
-      ∙ ap (ends_by (target_before disks (turn past start rest)) (turn past start other)) same_turn_of_agent
+      ∙ ap (ends_by disks (target_before disks (turn past start rest)) (turn past start other)) same_turn_of_agent
 
   same_loads : load_in (target_before disks (turn past start rest)) (wire_before (turn past start rest)) rest ≡ load_in (target_before disks (turn past start rest)) (wire_before (turn past start rest)) other
   same_loads = same_load rest other same_runs (target_before disks (turn past start rest)) (wire_before (turn past start rest))

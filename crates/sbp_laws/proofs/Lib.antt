@@ -17,4 +17,5 @@ mod RunsTries
 mod BudgetTries
 mod Forms
 mod OthersTries
+mod NamedTries
 pub mod InTime

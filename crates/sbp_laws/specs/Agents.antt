@@ -65,7 +65,7 @@ fifo_in (Some login) = login.fifo
 abbrev pub initiator_at : Target → Terms → ℕ → ℕ
 initiator_at target wire place = initiator_with wire (node_in (login_at target place))
 
--- the list whose first ORB the pointer last taken names
+-- the list whose ORB the pointer last taken names now; of an initiator that injected no packets it is the list named as it was taken
 abbrev pub pointed_in : List Moment → ℕ → Option ℕ → Option Orb
 pointed_in past i None = None
 pointed_in past i (Some address) = named past i address
@@ -104,12 +104,29 @@ event_by moment target wire = nothing
 abbrev pub agent_event : List Disk → Turn → Event
 agent_event start t = event_by t.start (target_before start t) (wire_before t)
 
--- ---- the step of an agent in a turn: which place, whether the medium told no answer of its command, the pointer last taken, what it does,
--- and what it then is
+-- ---- the list of the ORB to which ORB_POINTER of a place pointed when it was last taken, as ORBs were named then
+abbrev pub listed_by : Result Ask PointRefusal × agent.Machine → List Moment → (i : ℕ) → (before : Option ℕ) → Option ℕ
+listed_by (Err refusal, machine) past i before = before
+listed_by (Ok ask, machine) past i before = list_in (named past i machine.present)
+
+abbrev pub listed_at : Event → List Moment → Target → Terms → (place : ℕ) → (before : Option ℕ) → Option ℕ
+listed_at (writes orb_pointer other access) past target wire place before =
+    if other == place
+    then listed_by (steps.point_step (agent_at target place).machine (pointer_at access.payload 0)) past (initiator_at target wire place) before
+    else before
+listed_at event past target wire place before = before
+
+abbrev pub list_taken : List Disk → List Moment → (place : ℕ) → Option ℕ
+list_taken start [] place = None
+list_taken start (said (notes.Got serial) ∷ past) place =
+    let target = over (target_at start past) in
+    listed_at (event_by (said (notes.Got serial)) target (terms past)) past target (terms past) place (list_taken start past place)
+list_taken start (_ ∷ past) place = list_taken start past place
+
+-- ---- the step of an agent in a turn: which place, whether the medium told no answer of its command, what it does, and what it then is
 pub record AgentTurn : Type 0 where
   pub place : ℕ
   pub untold : Bool
-  pub pointer : Option ℕ
   pub which : Which
   pub step : AgentStep
   pub machine : agent.Machine
@@ -127,10 +144,10 @@ untold_among (note ∷ rest) plain before = untold_among rest plain (untold_by n
 abbrev pub by_pointer : (place : ℕ) → Agent → Result Ask PointRefusal × agent.Machine → Option AgentTurn
 by_pointer place a (Err refusal, machine) = None
 by_pointer place a (Ok ask, machine) =
-    Some (record { place = place; untold = a.untold; pointer = Some machine.present; which = Main; step = steps.asks ask; machine = machine })
+    Some (record { place = place; untold = a.untold; which = Main; step = steps.asks ask; machine = machine })
 
 abbrev pub by_doorbell : (place : ℕ) → Agent → Ask × agent.Machine → Option AgentTurn
-by_doorbell place a (ask, machine) = Some (record { place = place; untold = a.untold; pointer = a.pointer; which = Main; step = steps.asks ask; machine = machine })
+by_doorbell place a (ask, machine) = Some (record { place = place; untold = a.untold; which = Main; step = steps.asks ask; machine = machine })
 
 abbrev pub by_reply : Target → Reply → List Note → Option AgentTurn
 by_reply target reply rest =
@@ -139,7 +156,6 @@ by_reply target reply rest =
     Some (record {
       place = reply.place;
       untold = untold_among rest (plain_for target reply) a.untold;
-      pointer = a.pointer;
       which = reply.which;
       step = s.0;
       machine = s.1;
@@ -259,10 +275,10 @@ abbrev pub end_notes : (i : ℕ) → Option ℕ → Option Orb → Outcomes → 
 end_notes i list one outcomes =
     dead_note i list outcomes.dead ++ (ended_note i one outcomes.ended ++ dead_note i list outcomes.dead_behind)
 
-abbrev pub agent_notes_for : Target → Turn → AgentTurn → List Note
-agent_notes_for target t a =
+abbrev pub agent_notes_for : List Disk → Target → Turn → AgentTurn → List Note
+agent_notes_for start target t a =
     let i = initiator_at target (wire_before t) a.place in
-    end_notes i (list_in (pointed_in t.past i a.pointer)) (named t.past i a.machine.present) (agent_outcomes target t a)
+    end_notes i (list_taken start (t.start ∷ t.past) a.place) (named t.past i a.machine.present) (agent_outcomes target t a)
 
 -- A request: the node that it goes to, and what it asks for. Of a chunk of an answer that its medium did not tell only the number of its bytes
 -- counts.

@@ -204,9 +204,9 @@ FaultsFollowDeaths before (notes.Ended i list number (kinds.Illegal meaning) ∷
 FaultsFollowDeaths before (note ∷ rest) = FaultsFollowDeaths (Some note) rest
 
 -- the deaths and ends that an agent's turn brings
-abbrev pub ends_by : Target → Turn → Option AgentTurn → List Note
-ends_by target t None = []
-ends_by target t (Some a) = agent_notes_for target t a
+abbrev pub ends_by : List Disk → Target → Turn → Option AgentTurn → List Note
+ends_by disks target t None = []
+ends_by disks target t (Some a) = agent_notes_for disks target t a
 
 abbrev pub ends_due : List Disk → Turn → List Note
-ends_due disks t = ends_by (target_before disks t) t (agent_turn (agent_event disks t) (target_before disks t) t.rest)
+ends_due disks t = ends_by disks (target_before disks t) t (agent_turn (agent_event disks t) (target_before disks t) t.rest)

@@ -34,7 +34,7 @@ use Rattle.sbp_journal.specs.declared.note.Note.TheVariants as notes
 use Rattle.sbp_laws.specs.Turns.{Turn}
 use Rattle.sbp_laws.specs.Packets.{packet_at, access_at, answered_at, answer_in, sender_in, receiver_in, id_for, finds_label}
 use Rattle.sbp_laws.specs.Targets.{Target, Agent, Purpose, for_agent, for_manager, for_nobody, purpose_of, agent_at, login_at, manager_step, on_unit, is_serial, target_at}
-use Rattle.sbp_laws.specs.Agents.{Event, writes, agent_event, Request, requests_to, initiator_at, initiator_with, list_of, wire_before, wire_after}
+use Rattle.sbp_laws.specs.Agents.{Event, writes, agent_event, Request, requests_to, initiator_at, initiator_with, list_taken, wire_before, wire_after}
 
 -- ---- lists that are cut
 -- the list of an agent is open where the agent is not in RESET
@@ -45,26 +45,24 @@ is_reset _ = false
 abbrev pub is_open : Agent → Bool
 is_open a = not (is_reset (agent.state_in a.machine.phase))
 
-abbrev pub cut_note : List Moment → Terms → Target → CutCause → ℕ → List Note
-cut_note past wire target cause place =
-    if is_open (agent_at target place)
-    then notes.Cut (initiator_at target wire place) (list_of past (initiator_at target wire place) (agent_at target place)) cause ∷ []
-    else []
+abbrev pub cut_note : List Disk → List Moment → Terms → Target → CutCause → ℕ → List Note
+cut_note start past wire target cause place =
+    if is_open (agent_at target place) then notes.Cut (initiator_at target wire place) (list_taken start past place) cause ∷ [] else []
 
 -- the cuts of the places, from one on, that pass a test, by rising place
 abbrev pub cuts_from : (place : ℕ) → List Agent → (ℕ → List Note) → (ℕ → Bool) → List Note
 cuts_from place [] cut test = []
 cuts_from place (a ∷ agents) cut test = (if test place then cut place else []) ++ cuts_from (place + 1) agents cut test
 
-abbrev pub cuts_where : List Moment → Terms → Target → CutCause → (ℕ → Bool) → List Note
-cuts_where past wire target cause test = cuts_from 0 target.agents (cut_note past wire target cause) test
+abbrev pub cuts_where : List Disk → List Moment → Terms → Target → CutCause → (ℕ → Bool) → List Note
+cuts_where start past wire target cause test = cuts_from 0 target.agents (cut_note start past wire target cause) test
 
-abbrev pub cuts_by_effect : List Moment → Terms → Target → Effect → List Note
-cuts_by_effect past wire target (effects.Left place) = cut_note past wire target cuts.Logout place
-cuts_by_effect past wire target (effects.AbortSet place) = cut_note past wire target cuts.AbortSet place
-cuts_by_effect past wire target (effects.UnitReset unit) = cuts_where past wire target cuts.UnitReset (on_unit unit target.table.places)
-cuts_by_effect past wire target effects.TargetReset = cuts_where past wire target cuts.TargetReset (λ place. true)
-cuts_by_effect past wire target _ = []
+abbrev pub cuts_by_effect : List Disk → List Moment → Terms → Target → Effect → List Note
+cuts_by_effect start past wire target (effects.Left place) = cut_note start past wire target cuts.Logout place
+cuts_by_effect start past wire target (effects.AbortSet place) = cut_note start past wire target cuts.AbortSet place
+cuts_by_effect start past wire target (effects.UnitReset unit) = cuts_where start past wire target cuts.UnitReset (on_unit unit target.table.places)
+cuts_by_effect start past wire target effects.TargetReset = cuts_where start past wire target cuts.TargetReset (λ place. true)
+cuts_by_effect start past wire target _ = []
 
 -- ---- the management operation
 -- what a turn is for it: a reply to its request, or a write of MANAGEMENT_AGENT by a node with an ID
@@ -207,14 +205,14 @@ abbrev pub sees_reset : Moment → Terms → Bool
 sees_reset (said (notes.Seen node generation)) wire = (node == 0) && not (generation == wire.generation 0)
 sees_reset moment wire = false
 
-abbrev pub cuts_by_event : Event → List Moment → Terms → Target → List Note
-cuts_by_event (writes agent_reset place access) past wire target = cut_note past wire target cuts.AgentReset place
-cuts_by_event event past wire target = []
+abbrev pub cuts_by_event : List Disk → Event → List Moment → Terms → Target → List Note
+cuts_by_event start (writes agent_reset place access) past wire target = cut_note start past wire target cuts.AgentReset place
+cuts_by_event start event past wire target = []
 
 abbrev pub cuts_due : List Disk → Target → Turn → List Note
 cuts_due start target t =
-    if sees_reset t.start (wire_before t) then cuts_where t.past (wire_before t) target cuts.Reset (λ place. true)
-    else cuts_by_event (agent_event start t) t.past (wire_before t) target ++ cuts_by_effect t.past (wire_before t) target (effect_of target t)
+    if sees_reset t.start (wire_before t) then cuts_where start t.past (wire_before t) target cuts.Reset (λ place. true)
+    else cuts_by_event start (agent_event start t) t.past (wire_before t) target ++ cuts_by_effect start t.past (wire_before t) target (effect_of target t)
 
 abbrev pub cleared_due : Target → Turn → List Note
 cleared_due target t = cleared_by target (effect_of target t)

@@ -280,6 +280,20 @@ wild_run deaths = record {
       ∷ entry 1 (events.Begin 2 true) (notes.Begin 2 true ∷ []) ∷ [];
 }
 
+-- It names slot 0 before an ORB is prepared there: the list that the agent then dies in, or that is cut, had no name as the pointer was taken.
+abbrev pub names_early : List Moment → List Moment
+names_early more =
+    told (begins ++ (asked 2 (events.Inject 0 pointer_packet) ∷ said (notes.Injected 1) ∷ said (notes.Sent 1 0 1 0 pointer_packet) ∷ asked 3 (events.Deliver 1) ∷ points_agent
+    ++ (asked 4 (events.Act 0 (actions.Put test_ready)) ∷ said (notes.Append 0 0 0 ready_block Nothing) ∷ more)))
+
+abbrev pub dies_unnamed : Option ℕ → List Moment
+dies_unnamed list = names_early (asked 5 (events.Timeout 3) ∷ said (notes.TimedOut 3) ∷ said (notes.Dead 0 list causes.Timeout) ∷ said (notes.Ended 0 (Some 0) (Some 0) kinds.Failed) ∷ [])
+
+abbrev pub cut_unnamed : Option ℕ → List Moment
+cut_unnamed list =
+    names_early (asked 5 (events.Act 0 actions.AgentReset) ∷ said (notes.Sent 4 0 1 0 (canon (write_quadlet (to_target 0) 0xfffff0040004 1)))
+    ∷ asked 6 (events.Deliver 4) ∷ said (notes.Got 4) ∷ said (notes.Cut 0 list cuts.AgentReset) ∷ [])
+
 -- it writes AGENT_RESET of the other one's agent, which the target ignores
 abbrev pub wild_reset : List ℕ
 wild_reset = canon (write_quadlet (to_target 0) 0xfffff0040024 1)

@@ -393,3 +393,10 @@ pub record OthersTried : Type 0 where
   pub wild_run_forged : LawfulForOthers refused.wild_runs → ⊥
   pub wild_ends_as_read : EachTurn (EndsAsRead journals.one_disk) (refused.wild_ends None)
   pub wild_ends_otherwise : EachTurn (EndsAsRead journals.one_disk) (refused.wild_ends (Some no_command)) → ⊥
+
+-- N of `dead` and `cut` is the list that the pointer named as it was taken, and not one that was prepared there since.
+pub record NamedTried : Type 0 where
+  pub dies_unnamed : CauseLaw journals.one_disk (rare.dies_unnamed None)
+  pub cut_unnamed : CauseLaw journals.one_disk (rare.cut_unnamed None)
+  pub dies_named_since : CauseLaw journals.one_disk (rare.dies_unnamed (Some 0)) → ⊥
+  pub cut_named_since : CauseLaw journals.one_disk (rare.cut_unnamed (Some 0)) → ⊥

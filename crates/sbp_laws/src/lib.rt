@@ -11,6 +11,7 @@ pub use laws::{
 };
 pub use tried::{
     action_law_tried, answer_law_tried, budget_tried, carried_law_tried, cause_law_tried,
-    execution_law_tried, judgement_law_tried, login_law_tried, media_law_tried, once_law_tried,
-    order_law_tried, others_tried, sent_law_tried, status_law_tried, worked_runs_tried,
+    execution_law_tried, judgement_law_tried, login_law_tried, media_law_tried, named_tried,
+    once_law_tried, order_law_tried, others_tried, sent_law_tried, status_law_tried,
+    worked_runs_tried,
 };

@@ -1,4 +1,4 @@
-ghost use Rattle.sbp_laws.specs.Tried.{RunsTried, ActionTried, AnswerTried, BudgetTried, CarriedTried, CauseTried, ExecutionTried, JudgementTried, LoginTried, MediaTried, OnceTried, OrderTried, OthersTried, SentTried, StatusTried};
+ghost use Rattle.sbp_laws.specs.Tried.{RunsTried, ActionTried, AnswerTried, BudgetTried, CarriedTried, CauseTried, ExecutionTried, JudgementTried, LoginTried, MediaTried, NamedTried, OnceTried, OrderTried, OthersTried, SentTried, StatusTried};
 
 // Each law accepts a journal and refuses others that differ from it in a note.
 
@@ -90,4 +90,9 @@ pub fn budget_tried()
 /// they refuse.
 pub fn others_tried()
     ensures { OthersTried }
+{}
+
+/// An injected pointer names a slot before an ORB is prepared there: its list has no name, and none later.
+pub fn named_tried()
+    ensures { NamedTried }
 {}
