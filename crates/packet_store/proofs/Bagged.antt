@@ -1,6 +1,6 @@
 -- How many times a list of keys has a key, once one was taken out, and of its first one.
 use Rattle.std.proofs.Common.{◌≡◌, ◌∙◌, refl, sym, subst, ap, ℕ, zero, suc, ◌+◌, ◌-◌, ◌<◌, Bool, true, false, List, [], ◌∷◌, ◌++◌, length, Option, None, Some, cond, arith}
-use Rattle.std.specs.Prelude.{◌≢◌, ◌==◌, ◌&&◌, slice_index_or, IfNone}
+use Rattle.std.specs.Prelude.{◌≢◌, ◌==◌, ◌&&◌, slice_index_or, IfNone, Result, Ok, Err, OnErr}
 use Rattle.std.specs.List.{swap_remove}
 use Rattle.std.proofs.lemmas.Bool.{and_parts}
 use Rattle.std.proofs.lemmas.Bool.Decides.{nat_tests}
@@ -99,7 +99,22 @@ entered_by f g u bag key t k true e none one h =
     let z : count_of k (keys_of (f t)) ≡ 0 = ap (λ v. count_of k (keys_of (f v))) (sym (same_is u t e)) ∙ ap (λ o. count_of k (keys_of o)) none in
     let n : count_of k (keys_of (g t)) ≡ count_of k bag.items = ap (λ o. count_of k (keys_of o)) h in
     omega (arith, z, n, one)
-entered_by f g u bag key t k false e none one h = ap (λ o. count_of k (keys_of o)) h
+entered_by f g u bag key t k false e none one h =
+    let n = ap (λ o. count_of k (keys_of o)) h in
+    omega (arith, n)
 
 pub entered : (f g : Transaction → Option (SmallVec ℕ)) (u : Transaction) (bag : SmallVec ℕ) (key : ℕ) (t : Transaction) (k : ℕ) → f u ≡ None → count_of k bag.items ≡ one_if (key == k) → ((q : Transaction) → g q ≡ cond (is_same u q) (Some bag) (f q)) → count_of k (keys_of (g t)) ≡ one_if (is_same u t && (key == k)) + count_of k (keys_of (f t))
 entered f g u bag key t k none one h = entered_by f g u bag key t k (is_same u t) refl none one (h t)
+
+-- a bag in place of one that has each key as often
+written_by : (f g : Transaction → Option (SmallVec ℕ)) (u : Transaction) (bag after : SmallVec ℕ) (t : Transaction) (k : ℕ) (b : Bool) → is_same u t ≡ b → f u ≡ Some bag → count_of k after.items ≡ count_of k bag.items → g t ≡ cond b (Some after) (f t) → count_of k (keys_of (g t)) ≡ count_of k (keys_of (f t))
+written_by f g u bag after t k true e was same h =
+    ap (λ o. count_of k (keys_of o)) h ∙ same ∙ ap (λ o. count_of k (keys_of o)) (sym was) ∙ ap (λ v. count_of k (keys_of (f v))) (same_is u t e)
+written_by f g u bag after t k false e was same h = ap (λ o. count_of k (keys_of o)) h
+
+pub written : (f g : Transaction → Option (SmallVec ℕ)) (u : Transaction) (bag after : SmallVec ℕ) (t : Transaction) (k : ℕ) → f u ≡ Some bag → count_of k after.items ≡ count_of k bag.items → ((q : Transaction) → g q ≡ cond (is_same u q) (Some after) (f q)) → count_of k (keys_of (g t)) ≡ count_of k (keys_of (f t))
+written f g u bag after t k was same h = written_by f g u bag after t k (is_same u t) refl was same (h t)
+
+pub on_error_of : {A E : Type 0} {X Y : Type 0} (r : Result A E) → OnErr r X → (X → Y) → OnErr r Y
+on_error_of (Ok a) x f = tt
+on_error_of (Err e) x f = f x

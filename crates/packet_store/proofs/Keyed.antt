@@ -59,7 +59,7 @@ none_tied slab f g s h e = record {
 -- the same under each serial, each key and each transaction
 pub same_tied : (slab after : Slab Kept) (f g : ℕ → Option Place) (m n : Transaction → ℕ → ℕ) → AreTied slab f m → ((key : ℕ) → get after key ≡ get slab key) → ((q : ℕ) → g q ≡ f q) → ((t : Transaction) (key : ℕ) → n t key ≡ m t key) → AreTied after g n
 same_tied slab after f g m n t s h e = record {
-  kept = λ q x l. let a = t.kept q x (sym (h q) ∙ l) in (a.0, s x.key ∙ a.1.0, a.1.1);
+  kept = λ q x l. let a = t.kept q x (sym (h q) ∙ l) in (a.0, s x.key ∙ a.1, a.2);
   found = λ key k l. h k.serial ∙ t.found key k (sym (s key) ∙ l);
   bagged = λ u key. e u key ∙ t.bagged u key ∙ ap (λ o. one_if (is_among u o)) (sym (s key));
 }
@@ -78,7 +78,7 @@ absent_by : (slab : Slab Kept) (f : ℕ → Option Place) (g : Transaction → �
 absent_by slab f g s None e t h = refl
 absent_by slab f g s (Some x) e t h =
     let a = t.kept s x e in
-    let c : None ≡ Some a.0 = sym h ∙ a.1.0 in
+    let c : None ≡ Some a.0 = sym h ∙ a.1 in
     cc c
 
 pub absent : (slab : Slab Kept) (f : ℕ → Option Place) (g : Transaction → ℕ → ℕ) (s : ℕ) → AreTied slab f g → kept_in slab (key_in (f s)) ≡ None → f s ≡ None
@@ -104,7 +104,7 @@ put_kept slab after f g m n k key q x true e t p h =
     (k, ap (λ (y : Place). get after y.key) (sym same) ∙ p.here, equal_of k.serial q e)
 put_kept slab after f g m n k key q x false e t p h =
     let a = t.kept q x h in
-    (a.0, p.others x.key (taken_key slab key x.key a.0 p.vacant a.1.0) ∙ a.1.0, a.1.1)
+    (a.0, p.others x.key (taken_key slab key x.key a.0 p.vacant a.1) ∙ a.1, a.2)
 
 taken_serial : (f : ℕ → Option Place) (s q : ℕ) (x : Place) → f s ≡ None → f q ≡ Some x → s ≢ q
 taken_serial f s q x none h eq =
@@ -157,7 +157,7 @@ put_other : (slab after : Slab Kept) (f g : ℕ → Option Place) (m n : Transac
 put_other slab after f g m n k key q None e t p = refl
 put_other slab after f g m n k key q (Some x) e t p =
     let a = t.kept q x e in
-    p.others x.key (taken_key slab key x.key a.0 p.vacant a.1.0)
+    p.others x.key (taken_key slab key x.key a.0 p.vacant a.1)
 
 put_by : (slab after : Slab Kept) (f g : ℕ → Option Place) (m n : Transaction → ℕ → ℕ) (k : Kept) (key q : ℕ) (b : Bool) → AreTied slab f m → Puts slab after f g m n k key → kept_in after (key_in (cond b (Some (place k.serial key)) (f q))) ≡ cond b (Some k) (kept_in slab (key_in (f q)))
 put_by slab after f g m n k key q true t p = p.here
@@ -181,14 +181,14 @@ two_keys : (slab : Slab Kept) (f : ℕ → Option Place) (m : Transaction → �
 two_keys slab f m s q x y t a b ne eq =
     let i = t.kept s x a in
     let j = t.kept q y b in
-    let same = some_kept i.0 j.0 (sym i.1.0 ∙ ap (get slab) (sym eq) ∙ j.1.0) in
-    ne (sym i.1.1 ∙ ap (λ (k : Kept). k.serial) same ∙ j.1.1)
+    let same = some_kept i.0 j.0 (sym i.1 ∙ ap (get slab) (sym eq) ∙ j.1) in
+    ne (sym i.2 ∙ ap (λ (k : Kept). k.serial) same ∙ j.2)
 
 take_kept : (slab after : Slab Kept) (f g : ℕ → Option Place) (m n : Transaction → ℕ → ℕ) (s : ℕ) (x : Place) (k : Kept) (q : ℕ) (y : Place) (b : Bool) → (s == q) ≡ b → AreTied slab f m → Takes slab after f g m n s x k → cond b None (f q) ≡ Some y → (j : Kept) × (get after y.key ≡ Some j) × (j.serial ≡ q)
 take_kept slab after f g m n s x k q y true e t p h = cc h
 take_kept slab after f g m n s x k q y false e t p h =
     let a = t.kept q y h in
-    (a.0, p.others y.key (two_keys slab f m s q x y t p.was h (unequal_of s q e)) ∙ a.1.0, a.1.1)
+    (a.0, p.others y.key (two_keys slab f m s q x y t p.was h (unequal_of s q e)) ∙ a.1, a.2)
 
 take_found : (slab after : Slab Kept) (f g : ℕ → Option Place) (m n : Transaction → ℕ → ℕ) (s : ℕ) (x : Place) (k : Kept) (other : ℕ) (j : Kept) (b : Bool) → (other == x.key) ≡ b → AreTied slab f m → Takes slab after f g m n s x k → get after other ≡ Some j → g j.serial ≡ Some (place j.serial other)
 take_found slab after f g m n s x k other j true e t p h =
@@ -254,11 +254,11 @@ mark_kept : (slab after : Slab Kept) (f : ℕ → Option Place) (m : Transaction
 mark_kept slab after f m s key k q x true e t p h =
     let eq = equal_of x.key key e in
     let a = t.kept q x h in
-    let same = some_kept a.0 k (sym a.1.0 ∙ ap (get slab) eq ∙ p.there) in
-    (record k { in_flight = false }, ap (get after) eq ∙ p.here, ap (λ (i : Kept). i.serial) (sym same) ∙ a.1.1)
+    let same = some_kept a.0 k (sym a.1 ∙ ap (get slab) eq ∙ p.there) in
+    (record k { in_flight = false }, ap (get after) eq ∙ p.here, ap (λ (i : Kept). i.serial) (sym same) ∙ a.2)
 mark_kept slab after f m s key k q x false e t p h =
     let a = t.kept q x h in
-    (a.0, p.others x.key (unequal_of x.key key e) ∙ a.1.0, a.1.1)
+    (a.0, p.others x.key (unequal_of x.key key e) ∙ a.1, a.2)
 
 mark_found : (slab after : Slab Kept) (f : ℕ → Option Place) (m : Transaction → ℕ → ℕ) (s key : ℕ) (k : Kept) (other : ℕ) (j : Kept) (b : Bool) → (other == key) ≡ b → AreTied slab f m → Marks slab after f s key k → get after other ≡ Some j → f j.serial ≡ Some (place j.serial other)
 mark_found slab after f m s key k other j true e t p h =

@@ -1,5 +1,5 @@
 -- The kept packets after each change.
-use Rattle.std.proofs.Common.{◌≡◌, ◌∙◌, refl, sym, subst, ap, ℕ, ◌+◌, ◌<◌, ◌≤◌, Bool, true, false, List, [], ◌∷◌, ◌++◌, Some, cond, arith}
+use Rattle.std.proofs.Common.{◌≡◌, ◌∙◌, refl, sym, subst, ap, ℕ, ◌+◌, ◌<◌, ◌≤◌, Bool, true, false, List, [], ◌∷◌, ◌++◌, None, Some, cond, arith}
 use Rattle.std.specs.Prelude.{length, ◌≢◌, ◌==◌, ◌&&◌, ◌||◌, nat_lt, not, Option}
 use Rattle.std.specs.List.{filter}
 use Rattle.std.proofs.lemmas.Bool.Decides.{nat_tests}
@@ -104,6 +104,22 @@ absent last since low s (k ∷ ks) h l =
     let up = h.0.above in
     let d : (s == k.serial) ≡ false = differs s k.serial (λ eq. absurd (omega (arith, eq, up, l))) in
     rw d (absent last since k.serial s ks h.1 (omega (arith, up, l)))
+
+without_by : (k : Kept) (b : Bool) (xs ks : List Kept) → length xs ≤ length ks → length (cond (not b) (k ∷ xs) xs) ≤ length (k ∷ ks)
+without_by k true xs ks l = omega (arith, l)
+without_by k false xs ks l = omega (arith, l)
+
+without_few : (s : ℕ) (ks : List Kept) → length (without s ks) ≤ length ks
+without_few s [] = omega arith
+without_few s (k ∷ ks) = without_by k (s == k.serial) (without s ks) ks (without_few s ks)
+
+fewer_by : (u : Transaction) (s : ℕ) (k : Kept) (ks : List Kept) (b : Bool) → is_among u (cond b (Some k) (found s ks)) ≡ true → (is_among u (found s ks) ≡ true → length (without s ks) < length ks) → length (cond (not b) (k ∷ without s ks) (without s ks)) < length (k ∷ ks)
+fewer_by u s k ks true e ind = let l = without_few s ks in omega (arith, l)
+fewer_by u s k ks false e ind = let l = ind e in omega (arith, l)
+
+pub without_shorter : (u : Transaction) (s : ℕ) (ks : List Kept) → is_among u (found s ks) ≡ true → length (without s ks) < length ks
+without_shorter u s [] e = cc e
+without_shorter u s (k ∷ ks) e = fewer_by u s k ks (s == k.serial) e (λ f. without_shorter u s ks f)
 
 -- none but the last one is of the transaction
 abbrev NoOther : Transaction → ℕ → List Kept → Type 0

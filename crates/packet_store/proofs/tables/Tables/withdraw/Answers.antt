@@ -3,7 +3,7 @@ use Rattle.std.specs.Prelude.{◌≢◌}
 use Rattle.packet_store.specs.Kept.{found}
 use Rattle.packet_store.specs.Packets.{is_among}
 use Rattle.packet_store.specs.Sound.{AreKept, withdrawn}
-use Rattle.packet_store.proofs.Sound.{found_within, withdrawn_less, withdrawn_all}
+use Rattle.packet_store.proofs.Sound.{found_within, withdrawn_less, withdrawn_all, without_shorter}
 use Rattle.packet_store.proofs.tables.Tables.withdraw.Goals as goal
 
 pub loop-serial-preserved : goal.loop-serial-preserved
@@ -41,3 +41,8 @@ returns-clause-sound c =
     let i = c.loop-serial.invariant in
     let old = c.loop-serial.self in
     subst (λ (n : ℕ). AreKept old.last (n - 1025) 0 old.shelf) (sym i.last) i.sound
+
+pub loop-serial-smaller : goal.loop-serial-smaller
+loop-serial-smaller c =
+    let l = without_shorter c.args.transaction c.in-Some.serial c.loop-serial.self.shelf c.in-Some.ensures.found.0 in
+    rw c.drop_packet.ensures.shelf l
