@@ -41,6 +41,10 @@ pub kept_same : (slab after : Slab Kept) (o : Option ℕ) → ((key : ℕ) → g
 kept_same slab after None h = refl
 kept_same slab after (Some key) h = h key
 
+pub kept_if : (slab : Slab Kept) (b : Bool) (o : Option Place) → kept_in slab (key_in (cond b None o)) ≡ cond b None (kept_in slab (key_in o))
+kept_if slab true o = refl
+kept_if slab false o = refl
+
 -- one that is not there is taken out
 gone_by : (f g : ℕ → Option Kept) (s q : ℕ) (b : Bool) → (s == q) ≡ b → f s ≡ None → g q ≡ cond b None (f q) → g q ≡ f q
 gone_by f g s q true e none h = h ∙ sym none ∙ ap f (equal_of s q e)

@@ -1,24 +1,32 @@
 use Rattle.std.proofs.Common.{rules, ◌≡◌, ◌∙◌, ap, sym, ℕ, None, Some}
+use Rattle.std.specs.Prelude.{◌==◌}
 use Rattle.packet_store.specs.Bags.{times}
 use Rattle.packet_store.specs.Packets.{holds, key_in, kept_in}
 use Rattle.packet_store.specs.Rings.{finds}
 use Rattle.packet_store.specs.Transactions.{transaction_of}
-use Rattle.packet_store.proofs.Keyed.{Takes, none_taken, take_holds, take_tied}
+use Rattle.packet_store.proofs.Keyed.{Takes, kept_if, take_holds, take_tied}
 use Rattle.packet_store.proofs.packets.Packets.take.Goals as goal
 
 pub returns-in_err-key-clause-taken : goal.returns-in_err-key-clause-taken
 unfolding holds
 returns-in_err-key-clause-taken c =
     let none : finds c.args.self.now.ring c.args.serial ≡ None = search rules in
-    sym (ap (λ o. kept_in c.args.self.now.slab (key_in o)) none)
+    let r : c.from_residual.result ≡ None = search rules in
+    r ∙ sym (ap (λ o. kept_in c.args.self.now.slab (key_in o)) none)
+
+pub returns-in_err-key-clause-removed : goal.returns-in_err-key-clause-removed
+unfolding holds
+returns-in_err-key-clause-removed c = λ q.
+    ap (λ o. kept_in c.args.self.now.slab (key_in o)) (c.take.ensures.removed q)
+    ∙ kept_if c.args.self.now.slab (c.args.serial == q) (finds c.args.self.now.ring q)
 
 pub returns-clause-taken : goal.returns-clause-taken
 unfolding holds transaction_of
 returns-clause-taken c =
     let s = c.args.self.now in
     let takes : Takes s.slab c.try_remove.new.self (finds s.ring) (finds c.take.new.self) (times s.bags) (times c.remove.new.self) c.args.serial c.in_ok-key.field-0 c.in_ok-kept.kept = record {
-      was = sym c.take.ensures.taken ∙ c.in_ok-key.is;
-      there = sym c.try_remove.ensures.value ∙ c.in_ok-kept.is;
+      was = search rules;
+      there = search rules;
       gone = c.try_remove.ensures.updates.changed;
       others = c.try_remove.ensures.updates.others;
       placed = c.take.ensures.removed;
@@ -31,8 +39,8 @@ unfolding holds transaction_of
 returns-clause-removed c = λ q.
     let s = c.args.self.now in
     let takes : Takes s.slab c.try_remove.new.self (finds s.ring) (finds c.take.new.self) (times s.bags) (times c.remove.new.self) c.args.serial c.in_ok-key.field-0 c.in_ok-kept.kept = record {
-      was = sym c.take.ensures.taken ∙ c.in_ok-key.is;
-      there = sym c.try_remove.ensures.value ∙ c.in_ok-kept.is;
+      was = search rules;
+      there = search rules;
       gone = c.try_remove.ensures.updates.changed;
       others = c.try_remove.ensures.updates.others;
       placed = c.take.ensures.removed;
@@ -45,8 +53,8 @@ unfolding transaction_of
 returns-clause-exact c =
     let s = c.args.self.now in
     let takes : Takes s.slab c.try_remove.new.self (finds s.ring) (finds c.take.new.self) (times s.bags) (times c.remove.new.self) c.args.serial c.in_ok-key.field-0 c.in_ok-kept.kept = record {
-      was = sym c.take.ensures.taken ∙ c.in_ok-key.is;
-      there = sym c.try_remove.ensures.value ∙ c.in_ok-kept.is;
+      was = search rules;
+      there = search rules;
       gone = c.try_remove.ensures.updates.changed;
       others = c.try_remove.ensures.updates.others;
       placed = c.take.ensures.removed;
