@@ -1,8 +1,8 @@
 -- The ties of a slab and of its two indexes, after each change.
-use Rattle.std.proofs.Common.{◌≡◌, ◌∙◌, refl, sym, subst, ap, ℕ, ◌+◌, ◌-◌, ◌<◌, Bool, true, false, List, None, Some, cond, arith}
+use Rattle.std.proofs.Common.{◌≡◌, ◌∙◌, refl, sym, subst, ap, ℕ, ◌+◌, ◌-◌, ◌<◌, Bool, true, false, None, Some, cond, arith}
 use Rattle.std.specs.Prelude.{◌≢◌, ◌==◌, ◌&&◌, Option, Result, Ok, Err, OnErr}
 use Rattle.std.proofs.lemmas.Bool.Decides.{nat_tests}
-use Rattle.slab.specs.Slab.{Slab, get, Updates}
+use Rattle.slab.specs.Slab.{Slab, get}
 use Rattle.packet_store.specs.declared.sent.Kept.{Kept}
 use Rattle.packet_store.specs.declared.ring.Place.{Place}
 use Rattle.packet_store.specs.declared.transaction.Transaction.{Transaction}

@@ -1,6 +1,6 @@
 -- The kept packets after each change.
 use Rattle.std.proofs.Common.{◌≡◌, ◌∙◌, refl, sym, subst, ap, ℕ, ◌+◌, ◌<◌, ◌≤◌, Bool, true, false, List, [], ◌∷◌, ◌++◌, None, Some, cond, arith}
-use Rattle.std.specs.Prelude.{length, ◌≢◌, ◌==◌, ◌&&◌, ◌||◌, nat_lt, not, Option}
+use Rattle.std.specs.Prelude.{length, ◌≢◌, ◌==◌, ◌&&◌, ◌||◌, nat_lt, not}
 use Rattle.std.specs.List.{filter}
 use Rattle.std.proofs.lemmas.Bool.Decides.{nat_tests}
 use Rattle.packet_store.specs.declared.sent.Kept.{Kept}

@@ -1,4 +1,4 @@
-use Rattle.std.proofs.Common.{◌≡◌, ℕ, ◌<◌, ◌≤◌, length}
+use Rattle.std.proofs.Common.{ℕ, ◌<◌, ◌≤◌, length}
 use Rattle.std.specs.Prelude.{◌≢◌, slice_index_or}
 use Rattle.packet_store.proofs.bags.spot_of.Given as goal
 

@@ -1,4 +1,4 @@
-use Rattle.std.proofs.Common.{rules, ◌≡◌, ◌∙◌, ap, ℕ, ◌==◌, None, Some, cond, arith}
+use Rattle.std.proofs.Common.{rules, ◌≡◌, ◌∙◌, ap, ◌==◌, None, Some, cond, arith}
 use Rattle.std.specs.Map.{lookup}
 use Rattle.packet_store.specs.declared.transaction.Transaction.{Transaction}
 use Rattle.packet_store.specs.Transactions.{is_same}

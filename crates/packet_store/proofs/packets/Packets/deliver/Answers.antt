@@ -1,8 +1,7 @@
-use Rattle.std.proofs.Common.{rules, ◌≡◌, ℕ, Some, None, false, ap, sym, ◌∙◌}
+use Rattle.std.proofs.Common.{rules, ◌≡◌, Some, false, ap, sym, ◌∙◌}
 use Rattle.slab.specs.Slab.{get, with_value}
 use Rattle.slab.proofs.SlabLemmas.{Updates-with_value}
-use Rattle.packet_store.specs.Bags.{times}
-use Rattle.packet_store.specs.Packets.{holds, key_in, kept_in}
+use Rattle.packet_store.specs.Packets.{holds, kept_in}
 use Rattle.packet_store.specs.Rings.{finds}
 use Rattle.packet_store.proofs.Keyed.{Marks, absent_marked, mark_holds, mark_tied}
 use Rattle.packet_store.proofs.packets.Packets.deliver.Goals as goal

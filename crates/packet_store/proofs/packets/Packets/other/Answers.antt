@@ -1,4 +1,4 @@
-use Rattle.std.proofs.Common.{rules, ◌≡◌, ◌∙◌, ap, sym, subst, ℕ, ◌<◌, Some}
+use Rattle.std.proofs.Common.{rules, ◌≡◌, ℕ, ◌<◌, Some}
 use Rattle.packet_store.specs.Bags.{times}
 use Rattle.packet_store.specs.Packets.{holds, key_in}
 use Rattle.packet_store.specs.Rings.{finds}

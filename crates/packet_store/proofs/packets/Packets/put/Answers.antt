@@ -1,5 +1,5 @@
-use Rattle.std.proofs.Common.{rules, ◌≡◌, ◌∙◌, ap, sym, subst, refl, ℕ, ◌+◌, None, Some, cond}
-use Rattle.std.specs.Prelude.{◌≢◌, ◌==◌, ◌&&◌}
+use Rattle.std.proofs.Common.{◌≡◌, ◌∙◌, ap, sym, subst, refl, ℕ, ◌+◌, Some, cond}
+use Rattle.std.specs.Prelude.{◌==◌, ◌&&◌}
 use Rattle.slab.specs.Slab.{get}
 use Rattle.packet_store.specs.declared.transaction.Transaction.{Transaction}
 use Rattle.packet_store.specs.Transactions.{is_that}

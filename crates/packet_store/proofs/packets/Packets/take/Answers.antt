@@ -1,4 +1,4 @@
-use Rattle.std.proofs.Common.{rules, ◌≡◌, ◌∙◌, ap, sym, ℕ, None, Some}
+use Rattle.std.proofs.Common.{rules, ◌≡◌, ◌∙◌, ap, sym, None}
 use Rattle.std.specs.Prelude.{◌==◌}
 use Rattle.packet_store.specs.Bags.{times}
 use Rattle.packet_store.specs.Packets.{holds, key_in, kept_in}
