@@ -10,11 +10,13 @@ use std::alloc::Global;
 use std::collections::HashMap;
 
 /// The keys of packets by their transactions: in no order, each as often as it was added. Three stand in
-/// place, as those of a request, its response and the request behind them.
+/// place, as those of a request, its response and the request behind them. The spots are where the keys
+/// were put in their bags: each is looked at before it is used.
 #[derive(Drop)]
 pub(crate) struct Bags {
     alloc: Global,
     pub(crate) bags: HashMap<Transaction, SmallVec<usize, 3>>,
+    spots: Vec<usize>,
 }
 
 impl Bags {
@@ -26,6 +28,7 @@ impl Bags {
         Bags {
             alloc,
             bags: HashMap::new(alloc),
+            spots: Vec::new(alloc),
         }
     }
 
@@ -50,10 +53,10 @@ impl Bags {
         ensures failed { OnErr result ((t : Transaction) (k : ℕ) → times self.new t k ≡ times self.old t k) }
     {
         if let Some(bag) = self.bags.get_mut(&transaction) {
-            return add_to(bag, key);
+            return add_to(bag, key, &mut self.spots);
         }
         let mut bag = SmallVec::new(self.alloc);
-        add_to(&mut bag, key)?;
+        add_to(&mut bag, key, &mut self.spots)?;
         self.bags.insert(transaction, bag)?;
         Ok(())
     }
@@ -74,7 +77,7 @@ impl Bags {
         let Some(bag) = self.bags.get_mut(&transaction) else {
             return
         };
-        take_out(bag, key);
+        take_out(bag, key, &mut self.spots);
         if bag.is_empty() {
             self.bags.remove(&transaction);
         }
@@ -93,29 +96,36 @@ impl Bags {
 
 /// Adds a key to a bag.
 #[tactic(auto, using(crate::proofs::Bagged::added))]
-fn add_to(bag: &mut SmallVec<usize, 3>, key: usize) -> Result<(), NoMemory>
+fn add_to(bag: &mut SmallVec<usize, 3>, key: usize, spots: &mut Vec<usize>) -> Result<(), NoMemory>
     ensures added { OnOk result ((k : ℕ) → count_of k bag.new.items ≡ one_if (key == k) + count_of k bag.old.items) }
     ensures failed { OnErr result ((k : ℕ) → count_of k bag.new.items ≡ count_of k bag.old.items) }
 {
+    note(spots, key, bag.len())?;
     bag.push(key)?;
     Ok(())
 }
 
 /// Takes a key out of a bag, once.
 #[tactic(auto, using(crate::proofs::Bagged::taken_out, crate::proofs::Bagged::not_there))]
-fn take_out(bag: &mut SmallVec<usize, 3>, key: usize)
+fn take_out(bag: &mut SmallVec<usize, 3>, key: usize, spots: &mut Vec<usize>)
     ensures { (k : ℕ) → count_of k bag.new.items ≡ count_of k bag.old.items - one_if (key == k) }
 {
-    if let Some(spot) = spot_of(bag.as_slice(), key) {
+    if let Some(spot) = spot_of(bag.as_slice(), key, noted(spots, key)) {
         bag.swap_remove(spot);
+        if spot < bag.len() {
+            let _noted = note(spots, bag.as_slice()[spot], spot);
+        }
     }
 }
 
-/// The last spot of a key in a bag.
-fn spot_of(bag: &[usize], key: usize) -> Option<usize>
+/// A spot of a key in a bag: the noted one, if the key stands there.
+fn spot_of(bag: &[usize], key: usize, noted: usize) -> Option<usize>
     ensures found { IfSome result (λ at. (at < length bag.now) × ((d : ℕ) → slice_index_or bag.now at d ≡ key)) }
     ensures none { IfNone result ((at d : ℕ) → at < length bag.now → slice_index_or bag.now at d ≢ key) }
 {
+    if noted < bag.len() && bag[noted] == key {
+        return Some(noted);
+    }
     let mut at = bag.len();
     while at > 0 {
         at -= 1;
@@ -124,6 +134,24 @@ fn spot_of(bag: &[usize], key: usize) -> Option<usize>
         }
     }
     None
+}
+
+/// Notes the spot of a key.
+fn note(spots: &mut Vec<usize>, key: usize, spot: usize) -> Result<(), NoMemory>
+    ensures { OnOk result (slice_index_or spots.new.items key 0 ≡ spot) }
+{
+    while spots.len() <= key {
+        spots.push(spot)?;
+    }
+    spots[key] = spot;
+    Ok(())
+}
+
+/// The noted spot of a key.
+fn noted(spots: &Vec<usize>, key: usize) -> usize
+    ensures { result ≡ slice_index_or spots.now.items key 0 }
+{
+    if key < spots.len() { spots[key] } else { 0 }
 }
 
 /// The first key of a bag other than one.
