@@ -3,9 +3,8 @@ use Rattle.std.proofs.Common.{◌≡◌, ◌∙◌, refl, sym, ap, ℕ, zero, su
 use Rattle.std.specs.Prelude.{◌≢◌, ◌==◌, ◌&&◌, nat_lt, not, Option, IfSome, IfNone}
 use Rattle.std.proofs.lemmas.Bool.Decides.{nat_tests}
 use Rattle.packet_store.specs.declared.sent.Kept.{Kept}
-use Rattle.packet_store.specs.Kept.{found, flying, in_air, first, Rise, IsLowest, NoneFlies}
+use Rattle.packet_store.specs.Kept.{found, flying, in_air, first, Rise, IsLowest, NoneFlies, marked}
 use Rattle.packet_store.specs.Shelves.{entry, listed}
-use Rattle.packet_store.specs.Rings.{marked}
 use Rattle.packet_store.specs.Flights.{Least, IsNext, Landed, NoneAbove, lowest_with}
 use Rattle.packet_store.proofs.Flights.{in_air_is, first_flies, none_flies}
 

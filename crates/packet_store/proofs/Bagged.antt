@@ -1,42 +1,120 @@
--- What a bag has under each transaction once a place was taken out, and one spot of it.
-use Rattle.std.proofs.Common.{◌≡◌, ◌∙◌, refl, sym, subst, ℕ, ◌<◌, Bool, true, false, List, ◌∷◌, length}
-use Rattle.std.specs.Prelude.{◌==◌, ◌&&◌, ◌||◌, slice_index_or}
+-- How many times a list of keys has a key, once one was taken out, and of its first one.
+use Rattle.std.proofs.Common.{◌≡◌, ◌∙◌, refl, sym, subst, ap, ℕ, suc, ◌+◌, ◌-◌, ◌<◌, Bool, true, false, List, [], ◌∷◌, ◌++◌, length, Option, None, Some, cond, arith}
+use Rattle.std.specs.Prelude.{◌≢◌, ◌==◌, ◌&&◌, slice_index_or, IfNone, Result, Ok, Err, OnErr}
 use Rattle.std.specs.List.{swap_remove}
-use Rattle.std.proofs.lemmas.List.{get_or_read}
-use Rattle.std.proofs.lemmas.List.Sorted.{list_any-IsPermutation, IsPermutation-swap_remove}
+use Rattle.std.proofs.lemmas.Bool.{and_parts}
+use Rattle.std.proofs.lemmas.Bool.Decides.{nat_tests}
+use Rattle.std.proofs.lemmas.List.Sums.{sum_by-cons, sum_by_push, sum_by-swap_remove}
+use Rattle.smallvec.specs.SmallVec.{SmallVec}
 use Rattle.packet_store.specs.declared.transaction.Transaction.{Transaction}
-use Rattle.packet_store.specs.declared.row.Place.{Place}
 use Rattle.packet_store.specs.Transactions.{is_same}
-use Rattle.packet_store.specs.Indexes.{Fewer, is_at, is_in}
-use Rattle.packet_store.proofs.Rows.{equal_of}
+use Rattle.packet_store.specs.Bags.{count_of, keys_of, one_if}
 
--- a place less
-pub taken_out : (places : List Place) (at : ℕ) (p : Place) → at < length places → p ≡ slice_index_or places at p → (t : Transaction) (q : ℕ) → is_in places t q ≡ (is_at t q p || is_in (swap_remove places at p) t q)
-taken_out places at p l e t q =
-    list_any-IsPermutation (is_at t q) places (p ∷ swap_remove places at p) (IsPermutation-swap_remove places at p l e)
+differs : (s q : ℕ) → s ≢ q → (s == q) ≡ false
+differs s q ne = grind (arith, nat_tests)
 
-same_rest : (x y z : Bool) → x ≡ false → z ≡ (x || y) → y ≡ z
-same_rest x y z e h = sym (h ∙ rw e refl)
+equal_of : (s q : ℕ) → (s == q) ≡ true → s ≡ q
+equal_of s q e = grind (arith, nat_tests)
 
-gone_rest : (x y z : Bool) → z ≡ (x || y) → z ≡ false → y ≡ false
-gone_rest true y z h e = cc (h, e)
-gone_rest false y z h e = sym h ∙ e
+same_test : (s : ℕ) → (s == s) ≡ true
+same_test s = grind (arith, nat_tests)
 
-and_false : (b x : Bool) → x ≡ false → (b && x) ≡ false
-and_false true x e = e
-and_false false x e = refl
+count_cons : (x k : ℕ) (xs : List ℕ) → count_of k (x ∷ xs) ≡ one_if (x == k) + count_of k xs
+count_cons x k xs = sum_by-cons (λ j. cond (j == k) 1 0) x xs
 
-pub fewer_out : (places after : List Place) (p : Place) → ((t : Transaction) (q : ℕ) → is_in places t q ≡ (is_at t q p || is_in after t q)) → Fewer (is_in places) (is_in after) p.serial
-fewer_out places after p h = record {
-  same = λ t q e. same_rest (is_at t q p) (is_in after t q) (is_in places t q) (and_false (is_same p.transaction t) (p.serial == q) e) (h t q);
-  gone = λ t q e. gone_rest (is_at t q p) (is_in after t q) (is_in places t q) (h t q) e;
-}
+-- one less of the key that stands at a spot
+pub taken_out : (keys : List ℕ) (at x key k : ℕ) → at < length keys → x ≡ key → x ≡ slice_index_or keys at x → count_of k (swap_remove keys at x) ≡ count_of k keys - one_if (key == k)
+taken_out keys at x key k l e h =
+    let s = sum_by-swap_remove (λ j. cond (j == k) 1 0) keys at x l in
+    let a : one_if (slice_index_or keys at x == k) ≡ one_if (key == k) = ap (λ j. one_if (j == k)) (sym h ∙ e) in
+    omega (arith, s, a)
 
-pub fewer_taken : (places : List Place) (at s : ℕ) (p : Place) → at < length places → p ≡ slice_index_or places at p → (p.serial == s) ≡ true → Fewer (is_in places) (is_in (swap_remove places at p)) s
-fewer_taken places at s p l e d =
-    subst (λ (n : ℕ). Fewer (is_in places) (is_in (swap_remove places at p)) n) (equal_of p.serial s d)
-    (fewer_out places (swap_remove places at p) p (taken_out places at p l e))
+none_step : (x key : ℕ) (xs : List ℕ) → x ≢ key → count_of key xs ≡ 0 → count_of key (x ∷ xs) ≡ 0
+none_step x key xs ne e =
+    let a : one_if (x == key) ≡ 0 = ap one_if (differs x key ne) in
+    let c = count_cons x key xs in
+    omega (arith, a, c, e)
 
--- one spot has one place
-pub same_read : (places : List Place) (at : ℕ) (x y : Place) → at < length places → x ≡ slice_index_or places at x → y ≡ slice_index_or places at y → x ≡ y
-same_read places at x y l e f = get_or_read places at x l e y ∙ sym f
+none_there : (keys : List ℕ) (key : ℕ) → ((at d : ℕ) → at < length keys → slice_index_or keys at d ≢ key) → count_of key keys ≡ 0
+none_there [] key h = refl
+none_there (x ∷ keys) key h = none_step x key keys (h 0 0 (omega arith)) (none_there keys key (λ at d l. h (suc at) d (omega (arith, l))))
+
+not_by : (keys : List ℕ) (key k : ℕ) (b : Bool) → (key == k) ≡ b → count_of key keys ≡ 0 → count_of k keys ≡ count_of k keys - one_if b
+not_by keys key k true e n =
+    let z : count_of k keys ≡ 0 = ap (λ j. count_of j keys) (sym (equal_of key k e)) ∙ n in
+    omega (arith, z)
+not_by keys key k false e n = omega arith
+
+-- none less, where it is not there
+pub not_there : (keys : List ℕ) (key k : ℕ) → ((at d : ℕ) → at < length keys → slice_index_or keys at d ≢ key) → count_of k keys ≡ count_of k keys - one_if (key == k)
+not_there keys key k h = not_by keys key k (key == k) refl (none_there keys key h)
+
+pub added : (keys : List ℕ) (key k : ℕ) → count_of k (keys ++ key ∷ []) ≡ one_if (key == k) + count_of k keys
+added keys key k =
+    let p = sum_by_push (λ j. cond (j == k) 1 0) keys key in
+    omega (arith, p)
+
+-- ---- the first key
+pub other_here : (x : ℕ) (xs : List ℕ) → 0 < count_of x (x ∷ xs)
+other_here x xs =
+    let a : one_if (x == x) ≡ 1 = ap one_if (same_test x) in
+    let c = count_cons x x xs in
+    omega (arith, a, c)
+
+pub other_later : (x k : ℕ) (xs : List ℕ) → 0 < count_of k xs → 0 < count_of k (x ∷ xs)
+other_later x k xs l =
+    let c = count_cons x k xs in
+    omega (arith, c, l)
+
+no_other_by : (x k : ℕ) (xs : List ℕ) (except : Option ℕ) (b : Bool) → (x == k) ≡ b → except ≡ Some x → (0 < count_of k xs → except ≡ Some k) → 0 < count_of k (x ∷ xs) → except ≡ Some k
+no_other_by x k xs except true d e h l = e ∙ ap Some (equal_of x k d)
+no_other_by x k xs except false d e h l =
+    let a : one_if (x == k) ≡ 0 = ap one_if d in
+    let c = count_cons x k xs in
+    h (omega (arith, a, c, l))
+
+pub no_other : (bag : List ℕ) (x : ℕ) (xs : List ℕ) (except o : Option ℕ) → bag ≡ x ∷ xs → except ≡ Some x → IfNone o ((k : ℕ) → 0 < count_of k xs → except ≡ Some k) → IfNone o ((k : ℕ) → 0 < count_of k bag → except ≡ Some k)
+no_other bag x xs except None b e h = λ k l. no_other_by x k xs except (x == k) refl e (h k) (subst (λ ys. 0 < count_of k ys) b l)
+no_other bag x xs except (Some y) b e h = tt
+
+-- ---- a bag more
+abbrev made : (g r p l : ℕ) → Transaction
+made g r p l = record { generation = g; requester = r; responder = p; label = l }
+
+alike : (g r p l g2 r2 p2 l2 : ℕ) → g ≡ g2 → r ≡ r2 → p ≡ p2 → l ≡ l2 → made g r p l ≡ made g2 r2 p2 l2
+alike g r p l g2 r2 p2 l2 a b c d =
+    ap (λ x. made x r p l) a ∙ ap (λ x. made g2 x p l) b ∙ ap (λ x. made g2 r2 x l) c ∙ ap (λ x. made g2 r2 p2 x) d
+
+-- the same transactions are one
+same_is : (u t : Transaction) → is_same u t ≡ true → u ≡ t
+same_is u t e =
+    let a = and_parts (u.generation == t.generation) _ e in
+    let b = and_parts (u.requester == t.requester) _ a.1 in
+    let c = and_parts (u.responder == t.responder) (u.label == t.label) b.1 in
+    alike u.generation u.requester u.responder u.label t.generation t.requester t.responder t.label
+    (equal_of _ _ a.0) (equal_of _ _ b.0) (equal_of _ _ c.0) (equal_of _ _ c.1)
+
+entered_by : (f g : Transaction → Option (SmallVec ℕ)) (u : Transaction) (bag : SmallVec ℕ) (key : ℕ) (t : Transaction) (k : ℕ) (b : Bool) → is_same u t ≡ b → f u ≡ None → count_of k bag.items ≡ one_if (key == k) → g t ≡ cond b (Some bag) (f t) → count_of k (keys_of (g t)) ≡ one_if (b && (key == k)) + count_of k (keys_of (f t))
+entered_by f g u bag key t k true e none one h =
+    let z : count_of k (keys_of (f t)) ≡ 0 = ap (λ v. count_of k (keys_of (f v))) (sym (same_is u t e)) ∙ ap (λ o. count_of k (keys_of o)) none in
+    let n : count_of k (keys_of (g t)) ≡ count_of k bag.items = ap (λ o. count_of k (keys_of o)) h in
+    omega (arith, z, n, one)
+entered_by f g u bag key t k false e none one h =
+    let n = ap (λ o. count_of k (keys_of o)) h in
+    omega (arith, n)
+
+pub entered : (f g : Transaction → Option (SmallVec ℕ)) (u : Transaction) (bag : SmallVec ℕ) (key : ℕ) (t : Transaction) (k : ℕ) → f u ≡ None → count_of k bag.items ≡ one_if (key == k) → ((q : Transaction) → g q ≡ cond (is_same u q) (Some bag) (f q)) → count_of k (keys_of (g t)) ≡ one_if (is_same u t && (key == k)) + count_of k (keys_of (f t))
+entered f g u bag key t k none one h = entered_by f g u bag key t k (is_same u t) refl none one (h t)
+
+-- a bag in place of one that has each key as often
+written_by : (f g : Transaction → Option (SmallVec ℕ)) (u : Transaction) (bag after : SmallVec ℕ) (t : Transaction) (k : ℕ) (b : Bool) → is_same u t ≡ b → f u ≡ Some bag → count_of k after.items ≡ count_of k bag.items → g t ≡ cond b (Some after) (f t) → count_of k (keys_of (g t)) ≡ count_of k (keys_of (f t))
+written_by f g u bag after t k true e was same h =
+    ap (λ o. count_of k (keys_of o)) h ∙ same ∙ ap (λ o. count_of k (keys_of o)) (sym was) ∙ ap (λ v. count_of k (keys_of (f v))) (same_is u t e)
+written_by f g u bag after t k false e was same h = ap (λ o. count_of k (keys_of o)) h
+
+pub written : (f g : Transaction → Option (SmallVec ℕ)) (u : Transaction) (bag after : SmallVec ℕ) (t : Transaction) (k : ℕ) → f u ≡ Some bag → count_of k after.items ≡ count_of k bag.items → ((q : Transaction) → g q ≡ cond (is_same u q) (Some after) (f q)) → count_of k (keys_of (g t)) ≡ count_of k (keys_of (f t))
+written f g u bag after t k was same h = written_by f g u bag after t k (is_same u t) refl was same (h t)
+
+pub on_error_of : {A E : Type 0} {X Y : Type 0} (r : Result A E) → OnErr r X → (X → Y) → OnErr r Y
+on_error_of (Ok a) x f = tt
+on_error_of (Err e) x f = f x

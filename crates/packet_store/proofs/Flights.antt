@@ -6,7 +6,6 @@ use Rattle.std.proofs.lemmas.Bool.Decides.{nat_tests}
 use Rattle.packet_store.specs.declared.sent.Kept.{Kept}
 use Rattle.packet_store.specs.declared.sent.Sent.{Sent}
 use Rattle.packet_store.specs.declared.transaction.Transaction.{Transaction}
-use Rattle.packet_store.specs.declared.index.Index.{Index}
 use Rattle.packet_store.specs.Transactions.{begun_by}
 use Rattle.packet_store.specs.Kept.{with_delivered, delivered, found, flying, in_air, is_flying, first, Rise, IsLowest, NoneFlies}
 use Rattle.packet_store.specs.Sound.{is_earlier, AreKept}
@@ -161,9 +160,9 @@ pub first_flies : (low last : ℕ) (ks : List Kept) → Rise low last ks → IfS
 first_flies low last [] h = tt
 first_flies low last (k ∷ ks) h = flies_step last k ks k.in_flight refl h.1.1 (first_flies k.serial last ks h.1.1)
 
-pub rise_of : (index : Index) (last since low : ℕ) (ks : List Kept) → AreKept index last since low ks → Rise low last ks
-rise_of index last since low [] h = tt
-rise_of index last since low (k ∷ ks) h = (h.0.above, (h.0.below, rise_of index last since k.serial ks h.1))
+pub rise_of : (last since low : ℕ) (ks : List Kept) → AreKept last since low ks → Rise low last ks
+rise_of last since low [] h = tt
+rise_of last since low (k ∷ ks) h = (h.0.above, (h.0.below, rise_of last since k.serial ks h.1))
 
 pub none_flies : (ks : List Kept) → IfNone (first (flying ks)) (NoneFlies ks)
 none_flies ks = none_in (flying ks)

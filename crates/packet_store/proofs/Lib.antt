@@ -1,8 +1,7 @@
 pub mod Roles
 pub mod Rings
-pub mod Rows
 pub mod Bagged
-pub mod Indexed
+pub mod Keyed
 pub mod Listed
 pub mod Shelved
 pub mod Sound

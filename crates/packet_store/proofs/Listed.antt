@@ -3,8 +3,7 @@ use Rattle.std.proofs.Common.{◌≡◌, ◌∙◌, refl, sym, ap, ℕ, zero, su
 use Rattle.std.specs.Prelude.{◌≢◌, ◌==◌, nat_lt, not, Option}
 use Rattle.std.proofs.lemmas.Bool.Decides.{nat_tests}
 use Rattle.packet_store.specs.declared.sent.Kept.{Kept}
-use Rattle.packet_store.specs.Kept.{without, with_delivered, delivered, found, AreBelow}
-use Rattle.packet_store.specs.Rings.{marked}
+use Rattle.packet_store.specs.Kept.{without, with_delivered, delivered, found, AreBelow, marked}
 use Rattle.packet_store.specs.Shelves.{entry, listed}
 
 differs : (s q : ℕ) → s ≢ q → (s == q) ≡ false

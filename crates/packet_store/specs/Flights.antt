@@ -1,9 +1,9 @@
 -- What is in flight, of packets under serials: the lowest serial, and how many there are.
 use Rattle.std.specs.Prelude.{◌≡◌, ℕ, ◌<◌, ◌==◌, ◌&&◌, not, true, false, Option, Some, None, length}
 use Rattle.packet_store.specs.declared.sent.Kept.{Kept}
-use Rattle.packet_store.specs.declared.ring.Ring.{Ring}
+use Rattle.packet_store.specs.declared.packets.Packets.{Packets}
 use Rattle.packet_store.specs.declared.aloft.Flights.{Flights}
-use Rattle.packet_store.specs.Rings.{holds}
+use Rattle.packet_store.specs.Packets.{holds}
 use Rattle.packet_store.specs.Kept.{flying, in_air}
 use Rattle.packet_store.specs.Shelves.{listed}
 
@@ -29,7 +29,7 @@ abbrev pub lowest_with : ℕ → Option ℕ → Option ℕ
 lowest_with serial None = Some serial
 lowest_with serial (Some s) = Some s
 
--- the fields fit what the ring has, up to the last serial
-pub record AreFlights (ring : Ring) (last : ℕ) (flights : Flights) : Type 0 where
-  pub lowest : Least (holds ring) flights.lowest
-  pub counted : flights.count ≡ length (flying (listed (holds ring) last))
+-- the fields fit what the packets has, up to the last serial
+pub record AreFlights (packets : Packets) (last : ℕ) (flights : Flights) : Type 0 where
+  pub lowest : Least (holds packets) flights.lowest
+  pub counted : flights.count ≡ length (flying (listed (holds packets) last))

@@ -75,3 +75,8 @@ AreBelow serial (k ∷ kept) = (k.serial < serial) × AreBelow serial kept
 -- the delivered packets above this serial
 abbrev pub recent : ℕ → List Kept → List Kept
 recent aged kept = filter (λ k. not k.in_flight && nat_lt aged k.serial) kept
+
+-- what was kept is delivered
+abbrev pub marked : Option Kept → Option Kept
+marked None = None
+marked (Some k) = Some (record k { in_flight = false })

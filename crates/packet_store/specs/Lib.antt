@@ -1,7 +1,8 @@
 pub mod Roles
 pub mod Transactions
-pub mod Indexes
+pub mod Bags
 pub mod Rings
+pub mod Packets
 pub mod Kept
 pub mod Shelves
 pub mod Flights

@@ -1,7 +1,7 @@
--- The packets of a ring as a function: what it has under a serial.
+-- The places of a ring as a function: what it has under a serial.
 use Rattle.std.specs.Prelude.{◌≡◌, ℕ, ◌==◌, ◌%◌, nat_eq, Bool, false, if◌then◌else◌, List, Option, Some, None, slice_index_or}
 use Rattle.std.specs.Map.{lookup}
-use Rattle.packet_store.specs.declared.sent.Kept.{Kept}
+use Rattle.packet_store.specs.declared.ring.Place.{Place}
 use Rattle.packet_store.specs.declared.ring.Ring.{Ring}
 
 -- the slot of a serial
@@ -9,32 +9,27 @@ abbrev pub slot_of : ℕ → ℕ
 slot_of serial = serial % 2048
 
 -- what a slot has
-abbrev pub slot : List (Option Kept) → ℕ → Option Kept
+abbrev pub slot : List (Option Place) → ℕ → Option Place
 slot slots at = slice_index_or slots at None
 
--- a slot has the packet of this serial
-abbrev pub is_of : ℕ → Option Kept → Bool
+-- a slot has the place of this serial
+abbrev pub is_of : ℕ → Option Place → Bool
 is_of serial None = false
 is_of serial (Some k) = k.serial == serial
 
 -- what a slot has, if that is of this serial, else what the older ones have
-abbrev pub pick : ℕ → Option Kept → Option Kept → Option Kept
+abbrev pub pick : ℕ → Option Place → Option Place → Option Place
 pick serial None older = older
 pick serial (Some k) older = if k.serial == serial then Some k else older
 
 -- what the older ones have
-abbrev pub older : List (ℕ × Kept) → ℕ → Option Kept
+abbrev pub older : List (ℕ × Place) → ℕ → Option Place
 older entries serial = lookup (nat_eq serial) entries
 
 -- the ring has this under a serial
-unfoldable pub holds : Ring → ℕ → Option Kept
-holds ring serial = pick serial (slot ring.slots.items (slot_of serial)) (older ring.older.entries serial)
+unfoldable pub finds : Ring → ℕ → Option Place
+finds ring serial = pick serial (slot ring.slots.items (slot_of serial)) (older ring.older.entries serial)
 
--- each packet in a slot is in that of its serial
-abbrev pub Placed : List (Option Kept) → Type 0
-Placed slots = (at : ℕ) (k : Kept) → slot slots at ≡ Some k → slot_of k.serial ≡ at
-
--- what was kept is delivered
-abbrev pub marked : Option Kept → Option Kept
-marked None = None
-marked (Some k) = Some (record k { in_flight = false })
+-- each place in a slot is in that of its serial
+abbrev pub Placed : List (Option Place) → Type 0
+Placed slots = (at : ℕ) (k : Place) → slot slots at ≡ Some k → slot_of k.serial ≡ at

@@ -1,8 +1,8 @@
--- The packets of a shelf as a list by rising serial: what its ring has under each serial up to the last one.
+-- The packets of a shelf as a list by rising serial: what its packets has under each serial up to the last one.
 use Rattle.std.specs.Prelude.{◌≡◌, ℕ, zero, suc, ◌<◌, List, [], ◌∷◌, ◌++◌, Option, Some, None, length}
 use Rattle.packet_store.specs.declared.sent.Kept.{Kept}
-use Rattle.packet_store.specs.declared.ring.Ring.{Ring}
-use Rattle.packet_store.specs.Rings.{holds, Placed}
+use Rattle.packet_store.specs.declared.packets.Packets.{Packets}
+use Rattle.packet_store.specs.Packets.{holds, Exact}
 
 -- what there is, as a list
 abbrev pub entry : Option Kept → List Kept
@@ -15,9 +15,9 @@ listed f zero = []
 listed f (suc last) = listed f last ++ entry (f (suc last))
 
 -- the fields of a shelf fit each other: a packet stands under its serial, from 1 up to the last one
-pub record IsShelf (ring : Ring) (last count : ℕ) : Type 0 where
-  pub placed : Placed ring.slots.items
-  pub named : (q : ℕ) (k : Kept) → holds ring q ≡ Some k → k.serial ≡ q
-  pub first : holds ring 0 ≡ None
-  pub ends : (q : ℕ) → last < q → holds ring q ≡ None
-  pub counted : count ≡ length (listed (holds ring) last)
+pub record IsShelf (packets : Packets) (last count : ℕ) : Type 0 where
+  pub exact : Exact packets
+  pub named : (q : ℕ) (k : Kept) → holds packets q ≡ Some k → k.serial ≡ q
+  pub first : holds packets 0 ≡ None
+  pub ends : (q : ℕ) → last < q → holds packets q ≡ None
+  pub counted : count ≡ length (listed (holds packets) last)

@@ -5,10 +5,9 @@ use Rattle.std.specs.List.{filter}
 use Rattle.packet_store.specs.declared.sent.Sent.{Sent}
 use Rattle.packet_store.specs.declared.sent.Kept.{Kept}
 use Rattle.packet_store.specs.declared.transaction.Transaction.{Transaction}
-use Rattle.packet_store.specs.declared.index.Index.{Index}
 use Rattle.packet_store.specs.Transactions.{begun_by}
 use Rattle.packet_store.specs.Kept.{without, with_delivered}
-use Rattle.packet_store.specs.Sound.{Tied, withdrawn}
+use Rattle.packet_store.specs.Sound.{AreKept, withdrawn}
 
 pub record Stored : Type 0 where
   pub kept : List Kept
@@ -51,6 +50,6 @@ abbrev pub lose_step : Stored → ℕ → Stored
 lose_step s serial = record { kept = without serial s.kept; last = s.last; calls = s.calls + 1 }
 
 -- the fields of a store fit each other
-pub record IsStored (kept : List Kept) (index : Index) (last calls : ℕ) : Type 0 where
-  pub tied : Tied kept index last (last - 1024)
+pub record IsStored (kept : List Kept) (last calls : ℕ) : Type 0 where
+  pub sound : AreKept last (last - 1024) 0 kept
   pub counted : last ≤ calls

@@ -1,161 +1,168 @@
-ghost use Rattle.std.specs.Prelude.{◌≡◌, ℕ, ◌<◌, ◌||◌, [], false, true, IfSome, IfNone, OnOk, OnErr};
+ghost use Rattle.std.specs.Prelude.{◌≡◌, ◌≢◌, ℕ, ◌<◌, ◌+◌, ◌-◌, ◌==◌, ◌&&◌, Some, length, slice_index_or, IfSome, IfNone, OnOk, OnErr};
 ghost use Rattle.packet_store.specs.declared.transaction.Transaction.{Transaction};
-ghost use Rattle.packet_store.specs.Indexes.{Fewer, bags_have, bag_at, bag_size, is_at, is_under, key_of, places_of};
+ghost use Rattle.packet_store.specs.Transactions.{is_same, is_that};
+ghost use Rattle.packet_store.specs.Bags.{count_of, one_if, times};
 
-use crate::bag::{Bag, Taken};
-use crate::row::Place;
 use crate::transaction::Transaction;
 use sbp_base::NoMemory;
+use smallvec::SmallVec;
 use std::alloc::Global;
 use std::collections::HashMap;
 
-/// Places by their transactions, each in the bag of its transaction. Beside the bags stands at which
-/// spot of its bag each serial is, so that it is found there.
+/// The keys of packets by their transactions: in no order, each as often as it was added. Three stand in
+/// place, as those of a request, its response and the request behind them. The spots are where the keys
+/// were put in their bags: each is looked at before it is used.
 #[derive(Drop)]
 pub(crate) struct Bags {
     alloc: Global,
-    pub(crate) bags: HashMap<u64, Bag>,
-    spots: HashMap<u64, usize>,
-}
-
-/// The key of a transaction.
-fn key_of(transaction: &Transaction) -> u64
-    ensures { result ≡ key_of transaction.now }
-{
-    u64::from(transaction.label)
-        + 256
-            * (u64::from(transaction.requester)
-                + 256
-                    * (u64::from(transaction.responder) + 256 * u64::from(transaction.generation)))
+    pub(crate) bags: HashMap<Transaction, SmallVec<usize, 3>>,
+    spots: Vec<usize>,
 }
 
 impl Bags {
-    /// No place.
-    #[tactic(auto, unfolding(crate::specs::Indexes::bags_have))]
+    /// No key.
+    #[tactic(auto, unfolding(crate::specs::Bags::times))]
     pub(crate) fn new(alloc: Global) -> Bags
-        ensures { (t : Transaction) (q : ℕ) → bags_have result t q ≡ false }
+        ensures { (t : Transaction) (k : ℕ) → times result t k ≡ 0 }
     {
         Bags {
             alloc,
             bags: HashMap::new(alloc),
-            spots: HashMap::new(alloc),
+            spots: Vec::new(alloc),
         }
     }
 
-    /// Adds a place.
-    #[tactic(auto, unfolding(crate::specs::Indexes::bags_have))]
-    pub(crate) fn insert(&mut self, place: Place) -> Result<(), NoMemory>
-        ensures added { OnOk result ((t : Transaction) (q : ℕ) → bags_have self.new t q ≡ (is_at t q place || bags_have self.old t q)) }
-        ensures failed { OnErr result ((t : Transaction) (q : ℕ) → bags_have self.new t q ≡ bags_have self.old t q) }
+    /// Adds a key under a transaction, if there is one.
+    pub(crate) fn insert(
+        &mut self,
+        transaction: Option<Transaction>,
+        key: usize,
+    ) -> Result<(), NoMemory>
+        ensures added { OnOk result ((t : Transaction) (k : ℕ) → times self.new t k ≡ one_if (is_that t transaction && (key == k)) + times self.old t k) }
+        ensures failed { OnErr result ((t : Transaction) (k : ℕ) → times self.new t k ≡ times self.old t k) }
     {
-        let key = key_of(&place.transaction);
-        let at = self.size(key);
-        self.spots.insert(place.serial, at)?;
-        self.put(key, place)
-    }
-
-    /// How many places the bag of a key has.
-    fn size(&self, key: u64) -> usize {
-        match self.bags.get(&key) {
-            Some(bag) => bag.places.len(),
-            None => 0,
+        match transaction {
+            Some(transaction) => self.put(transaction, key),
+            None => Ok(()),
         }
     }
 
-    /// Puts a place in the bag of its key.
-    #[tactic(auto, unfolding(crate::specs::Indexes::bags_have))]
-    fn put(&mut self, key: u64, place: Place) -> Result<(), NoMemory>
-        requires { key ≡ key_of place.transaction }
-        ensures added { OnOk result ((t : Transaction) (q : ℕ) → bags_have self.new t q ≡ (is_at t q place || bags_have self.old t q)) }
-        ensures failed { OnErr result ((t : Transaction) (q : ℕ) → bags_have self.new t q ≡ bags_have self.old t q) }
+    #[tactic(auto, unfolding(crate::specs::Bags::times))]
+    fn put(&mut self, transaction: Transaction, key: usize) -> Result<(), NoMemory>
+        ensures added { OnOk result ((t : Transaction) (k : ℕ) → times self.new t k ≡ one_if (is_same transaction t && (key == k)) + times self.old t k) }
+        ensures failed { OnErr result ((t : Transaction) (k : ℕ) → times self.new t k ≡ times self.old t k) }
     {
-        if let Some(bag) = self.bags.get_mut(&key) {
-            return bag.put(place);
+        if let Some(bag) = self.bags.get_mut(&transaction) {
+            return add_to(bag, key, &mut self.spots);
         }
-        let mut bag = Bag::new(self.alloc);
-        bag.put(place)?;
-        self.bags.insert(key, bag)?;
+        let mut bag = SmallVec::new(self.alloc);
+        add_to(&mut bag, key, &mut self.spots)?;
+        self.bags.insert(transaction, bag)?;
         Ok(())
     }
 
-    /// Removes a place.
-    #[tactic(auto, unfolding(crate::specs::Indexes::bags_have))]
-    pub(crate) fn remove(&mut self, place: &Place)
-        ensures { Fewer (bags_have self.old) (bags_have self.new) place.now.serial }
+    /// Takes a key out from under a transaction, if there is one, and the bag with its last key.
+    pub(crate) fn remove(&mut self, transaction: Option<Transaction>, key: usize)
+        ensures { (t : Transaction) (k : ℕ) → times self.new t k ≡ times self.old t k - one_if (is_that t transaction && (key == k)) }
     {
-        if self.spots.is_empty() {
-            return;
+        if let Some(transaction) = transaction {
+            self.take(transaction, key);
         }
-        let Some(at) = self.spots.remove(&place.serial) else {
+    }
+
+    #[tactic(auto, unfolding(crate::specs::Bags::times))]
+    fn take(&mut self, transaction: Transaction, key: usize)
+        ensures { (t : Transaction) (k : ℕ) → times self.new t k ≡ times self.old t k - one_if (is_same transaction t && (key == k)) }
+    {
+        let Some(bag) = self.bags.get_mut(&transaction) else {
             return
         };
-        let key = key_of(&place.transaction);
-        self.drop_at(key, at, place.serial);
-        self.settle(key, at);
-    }
-
-    /// Takes a serial out of a bag, where it stands at this spot.
-    #[tactic(auto, unfolding(crate::specs::Indexes::bags_have))]
-    fn drop_at(&mut self, key: u64, at: usize, serial: u64)
-        ensures { Fewer (bags_have self.old) (bags_have self.new) serial }
-    {
-        if let Some(bag) = self.bags.get_mut(&key) {
-            bag.remove(at, serial);
+        take_out(bag, key, &mut self.spots);
+        if bag.is_empty() {
+            self.bags.remove(&transaction);
         }
     }
 
-    /// Takes out a serial under a transaction that is below the end, if there is one.
-    #[tactic(auto, unfolding(crate::specs::Indexes::bags_have, crate::specs::Indexes::bag_size))]
-    pub(crate) fn take_below(&mut self, transaction: &Transaction, end: u64) -> Option<u64>
-        ensures found { IfSome result (λ s. (bags_have self.old transaction.now s ≡ true) × (s < end)) }
-        ensures fewer { IfSome result (λ s. Fewer (bags_have self.old) (bags_have self.new) s) }
-        ensures smaller { IfSome result (λ s. bag_size self.new transaction.now < bag_size self.old transaction.now) }
-        ensures none { IfNone result ((q : ℕ) → q < end → bags_have self.old transaction.now q ≡ false) }
-        ensures kept { IfNone result ((t : Transaction) (q : ℕ) → bags_have self.new t q ≡ bags_have self.old t q) }
+    /// A key under a transaction other than one, if there is one.
+    #[tactic(auto, unfolding(crate::specs::Bags::times))]
+    pub(crate) fn other(&self, transaction: &Transaction, except: Option<usize>) -> Option<usize>
+        ensures found { IfSome result (λ k. (0 < times self.now transaction.now k) × (except ≢ Some k)) }
+        ensures none { IfNone result ((k : ℕ) → 0 < times self.now transaction.now k → except ≡ Some k) }
     {
-        if self.bags.is_empty() {
-            return None;
-        }
-        let key = key_of(transaction);
-        let taken = self.take_from(key, transaction, end)?;
-        self.spots.remove(&taken.serial);
-        self.settle(key, taken.at);
-        Some(taken.serial)
+        let bag = self.bags.get(transaction)?;
+        other_of(bag.as_slice(), except)
     }
+}
 
-    /// Takes a serial under a transaction that is below the end out of its bag, if there is one.
-    #[tactic(auto, unfolding(crate::specs::Indexes::bags_have, crate::specs::Indexes::bag_size))]
-    fn take_from(&mut self, key: u64, transaction: &Transaction, end: u64) -> Option<Taken>
-        requires { key ≡ key_of transaction.now }
-        ensures found { IfSome result (λ k. (bags_have self.old transaction.now k.serial ≡ true) × (k.serial < end)) }
-        ensures fewer { IfSome result (λ k. Fewer (bags_have self.old) (bags_have self.new) k.serial) }
-        ensures smaller { IfSome result (λ k. bag_size self.new transaction.now < bag_size self.old transaction.now) }
-        ensures none { IfNone result ((q : ℕ) → q < end → bags_have self.old transaction.now q ≡ false) }
-        ensures kept { IfNone result ((t : Transaction) (q : ℕ) → bags_have self.new t q ≡ bags_have self.old t q) }
-    {
-        match self.bags.get_mut(&key) {
-            Some(bag) => bag.take_below(transaction, end),
-            None => None,
-        }
-    }
+/// Adds a key to a bag.
+#[tactic(auto, using(crate::proofs::Bagged::added))]
+fn add_to(bag: &mut SmallVec<usize, 3>, key: usize, spots: &mut Vec<usize>) -> Result<(), NoMemory>
+    ensures added { OnOk result ((k : ℕ) → count_of k bag.new.items ≡ one_if (key == k) + count_of k bag.old.items) }
+    ensures failed { OnErr result ((k : ℕ) → count_of k bag.new.items ≡ count_of k bag.old.items) }
+{
+    note(spots, key, bag.len())?;
+    bag.push(key)?;
+    Ok(())
+}
 
-    /// After a place left this spot of a bag: notes which one stands there now, and drops a bag that is
-    /// empty.
-    #[tactic(auto, unfolding(crate::specs::Indexes::bags_have, crate::specs::Indexes::bag_size))]
-    fn settle(&mut self, key: u64, at: usize)
-        ensures same { (t : Transaction) (q : ℕ) → bags_have self.new t q ≡ bags_have self.old t q }
-        ensures size { (t : Transaction) → bag_size self.new t ≡ bag_size self.old t }
-    {
-        let Some(bag) = self.bags.get(&key) else {
-            return
-        };
-        if bag.places.is_empty() {
-            self.bags.remove(&key);
-            return;
-        }
-        if at < bag.places.len() {
-            let moved = bag.places[at].serial;
-            let _noted = self.spots.insert(moved, at);
+/// Takes a key out of a bag, once.
+#[tactic(auto, using(crate::proofs::Bagged::taken_out, crate::proofs::Bagged::not_there))]
+fn take_out(bag: &mut SmallVec<usize, 3>, key: usize, spots: &mut Vec<usize>)
+    ensures { (k : ℕ) → count_of k bag.new.items ≡ count_of k bag.old.items - one_if (key == k) }
+{
+    if let Some(spot) = spot_of(bag.as_slice(), key, noted(spots, key)) {
+        bag.swap_remove(spot);
+        if spot < bag.len() {
+            let _noted = note(spots, bag.as_slice()[spot], spot);
         }
     }
+}
+
+/// A spot of a key in a bag: the noted one, if the key stands there.
+fn spot_of(bag: &[usize], key: usize, noted: usize) -> Option<usize>
+    ensures found { IfSome result (λ at. (at < length bag.now) × ((d : ℕ) → slice_index_or bag.now at d ≡ key)) }
+    ensures none { IfNone result ((at d : ℕ) → at < length bag.now → slice_index_or bag.now at d ≢ key) }
+{
+    if noted < bag.len() && bag[noted] == key {
+        return Some(noted);
+    }
+    let mut at = bag.len();
+    while at > 0 {
+        at -= 1;
+        if bag[at] == key {
+            return Some(at);
+        }
+    }
+    None
+}
+
+/// Notes the spot of a key.
+fn note(spots: &mut Vec<usize>, key: usize, spot: usize) -> Result<(), NoMemory>
+    ensures { OnOk result (slice_index_or spots.new.items key 0 ≡ spot) }
+{
+    while spots.len() <= key {
+        spots.push(spot)?;
+    }
+    spots[key] = spot;
+    Ok(())
+}
+
+/// The noted spot of a key.
+fn noted(spots: &Vec<usize>, key: usize) -> usize
+    ensures { result ≡ slice_index_or spots.now.items key 0 }
+{
+    if key < spots.len() { spots[key] } else { 0 }
+}
+
+/// The first key of a bag other than one.
+#[tactic(auto, using(crate::proofs::Bagged::other_here, crate::proofs::Bagged::other_later, crate::proofs::Bagged::no_other))]
+fn other_of(bag: &[usize], except: Option<usize>) -> Option<usize>
+    ensures found { IfSome result (λ k. (0 < count_of k bag.now) × (except ≢ Some k)) }
+    ensures none { IfNone result ((k : ℕ) → 0 < count_of k bag.now → except ≡ Some k) }
+{
+    let (key, rest) = bag.split_first()?;
+    if except != Some(*key) {
+        return Some(*key);
+    }
+    other_of(rest, except)
 }

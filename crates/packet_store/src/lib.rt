@@ -3,16 +3,13 @@
 #![tactic(auto)]
 
 mod aloft;
-mod bag;
 mod bags;
-mod index;
 mod laws;
+mod packets;
 mod ring;
 mod role;
-mod row;
 mod sent;
 mod shelf;
-mod spares;
 mod store;
 mod tables;
 mod transaction;

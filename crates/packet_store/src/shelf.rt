@@ -1,40 +1,42 @@
-ghost use Rattle.std.specs.Prelude.{◌≡◌, ◌<◌, ◌++◌, [], ◌∷◌, length, OnOk, OnErr};
+ghost use Rattle.std.specs.Prelude.{◌≡◌, ◌≢◌, ℕ, ◌<◌, ◌≤◌, ◌++◌, [], ◌∷◌, length, false, true, OnOk, OnErr, IfSome, IfNone};
 ghost use Rattle.std.specs.Option.{option_copied};
 ghost use Rattle.packet_store.specs.Kept.{without, with_delivered, found, flying, in_air, AreBelow};
 ghost use Rattle.packet_store.specs.Flights.{Least};
+ghost use Rattle.packet_store.specs.Packets.{is_among};
+ghost use Rattle.packet_store.specs.Transactions.{transaction_of};
 ghost use Rattle.packet_store.specs.Stored.{newest};
 
 use crate::aloft::Flights;
-use crate::ring::Ring;
+use crate::packets::Packets;
 use crate::sent::{Kept, Sent};
-use crate::spares::Spares;
+use crate::transaction::Transaction;
 use sbp_base::{Bytes, NoMemory};
 use std::alloc::Global;
 use std::marker::Model;
 
-/// Packets in a ring, with the serial of the last one that was put there, how many there are, and what
-/// is in flight of them.
+/// Packets, with the serial of the last one that was put there, how many there are, and what is in
+/// flight of them. The bytes of packets that were taken out are set aside: their room serves for others.
 #[derive(Drop)]
 pub(crate) struct Shelf {
-    ring: Ring,
+    packets: Packets,
     last: u64,
     count: usize,
     flights: Flights,
-    spares: Spares,
+    spares: Vec<Bytes>,
 }
 
 impl Model for Shelf {
     ghost use Rattle.std.specs.Prelude.{List};
     ghost use Rattle.packet_store.specs.declared.sent.Kept.{Kept};
-    ghost use Rattle.packet_store.specs.Rings.{holds};
+    ghost use Rattle.packet_store.specs.Packets.{holds};
     ghost use Rattle.packet_store.specs.Shelves.{listed, IsShelf};
     ghost use Rattle.packet_store.specs.Flights.{AreFlights};
 
     ghost Value = { List Kept };
 
-    ghost view = { λ a. listed (holds a.ring) a.last };
+    ghost view = { λ a. listed (holds a.packets) a.last };
 
-    ghost invariant = { λ a. IsShelf a.ring a.last a.count × AreFlights a.ring a.last a.flights };
+    ghost invariant = { λ a. IsShelf a.packets a.last a.count × AreFlights a.packets a.last a.flights };
 }
 
 impl Shelf {
@@ -43,11 +45,14 @@ impl Shelf {
         ensures { result ≡ [] }
     {
         Shelf {
-            ring: Ring::new(alloc),
+            packets: Packets::new(alloc),
             last: 0,
             count: 0,
-            flights: Flights::new(),
-            spares: Spares::new(alloc),
+            flights: Flights {
+                lowest: None,
+                count: 0,
+            },
+            spares: Vec::new(alloc),
         }
     }
 
@@ -62,14 +67,14 @@ impl Shelf {
     pub(crate) fn get(&self, serial: u64) -> Option<&Kept>
         ensures { option_copied result ≡ found serial self.now }
     {
-        self.ring.get(serial)
+        self.packets.get(serial)
     }
 
     /// Whether the packet of a serial is in flight.
     pub(crate) fn is_flying(&self, serial: u64) -> bool
         ensures { result ≡ in_air (found serial self.now) }
     {
-        self.ring.is_flying(serial)
+        self.packets.is_flying(serial)
     }
 
     /// The lowest serial in flight.
@@ -86,18 +91,34 @@ impl Shelf {
         self.flights.count
     }
 
-    /// Puts a packet in flight under a new serial, from 1 on, behind all others.
-    pub(crate) fn push(&mut self, serial: u64, sent: Sent) -> Result<(), NoMemory>
+    /// Another serial of a transaction than this one, if there is one.
+    pub(crate) fn other(&self, transaction: &Transaction, serial: u64) -> Option<u64>
+        ensures found { IfSome result (λ s. (is_among transaction.now (found s self.now) ≡ true) × (s ≢ serial)) }
+        ensures none { IfNone result ((q : ℕ) → q ≢ serial → is_among transaction.now (found q self.now) ≡ false) }
+    {
+        self.packets.other(transaction, serial)
+    }
+
+    /// Puts a packet, which belongs to this transaction, in flight under a new serial, from 1 on, behind
+    /// all others.
+    pub(crate) fn push(
+        &mut self,
+        serial: u64,
+        sent: Sent,
+        transaction: Option<Transaction>,
+    ) -> Result<(), NoMemory>
+        requires named { transaction ≡ transaction_of sent }
         requires counted { 0 < serial }
         requires above { AreBelow serial self.old }
         ensures pushed { OnOk result (self.new ≡ self.old ++ newest serial sent ∷ []) }
         ensures failed { OnErr result (self.new ≡ self.old) }
     {
-        self.ring.put(Kept {
+        let kept = Kept {
             serial,
             in_flight: true,
             sent,
-        })?;
+        };
+        self.packets.put(kept, transaction)?;
         self.last = serial;
         self.count += 1;
         self.flights.take_off(serial);
@@ -108,12 +129,12 @@ impl Shelf {
     pub(crate) fn remove(&mut self, serial: u64)
         ensures { self.new ≡ without serial self.old }
     {
-        if let Some(kept) = self.ring.take(serial) {
+        if let Some(kept) = self.packets.take(serial) {
             self.count -= 1;
             let flew = kept.in_flight;
-            self.spares.put(kept.sent.bytes);
+            set_aside(&mut self.spares, kept.sent.bytes);
             if flew {
-                self.flights.land(&self.ring, serial, self.last);
+                self.flights.land(&self.packets, serial, self.last);
             }
         }
     }
@@ -122,17 +143,26 @@ impl Shelf {
     pub(crate) fn take_spare(&mut self) -> Option<Bytes>
         ensures { self.new ≡ self.old }
     {
-        self.spares.take()
+        self.spares.pop()
     }
 
     /// The packet of a serial becomes delivered.
     pub(crate) fn deliver(&mut self, serial: u64)
         ensures { self.new ≡ with_delivered serial self.old }
     {
-        let flew = self.ring.is_flying(serial);
-        self.ring.deliver(serial);
+        let flew = self.packets.is_flying(serial);
+        self.packets.deliver(serial);
         if flew {
-            self.flights.land(&self.ring, serial, self.last);
+            self.flights.land(&self.packets, serial, self.last);
         }
+    }
+}
+
+/// Sets bytes aside, where they are among the first four.
+fn set_aside(spares: &mut Vec<Bytes>, bytes: Bytes)
+    ensures { length spares.old.items ≤ 4 → length spares.new.items ≤ 4 }
+{
+    if spares.len() < 4 {
+        let _kept = spares.push(bytes);
     }
 }

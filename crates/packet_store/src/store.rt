@@ -28,7 +28,7 @@ impl Model for Store {
 
     ghost view = { λ a. record { kept = a.tables.shelf; last = a.tables.last; calls = a.calls } };
 
-    ghost invariant = { λ a. IsStored a.tables.shelf a.tables.index a.tables.last a.calls };
+    ghost invariant = { λ a. IsStored a.tables.shelf a.tables.last a.calls };
 }
 
 impl Store {

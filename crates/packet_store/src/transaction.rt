@@ -6,12 +6,12 @@ use crate::sent::Sent;
 
 /// A transaction, by the generation in which it was sent, its requester, its responder and its
 /// label (IEEE 1394-1995, transaction layer).
-#[derive(Clone, Copy, PartialEq, Eq)]
+#[derive(Clone, Copy, PartialEq, Eq, Hash)]
 pub struct Transaction {
-    pub label: u8,
+    pub generation: u32,
     pub requester: u8,
     pub responder: u8,
-    pub generation: u32,
+    pub label: u8,
 }
 
 /// The transaction that a packet of this role belongs to. A request belongs to one of its sender,

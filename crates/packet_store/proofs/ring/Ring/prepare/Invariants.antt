@@ -1,10 +1,10 @@
 use Rattle.std.specs.Prelude.{◌≡◌, ℕ, ◌-◌, length}
-use Rattle.packet_store.specs.Rings.{holds, Placed}
+use Rattle.packet_store.specs.Rings.{finds, Placed}
 use Rattle.packet_store.proofs.ring.Ring.prepare.Given as goal
 
 abbrev pub invariant-loop-self : goal.invariant-loop-self
 invariant-loop-self l = record {
-  same : (q : ℕ) → holds l.self q ≡ holds l.fn.self q;
+  same : (q : ℕ) → finds l.self q ≡ finds l.fn.self q;
   placed : Placed l.self.slots.items;
 }
 

@@ -5,11 +5,11 @@ pub invariant_of-result : goal.invariant_of-result
 invariant_of-result c =
     let none = c.new.ensures.none in (
       record {
-        placed = c.new.ensures.placed;
+        exact = c.new.ensures.exact;
         named = λ q k h. let e : None ≡ Some k = sym (none q) ∙ h in cc e;
         first = none 0;
         ends = λ q l. none q;
         counted = refl;
       },
-      rw c.new-2.ensures (record { lowest = λ q. rw (none q) refl; counted = refl }),
+      record { lowest = λ q. rw (none q) refl; counted = refl },
     )

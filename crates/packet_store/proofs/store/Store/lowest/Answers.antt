@@ -7,14 +7,14 @@ use Rattle.packet_store.proofs.store.Store.lowest.Goals as goal
 pub returns-clause-first : goal.returns-clause-first
 returns-clause-first c =
     subst (λ store. c.lowest.result ≡ first (flying store.kept)) c.self.view_is
-    (first_least 0 _ _ _ (rise_of _ _ _ _ _ c.self.invariant.tied.sound) c.lowest.ensures)
+    (first_least 0 _ _ _ (rise_of _ _ _ _ c.self.invariant.sound) c.lowest.ensures)
 
 pub returns-clause-lowest : goal.returns-clause-lowest
 returns-clause-lowest c =
     subst (λ store. IfSome c.lowest.result (IsLowest store.kept)) c.self.view_is
-    (is_lowest 0 _ _ _ (rise_of _ _ _ _ _ c.self.invariant.tied.sound) c.lowest.ensures)
+    (is_lowest 0 _ _ _ (rise_of _ _ _ _ c.self.invariant.sound) c.lowest.ensures)
 
 pub returns-clause-none : goal.returns-clause-none
 returns-clause-none c =
     subst (λ store. IfNone c.lowest.result (NoneFlies store.kept)) c.self.view_is
-    (none_airborne 0 _ _ _ (rise_of _ _ _ _ _ c.self.invariant.tied.sound) c.lowest.ensures)
+    (none_airborne 0 _ _ _ (rise_of _ _ _ _ c.self.invariant.sound) c.lowest.ensures)

@@ -1,0 +1,31 @@
+use Rattle.std.proofs.Common.{rules, ◌≡◌, ◌∙◌, ap, ◌==◌, None, Some, cond, arith}
+use Rattle.std.specs.Map.{lookup}
+use Rattle.packet_store.specs.declared.transaction.Transaction.{Transaction}
+use Rattle.packet_store.specs.Transactions.{is_same}
+use Rattle.packet_store.specs.Bags.{count_of, one_if, times}
+use Rattle.packet_store.proofs.Bagged.{entered, on_error_of, written}
+use Rattle.packet_store.proofs.bags.Bags.put.Goals as goal
+
+pub returns-in-Some-clause-failed : goal.returns-in-Some-clause-failed
+unfolding times
+returns-in-Some-clause-failed c = on_error_of c.add_to.result c.add_to.ensures.failed (λ h t k.
+    let u = c.args.transaction in
+    let bag = c.in-Some.bag.now in
+    let after = c.add_to.new.bag in
+    let was : lookup (is_same u) c.args.self.now.bags.entries ≡ Some bag = search rules in
+    let up : (q : Transaction) → lookup (is_same q) (c.get_mut.follows.lender after).entries ≡ cond (is_same u q) (Some after) (lookup (is_same q) c.args.self.now.bags.entries) = λ q. search rules in
+    written (λ q. lookup (is_same q) c.args.self.now.bags.entries) (λ q. lookup (is_same q) (c.get_mut.follows.lender after).entries) u bag after t k was (h k) up)
+
+pub returns-clause-added : goal.returns-clause-added
+unfolding times
+returns-clause-added c = λ t k.
+    let u = c.args.transaction in
+    let bag = c.add_to-2.new.bag in
+    let none : lookup (is_same u) c.args.self.now.bags.entries ≡ None = search rules in
+    let more = c.in_ok-add_to.ensures.added k in
+    let empty : count_of k c.new-bag.result.items ≡ 0 = ap (count_of k) c.new-bag.ensures.items in
+    let one : count_of k bag.items ≡ one_if (c.args.key == k) = omega (arith, more, empty) in
+    let same : c.get_mut.follows.lender-at-none ≡ c.args.self.now.bags = search rules in
+    let up : (q : Transaction) → lookup (is_same q) c.insert.new.self.entries ≡ cond (is_same u q) (Some bag) (lookup (is_same q) c.args.self.now.bags.entries) =
+    λ q. c.in_ok-insert.ensures.updates.0 q ∙ ap (λ m. cond (is_same u q) (Some bag) (lookup (is_same q) m.entries)) same in
+    entered (λ q. lookup (is_same q) c.args.self.now.bags.entries) (λ q. lookup (is_same q) c.insert.new.self.entries) u bag c.args.key t k none one up

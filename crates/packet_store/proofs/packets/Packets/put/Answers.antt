@@ -1,0 +1,82 @@
+use Rattle.std.proofs.Common.{◌≡◌, ◌∙◌, ap, sym, subst, refl, ℕ, ◌+◌, Some, cond}
+use Rattle.std.specs.Prelude.{◌==◌, ◌&&◌}
+use Rattle.slab.specs.Slab.{get}
+use Rattle.packet_store.specs.declared.transaction.Transaction.{Transaction}
+use Rattle.packet_store.specs.Transactions.{is_that}
+use Rattle.packet_store.specs.Bags.{one_if, times}
+use Rattle.packet_store.specs.Packets.{AreTied, holds, key_in, kept_in}
+use Rattle.packet_store.specs.Rings.{finds}
+use Rattle.packet_store.proofs.Keyed.{Puts, absent, kept_same, on_error, put_holds, put_tied, same_tied, undone}
+use Rattle.packet_store.proofs.packets.Packets.put.Goals as goal
+
+pub returns-in_err-reserve-clause-failed : goal.returns-in_err-reserve-clause-failed
+unfolding holds
+returns-in_err-reserve-clause-failed c = on_error c.from_residual.result
+    (λ q. kept_same c.args.self.now.slab c.reserve.new.self (key_in (finds c.args.self.now.ring q)) (λ key. ap (λ s. get s key) c.reserve.ensures.rest_kept))
+
+pub returns-in_err-put-clause-failed : goal.returns-in_err-put-clause-failed
+unfolding holds
+returns-in_err-put-clause-failed c = on_error c.from_residual-in_err-put.result (λ q.
+    ap (λ o. kept_in c.reserve.new.self (key_in o)) (c.in_err-put.ensures.failed q)
+    ∙ kept_same c.args.self.now.slab c.reserve.new.self (key_in (finds c.args.self.now.ring q)) (λ key. ap (λ s. get s key) c.reserve.ensures.rest_kept))
+
+pub returns-in-Err-clause-failed : goal.returns-in-Err-clause-failed
+unfolding holds
+returns-in-Err-clause-failed c = λ q.
+    let s = c.args.self.now in
+    let f = finds s.ring in
+    let m = times s.bags in
+    let reserved : (key : ℕ) → get c.reserve.new.self key ≡ get s.slab key = λ key. ap (λ x. get x key) c.reserve.ensures.rest_kept in
+    let none = absent s.slab f m c.args.kept.serial c.requires.exact.tied c.requires.fresh in
+    let back = undone f (finds c.put.new.self) (finds c.take.new.self) c.args.kept.serial (record { serial = c.args.kept.serial; key = c.vacant_key-key.result }) none c.in_ok-put.ensures.put c.take.ensures.removed in
+    ap (λ o. kept_in c.reserve.new.self (key_in o)) (back q) ∙ kept_same s.slab c.reserve.new.self (key_in (f q)) reserved
+
+pub returns-in-Err-clause-exact : goal.returns-in-Err-clause-exact
+unfolding holds
+returns-in-Err-clause-exact c =
+    let s = c.args.self.now in
+    let f = finds s.ring in
+    let m = times s.bags in
+    let reserved : (key : ℕ) → get c.reserve.new.self key ≡ get s.slab key = λ key. ap (λ x. get x key) c.reserve.ensures.rest_kept in
+    let none = absent s.slab f m c.args.kept.serial c.requires.exact.tied c.requires.fresh in
+    let back = undone f (finds c.put.new.self) (finds c.take.new.self) c.args.kept.serial (record { serial = c.args.kept.serial; key = c.vacant_key-key.result }) none c.in_ok-put.ensures.put c.take.ensures.removed in
+    record { placed = c.take.ensures.placed; tied = same_tied s.slab c.reserve.new.self f (finds c.take.new.self) m (times c.insert.new.self) c.requires.exact.tied reserved back c.in-Err.ensures.failed }
+
+pub returns-clause-put : goal.returns-clause-put
+unfolding holds
+returns-clause-put c = λ q.
+    let s = c.args.self.now in
+    let f = finds s.ring in
+    let m = times s.bags in
+    let reserved : (key : ℕ) → get c.reserve.new.self key ≡ get s.slab key = λ key. ap (λ x. get x key) c.reserve.ensures.rest_kept in
+    let none = absent s.slab f m c.args.kept.serial c.requires.exact.tied c.requires.fresh in
+    let tied : AreTied c.reserve.new.self f m = same_tied s.slab c.reserve.new.self f f m m c.requires.exact.tied reserved (λ q. refl) (λ t k. refl) in
+    let puts : Puts c.reserve.new.self c.insert_reserved.new.self f (finds c.put.new.self) m (times c.insert.new.self) c.args.kept c.vacant_key-key.result = record {
+      vacant = c.vacant_key-key.ensures.vacant;
+      none = none;
+      here = ap (get c.insert_reserved.new.self) (c.vacant_key-key.ensures.value ∙ sym c.insert_reserved.ensures.key) ∙ c.insert_reserved.ensures.updates.changed;
+      others = λ other ne. c.insert_reserved.ensures.updates.others other (λ e. ne (e ∙ c.insert_reserved.ensures.key ∙ sym c.vacant_key-key.ensures.value));
+      placed = c.in_ok-put.ensures.put;
+      added = subst (λ o. (t : Transaction) (k : ℕ) → times c.insert.new.self t k ≡ one_if (is_that t o && (c.vacant_key-key.result == k)) + m t k) c.requires.named c.in_default.ensures.added;
+    } in
+    put_holds _ _ _ _ _ _ c.args.kept c.vacant_key-key.result q tied puts
+    ∙ ap (λ o. cond (c.args.kept.serial == q) (Some c.args.kept) o) (kept_same s.slab c.reserve.new.self (key_in (f q)) reserved)
+
+pub returns-clause-exact : goal.returns-clause-exact
+unfolding holds
+returns-clause-exact c =
+    let s = c.args.self.now in
+    let f = finds s.ring in
+    let m = times s.bags in
+    let reserved : (key : ℕ) → get c.reserve.new.self key ≡ get s.slab key = λ key. ap (λ x. get x key) c.reserve.ensures.rest_kept in
+    let none = absent s.slab f m c.args.kept.serial c.requires.exact.tied c.requires.fresh in
+    let tied : AreTied c.reserve.new.self f m = same_tied s.slab c.reserve.new.self f f m m c.requires.exact.tied reserved (λ q. refl) (λ t k. refl) in
+    let puts : Puts c.reserve.new.self c.insert_reserved.new.self f (finds c.put.new.self) m (times c.insert.new.self) c.args.kept c.vacant_key-key.result = record {
+      vacant = c.vacant_key-key.ensures.vacant;
+      none = none;
+      here = ap (get c.insert_reserved.new.self) (c.vacant_key-key.ensures.value ∙ sym c.insert_reserved.ensures.key) ∙ c.insert_reserved.ensures.updates.changed;
+      others = λ other ne. c.insert_reserved.ensures.updates.others other (λ e. ne (e ∙ c.insert_reserved.ensures.key ∙ sym c.vacant_key-key.ensures.value));
+      placed = c.in_ok-put.ensures.put;
+      added = subst (λ o. (t : Transaction) (k : ℕ) → times c.insert.new.self t k ≡ one_if (is_that t o && (c.vacant_key-key.result == k)) + m t k) c.requires.named c.in_default.ensures.added;
+    } in
+    record { placed = c.put.ensures.placed; tied = put_tied _ _ _ _ _ _ c.args.kept c.vacant_key-key.result tied puts }

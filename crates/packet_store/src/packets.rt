@@ -1,0 +1,146 @@
+ghost use Rattle.std.specs.Prelude.{◌≡◌, ◌≢◌, ℕ, ◌^◌, ◌<◌, ◌≤◌, ◌==◌, if◌then◌else◌, false, true, None, Some, OnOk, OnErr, IfSome, IfNone};
+ghost use Rattle.std.specs.Option.{option_copied};
+ghost use Rattle.packet_store.specs.Kept.{in_air, marked};
+ghost use Rattle.packet_store.specs.Flights.{IsNext};
+ghost use Rattle.packet_store.specs.Packets.{Exact, holds, is_among, key_in};
+ghost use Rattle.packet_store.specs.Rings.{finds};
+ghost use Rattle.packet_store.specs.Transactions.{transaction_of};
+
+use crate::bags::Bags;
+use crate::ring::{Place, Ring};
+use crate::role::role_of;
+use crate::sent::Kept;
+use crate::transaction::{Transaction, transaction_of};
+use sbp_base::NoMemory;
+use slab::Slab;
+use std::alloc::Global;
+
+/// Packets in a slab, and beside it its keys: by serial in a ring, by transaction in bags.
+#[derive(Drop)]
+pub(crate) struct Packets {
+    pub(crate) slab: Slab<Kept>,
+    pub(crate) ring: Ring,
+    pub(crate) bags: Bags,
+}
+
+impl Packets {
+    /// No packet.
+    #[tactic(auto, using(crate::proofs::Keyed::none_tied), unfolding(crate::specs::Packets::holds))]
+    pub(crate) fn new(alloc: Global) -> Packets
+        ensures none { (q : ℕ) → holds result q ≡ None }
+        ensures exact { Exact result }
+    {
+        Packets {
+            slab: Slab::new(alloc),
+            ring: Ring::new(alloc),
+            bags: Bags::new(alloc),
+        }
+    }
+
+    /// The packet of a serial.
+    #[inline(always)]
+    #[tactic(auto, unfolding(crate::specs::Packets::holds))]
+    pub(crate) fn get(&self, serial: u64) -> Option<&Kept>
+        ensures { option_copied result ≡ holds self.now serial }
+    {
+        let key = self.key_of(serial)?;
+        self.slab.get(key)
+    }
+
+    /// The key of the packet of a serial.
+    #[inline(always)]
+    fn key_of(&self, serial: u64) -> Option<usize>
+        ensures { result ≡ key_in (finds self.now.ring serial) }
+    {
+        Some(self.ring.get(serial)?.key)
+    }
+
+    /// Whether the packet of a serial is in flight.
+    pub(crate) fn is_flying(&self, serial: u64) -> bool
+        ensures { result ≡ in_air (holds self.now serial) }
+    {
+        match self.get(serial) {
+            Some(kept) => kept.in_flight,
+            None => false,
+        }
+    }
+
+    /// The lowest serial in flight above one, up to the last one.
+    pub(crate) fn next_flying(&self, serial: u64, last: u64) -> Option<u64>
+        ensures found { IfSome result (λ s. IsNext (holds self.now) serial s) }
+        ensures none { IfNone result ((q : ℕ) → serial < q → q ≤ last → in_air (holds self.now q) ≡ false) }
+    {
+        let mut at = serial;
+        while at < last {
+            at += 1;
+            if self.is_flying(at) {
+                return Some(at);
+            }
+        }
+        None
+    }
+
+    /// Puts a packet, which belongs to this transaction, under its serial.
+    pub(crate) fn put(
+        &mut self,
+        kept: Kept,
+        transaction: Option<Transaction>,
+    ) -> Result<(), NoMemory>
+        requires exact { Exact self.old }
+        requires fresh { holds self.old kept.serial ≡ None }
+        requires named { transaction ≡ transaction_of kept.sent }
+        ensures put { OnOk result ((q : ℕ) → holds self.new q ≡ (if kept.serial == q then Some kept else holds self.old q)) }
+        ensures failed { OnErr result ((q : ℕ) → holds self.new q ≡ holds self.old q) }
+        ensures exact { Exact self.new }
+        ensures fits { kept.serial < 2 ^ 64 }
+    {
+        let serial = kept.serial;
+        self.slab.reserve(1)?;
+        let key = self.slab.vacant_key();
+        self.ring.put(Place { serial, key })?;
+        if let Err(error) = self.bags.insert(transaction, key) {
+            self.ring.take(serial);
+            return Err(error);
+        }
+        self.slab.insert_reserved(kept);
+        Ok(())
+    }
+
+    /// Takes out the packet of a serial.
+    pub(crate) fn take(&mut self, serial: u64) -> Option<Kept>
+        requires { Exact self.old }
+        ensures taken { result ≡ holds self.old serial }
+        ensures removed { (q : ℕ) → holds self.new q ≡ (if serial == q then None else holds self.old q) }
+        ensures exact { Exact self.new }
+    {
+        let key = self.ring.take(serial)?.key;
+        let kept = self.slab.try_remove(key)?;
+        let transaction = transaction_of(role_of(kept.sent.bytes.as_slice()), &kept.sent);
+        self.bags.remove(transaction, key);
+        Some(kept)
+    }
+
+    /// The packet of a serial becomes delivered.
+    pub(crate) fn deliver(&mut self, serial: u64)
+        requires { Exact self.old }
+        ensures marked { (q : ℕ) → holds self.new q ≡ (if serial == q then marked (holds self.old q) else holds self.old q) }
+        ensures exact { Exact self.new }
+    {
+        let Some(key) = self.key_of(serial) else {
+            return
+        };
+        if let Some(kept) = self.slab.get_mut(key) {
+            kept.in_flight = false;
+        }
+    }
+
+    /// A serial of a transaction other than one, if there is one.
+    pub(crate) fn other(&self, transaction: &Transaction, serial: u64) -> Option<u64>
+        requires { Exact self.now }
+        ensures found { IfSome result (λ s. (is_among transaction.now (holds self.now s) ≡ true) × (s ≢ serial)) }
+        ensures none { IfNone result ((q : ℕ) → q ≢ serial → is_among transaction.now (holds self.now q) ≡ false) }
+    {
+        let key = self.bags.other(transaction, self.key_of(serial))?;
+        Some(self.slab.get(key)?.serial)
+    }
+}
