@@ -7,18 +7,7 @@ use Rattle.packet_store.specs.Kept.{found, flying, in_air, first, Rise, IsLowest
 use Rattle.packet_store.specs.Shelves.{entry, listed}
 use Rattle.packet_store.specs.Flights.{Least, IsNext, Landed, NoneAbove, lowest_with}
 use Rattle.packet_store.proofs.Flights.{in_air_is, first_flies, none_flies}
-
-equal_of : (s q : ℕ) → (s == q) ≡ true → s ≡ q
-equal_of s q e = grind (arith, nat_tests)
-
-unequal_of : (s q : ℕ) → (s == q) ≡ false → s ≢ q
-unequal_of s q e eq = absurd (grind (arith, nat_tests))
-
-same_test : (s : ℕ) → (s == s) ≡ true
-same_test s = grind (arith, nat_tests)
-
-differs : (s q : ℕ) → s ≢ q → (s == q) ≡ false
-differs s q ne = grind (arith, nat_tests)
+use Rattle.packet_store.proofs.Same.{differs, equal_of, same_test, unequal_of}
 
 -- ---- the lowest one
 air_here : (s : ℕ) (f g : ℕ → Option Kept) → Landed s f g → in_air (g s) ≡ false

@@ -1,23 +1,15 @@
 -- How many times a list of keys has a key, once one was taken out, and of its first one.
 use Rattle.std.proofs.Common.{◌≡◌, ◌∙◌, refl, sym, subst, ap, ℕ, suc, ◌+◌, ◌-◌, ◌<◌, Bool, true, false, List, [], ◌∷◌, ◌++◌, length, Option, None, Some, cond, arith}
-use Rattle.std.specs.Prelude.{◌≢◌, ◌==◌, ◌&&◌, slice_index_or, IfNone, Result, Ok, Err, OnErr}
+use Rattle.std.specs.Prelude.{◌≢◌, ◌==◌, ◌&&◌, slice_index_or, IfNone, Result, Ok, Err, OnOk, OnErr}
 use Rattle.std.specs.List.{swap_remove}
 use Rattle.std.proofs.lemmas.Bool.{and_parts}
-use Rattle.std.proofs.lemmas.Bool.Decides.{nat_tests}
 use Rattle.std.proofs.lemmas.List.Sums.{sum_by-cons, sum_by_push, sum_by-swap_remove}
 use Rattle.smallvec.specs.SmallVec.{SmallVec}
 use Rattle.packet_store.specs.declared.transaction.Transaction.{Transaction}
 use Rattle.packet_store.specs.Transactions.{is_same}
-use Rattle.packet_store.specs.Bags.{count_of, keys_of, one_if}
-
-differs : (s q : ℕ) → s ≢ q → (s == q) ≡ false
-differs s q ne = grind (arith, nat_tests)
-
-equal_of : (s q : ℕ) → (s == q) ≡ true → s ≡ q
-equal_of s q e = grind (arith, nat_tests)
-
-same_test : (s : ℕ) → (s == s) ≡ true
-same_test s = grind (arith, nat_tests)
+use Rattle.packet_store.specs.Bags.{HasKey, count_of, keys_of, one_if}
+use Rattle.packet_store.proofs.Same.{differs, equal_of, same_test}
+use Rattle.std.proofs.lemmas.Option.{same_Some}
 
 count_cons : (x k : ℕ) (xs : List ℕ) → count_of k (x ∷ xs) ≡ one_if (x == k) + count_of k xs
 count_cons x k xs = sum_by-cons (λ j. cond (j == k) 1 0) x xs
@@ -118,3 +110,32 @@ written f g u bag after t k was same h = written_by f g u bag after t k (is_same
 pub on_error_of : {A E : Type 0} {X Y : Type 0} (r : Result A E) → OnErr r X → (X → Y) → OnErr r Y
 on_error_of (Ok a) x f = tt
 on_error_of (Err e) x f = f x
+
+-- ---- each bag has a key
+pub key_added : (before after : SmallVec ℕ) (key : ℕ) → ((k : ℕ) → count_of k after.items ≡ one_if (key == k) + count_of k before.items) → HasKey after
+key_added before after key e =
+    let a : one_if (key == key) ≡ 1 = ap one_if (same_test key) in
+    let c = e key in
+    (key, omega (arith, a, c))
+
+key_same : (before after : SmallVec ℕ) → ((k : ℕ) → count_of k after.items ≡ count_of k before.items) → HasKey before → HasKey after
+key_same before after e h = (h.0, subst (λ n. 0 < n) (sym (e h.0)) h.1)
+
+pub key_tried : {A E : Type 0} (r : Result A E) (before after : SmallVec ℕ) (key : ℕ) → OnOk r ((k : ℕ) → count_of k after.items ≡ one_if (key == k) + count_of k before.items) → OnErr r ((k : ℕ) → count_of k after.items ≡ count_of k before.items) → HasKey before → HasKey after
+key_tried (Ok a) before after key more same h = key_added before after key more
+key_tried (Err e) before after key more same h = key_same before after same h
+
+pub key_first : (keys : List ℕ) → 0 < length keys → (k : ℕ) × (0 < count_of k keys)
+key_first [] l = absurd (omega (arith, l))
+key_first (x ∷ xs) l = (x, other_here x xs)
+
+full_by : (f : Transaction → Option (SmallVec ℕ)) (o g : Option (SmallVec ℕ)) (t : Transaction) (bag : SmallVec ℕ) (b : Bool) → ((x : SmallVec ℕ) → o ≡ Some x → HasKey x) → ((q : Transaction) (x : SmallVec ℕ) → f q ≡ Some x → HasKey x) → g ≡ cond b o (f t) → g ≡ Some bag → HasKey bag
+full_by f o g t bag true here h e l = here bag (sym e ∙ l)
+full_by f o g t bag false here h e l = h t bag (sym e ∙ l)
+
+-- one bag is another one, or none
+pub full_after : (f g : Transaction → Option (SmallVec ℕ)) (u : Transaction) (o : Option (SmallVec ℕ)) → ((x : SmallVec ℕ) → o ≡ Some x → HasKey x) → ((q : Transaction) (x : SmallVec ℕ) → f q ≡ Some x → HasKey x) → ((q : Transaction) → g q ≡ cond (is_same u q) o (f q)) → (t : Transaction) (bag : SmallVec ℕ) → g t ≡ Some bag → HasKey bag
+full_after f g u o here h up = λ t bag l. full_by f o (g t) t bag (is_same u t) here h (up t) l
+
+pub key_of_some : (bag x : SmallVec ℕ) → HasKey bag → Some bag ≡ Some x → HasKey x
+key_of_some bag x h e = subst (λ (y : SmallVec ℕ). HasKey y) (same_Some bag x e) h

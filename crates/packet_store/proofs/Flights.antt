@@ -1,6 +1,6 @@
 -- What a list of kept packets has under a serial, after each change.
 use Rattle.std.proofs.Common.{◌≡◌, ◌∙◌, refl, ap, ℕ, ◌+◌, ◌<◌, ◌≤◌, Bool, true, false, List, [], ◌∷◌, ◌++◌, Some, None, cond, arith}
-use Rattle.std.specs.Prelude.{◌≢◌, ◌-◌, ◌==◌, ◌&&◌, nat_lt, not, Option, IfSome, IfNone}
+use Rattle.std.specs.Prelude.{◌-◌, ◌==◌, nat_lt, not, Option, IfSome, IfNone}
 use Rattle.std.specs.List.{filter, list_any}
 use Rattle.std.proofs.lemmas.Bool.Decides.{nat_tests}
 use Rattle.packet_store.specs.declared.sent.Kept.{Kept}
@@ -10,6 +10,7 @@ use Rattle.packet_store.specs.Transactions.{begun_by}
 use Rattle.packet_store.specs.Kept.{with_delivered, delivered, found, flying, in_air, is_flying, first, Rise, IsLowest, NoneFlies}
 use Rattle.packet_store.specs.Sound.{is_earlier, AreKept}
 use Rattle.packet_store.specs.Stored.{stays, newest, by_bus_rule, with_sent}
+use Rattle.packet_store.proofs.Same.{and_false, differs, equal_of}
 
 -- one that passes a test
 abbrev pub keep_if : (Kept → Bool) → Option Kept → Option Kept
@@ -27,12 +28,6 @@ ruled (Some t) n o = keep_if (λ k. not (is_earlier t n k)) o
 abbrev or_last : Option Kept → Option Kept → Option Kept
 or_last None o = o
 or_last (Some k) o = Some k
-
-differs : (s q : ℕ) → s ≢ q → (s == q) ≡ false
-differs s q ne = grind (arith, nat_tests)
-
-equal_of : (s q : ℕ) → (s == q) ≡ true → s ≡ q
-equal_of s q e = grind (arith, nat_tests)
 
 apart : (s low last : ℕ) (ks : List Kept) → s ≤ low → Rise low last ks → found s ks ≡ None
 apart s low last [] l h = refl
@@ -193,14 +188,10 @@ found_before sent last s ks h d =
     ∙ ap (λ o. keep_if (stays (last + 1 - 1024)) (ruled (begun_by sent) (last + 1) o)) (
     ap (λ b. or_last (found s ks) (cond b (Some (newest (last + 1) sent)) None)) d ∙ or_none (found s ks))
 
-and_false_any : (b : Bool) → (b && false) ≡ false
-and_false_any true = refl
-and_false_any false = refl
-
 not_earlier : (t : Transaction) (n : ℕ) (sent : Sent) → is_earlier t n (newest n sent) ≡ false
 not_earlier t n sent =
     let e : nat_lt n n ≡ false = grind (arith, nat_tests) in
-    rw e (and_false_any _)
+    rw e (and_false _)
 
 new_ruled : (of : Option Transaction) (n : ℕ) (sent : Sent) → ruled of n (Some (newest n sent)) ≡ Some (newest n sent)
 new_ruled None n sent = refl

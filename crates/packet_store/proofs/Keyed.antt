@@ -1,7 +1,6 @@
 -- The ties of a slab and of its two indexes, after each change.
 use Rattle.std.proofs.Common.{◌≡◌, ◌∙◌, refl, sym, subst, ap, ℕ, ◌+◌, ◌-◌, ◌<◌, Bool, true, false, None, Some, cond, arith}
 use Rattle.std.specs.Prelude.{◌≢◌, ◌==◌, ◌&&◌, Option, Result, Ok, Err, OnErr}
-use Rattle.std.proofs.lemmas.Bool.Decides.{nat_tests}
 use Rattle.slab.specs.Slab.{Slab, get}
 use Rattle.packet_store.specs.declared.sent.Kept.{Kept}
 use Rattle.packet_store.specs.declared.ring.Place.{Place}
@@ -10,24 +9,8 @@ use Rattle.packet_store.specs.Transactions.{belongs, is_that, transaction_of}
 use Rattle.packet_store.specs.Kept.{marked}
 use Rattle.packet_store.specs.Bags.{one_if}
 use Rattle.packet_store.specs.Packets.{AreTied, is_among, kept_in, key_in}
-
-equal_of : (s q : ℕ) → (s == q) ≡ true → s ≡ q
-equal_of s q e = grind (arith, nat_tests)
-
-unequal_of : (s q : ℕ) → (s == q) ≡ false → s ≢ q
-unequal_of s q e eq = absurd (grind (arith, nat_tests))
-
-differs : (s q : ℕ) → s ≢ q → (s == q) ≡ false
-differs s q ne = grind (arith, nat_tests)
-
-same_test : (s : ℕ) → (s == s) ≡ true
-same_test s = grind (arith, nat_tests)
-
-some_kept : (x y : Kept) → Some x ≡ Some y → x ≡ y
-some_kept x y e = cc e
-
-some_place : (x y : Place) → Some x ≡ Some y → x ≡ y
-some_place x y e = cc e
+use Rattle.packet_store.proofs.Same.{and_false, and_true, differs, equal_of, same_test, unequal_of}
+use Rattle.std.proofs.lemmas.Option.{same_Some}
 
 abbrev place : (s key : ℕ) → Place
 place s key = record { serial = s; key = key }
@@ -104,7 +87,7 @@ taken_key slab key other k v h eq =
 
 put_kept : (slab after : Slab Kept) (f g : ℕ → Option Place) (m n : Transaction → ℕ → ℕ) (k : Kept) (key q : ℕ) (x : Place) (b : Bool) → (k.serial == q) ≡ b → AreTied slab f m → Puts slab after f g m n k key → cond b (Some (place k.serial key)) (f q) ≡ Some x → (j : Kept) × (get after x.key ≡ Some j) × (j.serial ≡ q)
 put_kept slab after f g m n k key q x true e t p h =
-    let same = some_place (place k.serial key) x h in
+    let same = same_Some (place k.serial key) x h in
     (k, ap (λ (y : Place). get after y.key) (sym same) ∙ p.here, equal_of k.serial q e)
 put_kept slab after f g m n k key q x false e t p h =
     let a = t.kept q x h in
@@ -118,21 +101,13 @@ taken_serial f s q x none h eq =
 put_found : (slab after : Slab Kept) (f g : ℕ → Option Place) (m n : Transaction → ℕ → ℕ) (k : Kept) (key other : ℕ) (j : Kept) (b : Bool) → (other == key) ≡ b → AreTied slab f m → Puts slab after f g m n k key → get after other ≡ Some j → g j.serial ≡ Some (place j.serial other)
 put_found slab after f g m n k key other j true e t p h =
     let eq = equal_of other key e in
-    let same = some_kept k j (sym p.here ∙ ap (get after) (sym eq) ∙ h) in
+    let same = same_Some k j (sym p.here ∙ ap (get after) (sym eq) ∙ h) in
     let here : g k.serial ≡ Some (place k.serial key) = p.placed k.serial ∙ ap (λ b. cond b (Some (place k.serial key)) (f k.serial)) (same_test k.serial) in
     subst (λ (i : Kept). g i.serial ≡ Some (place i.serial other)) same (here ∙ ap (λ c. Some (place k.serial c)) (sym eq))
 put_found slab after f g m n k key other j false e t p h =
     let old = t.found other j (sym (p.others other (unequal_of other key e)) ∙ h) in
     let d = differs k.serial j.serial (taken_serial f k.serial j.serial (place j.serial other) p.none old) in
     p.placed j.serial ∙ ap (λ b. cond b (Some (place k.serial key)) (f j.serial)) d ∙ old
-
-and_true : (b : Bool) → (b && true) ≡ b
-and_true true = refl
-and_true false = refl
-
-and_false : (b : Bool) → (b && false) ≡ false
-and_false true = refl
-and_false false = refl
 
 put_bagged : (slab after : Slab Kept) (f g : ℕ → Option Place) (m n : Transaction → ℕ → ℕ) (k : Kept) (key other : ℕ) (t : Transaction) (b : Bool) → (key == other) ≡ b → AreTied slab f m → Puts slab after f g m n k key → n t other ≡ one_if (is_among t (get after other))
 unfolding belongs
@@ -185,7 +160,7 @@ two_keys : (slab : Slab Kept) (f : ℕ → Option Place) (m : Transaction → �
 two_keys slab f m s q x y t a b ne eq =
     let i = t.kept s x a in
     let j = t.kept q y b in
-    let same = some_kept i.0 j.0 (sym i.1 ∙ ap (get slab) (sym eq) ∙ j.1) in
+    let same = same_Some i.0 j.0 (sym i.1 ∙ ap (get slab) (sym eq) ∙ j.1) in
     ne (sym i.2 ∙ ap (λ (k : Kept). k.serial) same ∙ j.2)
 
 take_kept : (slab after : Slab Kept) (f g : ℕ → Option Place) (m n : Transaction → ℕ → ℕ) (s : ℕ) (x : Place) (k : Kept) (q : ℕ) (y : Place) (b : Bool) → (s == q) ≡ b → AreTied slab f m → Takes slab after f g m n s x k → cond b None (f q) ≡ Some y → (j : Kept) × (get after y.key ≡ Some j) × (j.serial ≡ q)
@@ -201,7 +176,7 @@ take_found slab after f g m n s x k other j true e t p h =
 take_found slab after f g m n s x k other j false e t p h =
     let ne = unequal_of other x.key e in
     let old = t.found other j (sym (p.others other ne) ∙ h) in
-    let d = differs s j.serial (λ eq. ne (ap (λ (y : Place). y.key) (some_place (place j.serial other) x (sym old ∙ ap f (sym eq) ∙ p.was)))) in
+    let d = differs s j.serial (λ eq. ne (ap (λ (y : Place). y.key) (same_Some (place j.serial other) x (sym old ∙ ap f (sym eq) ∙ p.was)))) in
     p.placed j.serial ∙ ap (λ b. cond b None (f j.serial)) d ∙ old
 
 take_bagged : (slab after : Slab Kept) (f g : ℕ → Option Place) (m n : Transaction → ℕ → ℕ) (s : ℕ) (x : Place) (k : Kept) (other : ℕ) (t : Transaction) (b : Bool) → (x.key == other) ≡ b → AreTied slab f m → Takes slab after f g m n s x k → n t other ≡ one_if (is_among t (get after other))
@@ -238,14 +213,6 @@ take_by slab after f g m n s x k q false e t p = take_other slab after f g m n s
 pub take_holds : (slab after : Slab Kept) (f g : ℕ → Option Place) (m n : Transaction → ℕ → ℕ) (s : ℕ) (x : Place) (k : Kept) (q : ℕ) → AreTied slab f m → Takes slab after f g m n s x k → kept_in after (key_in (g q)) ≡ cond (s == q) None (kept_in slab (key_in (f q)))
 take_holds slab after f g m n s x k q t p = ap (λ o. kept_in after (key_in o)) (p.placed q) ∙ take_by slab after f g m n s x k q (s == q) refl t p
 
--- where a serial has no place nothing goes
-none_by : (f : ℕ → Option Place) (s q : ℕ) (b : Bool) → (s == q) ≡ b → f s ≡ None → cond b None (f q) ≡ f q
-none_by f s q true e none = sym none ∙ ap f (equal_of s q e)
-none_by f s q false e none = refl
-
-pub none_taken : (f g : ℕ → Option Place) (s q : ℕ) → f s ≡ None → ((p : ℕ) → g p ≡ cond (s == p) None (f p)) → g q ≡ f q
-none_taken f g s q none h = h q ∙ none_by f s q (s == q) refl none
-
 -- ---- a packet delivered
 -- what a delivery changes
 pub record Marks (slab after : Slab Kept) (f : ℕ → Option Place) (s key : ℕ) (k : Kept) : Type 0 where
@@ -258,7 +225,7 @@ mark_kept : (slab after : Slab Kept) (f : ℕ → Option Place) (m : Transaction
 mark_kept slab after f m s key k q x true e t p h =
     let eq = equal_of x.key key e in
     let a = t.kept q x h in
-    let same = some_kept a.0 k (sym a.1 ∙ ap (get slab) eq ∙ p.there) in
+    let same = same_Some a.0 k (sym a.1 ∙ ap (get slab) eq ∙ p.there) in
     (record k { in_flight = false }, ap (get after) eq ∙ p.here, ap (λ (i : Kept). i.serial) (sym same) ∙ a.2)
 mark_kept slab after f m s key k q x false e t p h =
     let a = t.kept q x h in
@@ -267,7 +234,7 @@ mark_kept slab after f m s key k q x false e t p h =
 mark_found : (slab after : Slab Kept) (f : ℕ → Option Place) (m : Transaction → ℕ → ℕ) (s key : ℕ) (k : Kept) (other : ℕ) (j : Kept) (b : Bool) → (other == key) ≡ b → AreTied slab f m → Marks slab after f s key k → get after other ≡ Some j → f j.serial ≡ Some (place j.serial other)
 mark_found slab after f m s key k other j true e t p h =
     let eq = equal_of other key e in
-    let same = some_kept (record k { in_flight = false }) j (sym p.here ∙ ap (get after) (sym eq) ∙ h) in
+    let same = same_Some (record k { in_flight = false }) j (sym p.here ∙ ap (get after) (sym eq) ∙ h) in
     subst (λ (i : Kept). f i.serial ≡ Some (place i.serial other)) same (t.found other k (ap (get slab) eq ∙ p.there))
 mark_found slab after f m s key k other j false e t p h = t.found other j (sym (p.others other (unequal_of other key e)) ∙ h)
 

@@ -1,3 +1,4 @@
+pub mod Same
 pub mod Roles
 pub mod Rings
 pub mod Bagged

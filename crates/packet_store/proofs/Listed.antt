@@ -5,18 +5,8 @@ use Rattle.std.proofs.lemmas.Bool.Decides.{nat_tests}
 use Rattle.packet_store.specs.declared.sent.Kept.{Kept}
 use Rattle.packet_store.specs.Kept.{without, with_delivered, delivered, found, AreBelow, marked}
 use Rattle.packet_store.specs.Shelves.{entry, listed}
-
-differs : (s q : ℕ) → s ≢ q → (s == q) ≡ false
-differs s q ne = grind (arith, nat_tests)
-
-equal_of : (s q : ℕ) → (s == q) ≡ true → s ≡ q
-equal_of s q e = grind (arith, nat_tests)
-
-unequal_of : (s q : ℕ) → (s == q) ≡ false → s ≢ q
-unequal_of s q e eq = absurd (grind (arith, nat_tests))
-
-same_test : (s : ℕ) → (s == s) ≡ true
-same_test s = grind (arith, nat_tests)
+use Rattle.packet_store.proofs.Same.{differs, equal_of, same_test, unequal_of}
+use Rattle.std.proofs.lemmas.Option.{same_Some}
 
 nil_append : (xs : List Kept) → xs ++ [] ≡ xs
 nil_append [] = refl
@@ -153,11 +143,8 @@ pushed_from f g k n (suc m) p e l named first ends below =
 pub listed_pushed : (f g : ℕ → Option Kept) (k : Kept) (n : ℕ) → Puts f g k → 0 < k.serial → Named f → f 0 ≡ None → ((p : ℕ) → n < p → f p ≡ None) → AreBelow k.serial (listed f n) → listed g k.serial ≡ listed f n ++ k ∷ []
 listed_pushed f g k n p l named first ends below = pushed_from f g k n k.serial p refl l named first ends below
 
-some_same : (x y : Kept) → Some x ≡ Some y → x ≡ y
-some_same x y e = cc e
-
 named_step : (f g : ℕ → Option Kept) (k j : Kept) (q : ℕ) (b : Bool) → (k.serial == q) ≡ b → Named f → g q ≡ cond b (Some k) (f q) → g q ≡ Some j → j.serial ≡ q
-named_step f g k j q true e named p h = ap (λ (x : Kept). x.serial) (some_same j k (sym h ∙ p)) ∙ equal_of k.serial q e
+named_step f g k j q true e named p h = ap (λ (x : Kept). x.serial) (same_Some j k (sym h ∙ p)) ∙ equal_of k.serial q e
 named_step f g k j q false e named p h = named q j (sym p ∙ h)
 
 pub named_put : (f g : ℕ → Option Kept) (k : Kept) → Puts f g k → Named f → Named g
@@ -199,16 +186,6 @@ listed_without f g s (suc n) named e =
     ∙ ap (λ o. without s (listed f n) ++ entry o) (e (suc n))
     ∙ ap (λ ys. without s (listed f n) ++ ys) (sym (without_entry (f (suc n)) s (suc n) (named (suc n))))
     ∙ sym (without_append s (listed f n) (entry (f (suc n))))
-
-absent_step : (f g : ℕ → Option Kept) (s q : ℕ) (b : Bool) → (s == q) ≡ b → f s ≡ None → cond b None (f q) ≡ f q
-absent_step f g s q true e none = sym none ∙ ap f (equal_of s q e)
-absent_step f g s q false e none = refl
-
--- where there is no such packet
-pub without_none : (f : ℕ → Option Kept) (s n : ℕ) → Named f → f s ≡ None → without s (listed f n) ≡ listed f n
-without_none f s n named none =
-    sym (listed_without f (λ q. cond (s == q) None (f q)) s n named (λ q. refl))
-    ∙ listed_same f (λ q. cond (s == q) None (f q)) n (λ q l. absent_step f f s q (s == q) refl none)
 
 named_less_step : (f g : ℕ → Option Kept) (j : Kept) (q : ℕ) (b : Bool) → Named f → g q ≡ cond b None (f q) → g q ≡ Some j → j.serial ≡ q
 named_less_step f g j q true named p h = let e : None ≡ Some j = sym p ∙ h in cc e
@@ -292,8 +269,8 @@ delivered_length s (k ∷ ks) = ap suc (delivered_length s ks)
 marked_named : (f g : ℕ → Option Kept) (j : Kept) (q : ℕ) (o : Option Kept) (b : Bool) → f q ≡ o → Named f → g q ≡ cond b (marked o) o → g q ≡ Some j → j.serial ≡ q
 marked_named f g j q None true e named p h = let x : None ≡ Some j = sym p ∙ h in cc x
 marked_named f g j q None false e named p h = let x : None ≡ Some j = sym p ∙ h in cc x
-marked_named f g j q (Some k) true e named p h = ap (λ (x : Kept). x.serial) (some_same j (record k { in_flight = false }) (sym h ∙ p)) ∙ named q k e
-marked_named f g j q (Some k) false e named p h = ap (λ (x : Kept). x.serial) (some_same j k (sym h ∙ p)) ∙ named q k e
+marked_named f g j q (Some k) true e named p h = ap (λ (x : Kept). x.serial) (same_Some j (record k { in_flight = false }) (sym h ∙ p)) ∙ named q k e
+marked_named f g j q (Some k) false e named p h = ap (λ (x : Kept). x.serial) (same_Some j k (sym h ∙ p)) ∙ named q k e
 
 pub named_delivered : (f g : ℕ → Option Kept) (s : ℕ) → Named f → ((q : ℕ) → g q ≡ cond (s == q) (marked (f q)) (f q)) → Named g
 named_delivered f g s named e = λ q j h. marked_named f g j q (f q) (s == q) refl named (e q) h

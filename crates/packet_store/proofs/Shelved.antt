@@ -1,7 +1,6 @@
 -- The fields of a shelf fit each other after each change of its packets.
 use Rattle.std.proofs.Common.{◌≡◌, ◌∙◌, refl, sym, subst, ap, ℕ, ◌+◌, ◌-◌, ◌<◌, ◌≤◌, Bool, true, false, List, [], ◌∷◌, ◌++◌, length, None, Some, cond, arith, length-append}
 use Rattle.std.specs.Prelude.{◌==◌, nat_lt, Option, IfSome, IfNone}
-use Rattle.std.specs.Option.{is_some}
 use Rattle.std.proofs.lemmas.Bool.Decides.{nat_tests}
 use Rattle.packet_store.specs.declared.sent.Kept.{Kept}
 use Rattle.packet_store.specs.declared.packets.Packets.{Packets}
@@ -11,7 +10,7 @@ use Rattle.packet_store.specs.Flights.{AreFlights, Landed, Least, NoneAbove, low
 use Rattle.packet_store.specs.Packets.{holds, Exact}
 use Rattle.packet_store.specs.Shelves.{listed, IsShelf}
 use Rattle.packet_store.proofs.Airborne.{landed_count, put_count, put_least, least_same, still_count, still_least}
-use Rattle.packet_store.proofs.Listed.{Puts, none_behind, listed_same, listed_pushed, named_put, first_put, ends_put, listed_without, without_none, named_less, none_less, listed_less, listed_few, listed_delivered, named_delivered, none_delivered, delivered_length}
+use Rattle.packet_store.proofs.Listed.{Puts, none_behind, listed_same, listed_pushed, named_put, first_put, ends_put, listed_without, named_less, none_less, listed_less, listed_few, listed_delivered, named_delivered, none_delivered, delivered_length}
 
 -- ---- the same under each serial
 pub same_shelf : (packets after : Packets) (last count : ℕ) → IsShelf packets last count → Exact after → ((q : ℕ) → holds after q ≡ holds packets q) → IsShelf after last count
@@ -57,9 +56,6 @@ pushed_shelf packets after k last count i p e l b =
 pub removed_list : (packets after : Packets) (s last count : ℕ) → IsShelf packets last count → ((q : ℕ) → holds after q ≡ cond (s == q) None (holds packets q)) → listed (holds after) last ≡ without s (listed (holds packets) last)
 removed_list packets after s last count i e = listed_without (holds packets) (holds after) s last i.named e
 
-pub absent_list : (packets : Packets) (s last count : ℕ) → IsShelf packets last count → holds packets s ≡ None → listed (holds packets) last ≡ without s (listed (holds packets) last)
-absent_list packets s last count i e = sym (without_none (holds packets) s last i.named e)
-
 inside_by : (packets : Packets) (s last count : ℕ) (k : Kept) (b : Bool) → nat_lt last s ≡ b → IsShelf packets last count → holds packets s ≡ Some k → s ≤ last
 inside_by packets s last count k true e i h =
     let l : last < s = grind (arith, nat_tests) in
@@ -94,19 +90,6 @@ delivered_shelf packets after s last count i p e = record {
   ends = λ q l. none_delivered (holds packets) (holds after) s q e (i.ends q l);
   counted = i.counted ∙ sym (delivered_length s (listed (holds packets) last)) ∙ ap length (sym (delivered_list packets after s last count i e));
 }
-
--- ---- what there is
-pub record Has (o : Option Kept) : Type 0 where
-  pub kept : Kept
-  pub is : o ≡ Some kept
-
-pub some_of : (o : Option Kept) → is_some o ≡ true → Has o
-some_of None e = cc e
-some_of (Some k) e = record { kept = k; is = refl }
-
-pub none_of : (o : Option Kept) → is_some o ≡ false → o ≡ None
-none_of None e = refl
-none_of (Some k) e = cc e
 
 -- ---- what is in flight
 pub none_above : (packets : Packets) (last count : ℕ) → IsShelf packets last count → NoneAbove last (holds packets)

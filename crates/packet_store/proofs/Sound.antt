@@ -11,9 +11,7 @@ use Rattle.packet_store.specs.Kept.{without, with_delivered, found, flying, is_d
 use Rattle.packet_store.specs.Stored.{stays, newest}
 use Rattle.packet_store.specs.declared.sent.Sent.{Sent}
 use Rattle.packet_store.specs.Sound.{IsKept, AreKept, is_earlier, withdrawn}
-
-differs : (s q : ℕ) → s ≢ q → (s == q) ≡ false
-differs s q ne = grind (arith, nat_tests)
+use Rattle.packet_store.proofs.Same.{differs}
 
 lower : (last since low next : ℕ) (ks : List Kept) → low ≤ next → AreKept last since next ks → AreKept last since low ks
 lower last since low next [] l h = tt

@@ -1,5 +1,5 @@
 -- The index by transaction as a function: how many times it has a key.
-use Rattle.std.specs.Prelude.{ℕ, ◌==◌, Bool, List, [], Option, Some, None, if◌then◌else◌}
+use Rattle.std.specs.Prelude.{◌≡◌, ℕ, ◌<◌, ◌==◌, Bool, List, [], Option, Some, None, if◌then◌else◌}
 use Rattle.std.specs.List.{count_by}
 use Rattle.std.specs.Map.{lookup}
 use Rattle.smallvec.specs.SmallVec.{SmallVec}
@@ -25,3 +25,11 @@ bag_at entries t = keys_of (lookup (is_same t) entries)
 -- how many times the bag of a transaction has a key
 unfoldable pub times : Bags → Transaction → ℕ → ℕ
 times bags t key = count_of key (bag_at bags.bags.entries t)
+
+-- a bag has a key
+abbrev pub HasKey : SmallVec ℕ → Type 0
+HasKey bag = (k : ℕ) × (0 < count_of k bag.items)
+
+-- each bag has a key
+pub record AreFull (bags : Bags) : Type 0 where
+  pub key : (t : Transaction) (bag : SmallVec ℕ) → lookup (is_same t) bags.bags.entries ≡ Some bag → HasKey bag

@@ -6,7 +6,7 @@ use Rattle.packet_store.specs.declared.ring.Place.{Place}
 use Rattle.packet_store.specs.declared.packets.Packets.{Packets}
 use Rattle.packet_store.specs.declared.transaction.Transaction.{Transaction}
 use Rattle.packet_store.specs.Transactions.{belongs}
-use Rattle.packet_store.specs.Bags.{one_if, times}
+use Rattle.packet_store.specs.Bags.{AreFull, one_if, times}
 use Rattle.packet_store.specs.Rings.{finds, Placed}
 
 -- the key of a place
@@ -37,3 +37,4 @@ pub record AreTied (slab : Slab Kept) (by_serial : ℕ → Option Place) (by_tra
 pub record Exact (packets : Packets) : Type 0 where
   pub placed : Placed packets.ring.slots.items
   pub tied : AreTied packets.slab (finds packets.ring) (times packets.bags)
+  pub full : AreFull packets.bags

@@ -1,6 +1,6 @@
 -- Which transaction a packet belongs to, and which it begins (IEEE 1394-1995, transaction layer): a
 -- transaction is told apart by its generation, its requester, its responder and its label.
-use Rattle.std.specs.Prelude.{◌==◌, ◌&&◌, Bool, false, if◌then◌else◌, Option, Some, None}
+use Rattle.std.specs.Prelude.{ℕ, ◌+◌, ◌*◌, ◌==◌, ◌&&◌, Bool, false, if◌then◌else◌, Option, Some, None}
 use Rattle.packet_store.specs.declared.sent.Sent.{Sent}
 use Rattle.packet_store.specs.declared.transaction.Transaction.{Transaction}
 use Rattle.packet_store.specs.declared.role.Role.{Role}
@@ -28,6 +28,10 @@ begun_as role transaction = None
 
 unfoldable pub begun_by : Sent → Option Transaction
 begun_by sent = begun_as (role_of sent.bytes) (transaction_by (role_of sent.bytes) sent)
+
+-- a transaction as one number, by the bytes of its fields
+abbrev pub number_of : Transaction → ℕ
+number_of t = t.generation * 16777216 + (t.requester * 65536 + t.responder * 256) + t.label
 
 -- two transactions are the same
 abbrev pub is_same : Transaction → Transaction → Bool

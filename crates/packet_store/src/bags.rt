@@ -1,7 +1,7 @@
 ghost use Rattle.std.specs.Prelude.{◌≡◌, ◌≢◌, ℕ, ◌<◌, ◌+◌, ◌-◌, ◌==◌, ◌&&◌, Some, length, slice_index_or, IfSome, IfNone, OnOk, OnErr};
 ghost use Rattle.packet_store.specs.declared.transaction.Transaction.{Transaction};
 ghost use Rattle.packet_store.specs.Transactions.{is_same, is_that};
-ghost use Rattle.packet_store.specs.Bags.{count_of, one_if, times};
+ghost use Rattle.packet_store.specs.Bags.{AreFull, count_of, one_if, times};
 
 use crate::transaction::Transaction;
 use sbp_base::NoMemory;
@@ -23,7 +23,8 @@ impl Bags {
     /// No key.
     #[tactic(auto, unfolding(crate::specs::Bags::times))]
     pub(crate) fn new(alloc: Global) -> Bags
-        ensures { (t : Transaction) (k : ℕ) → times result t k ≡ 0 }
+        ensures none { (t : Transaction) (k : ℕ) → times result t k ≡ 0 }
+        ensures full { AreFull result }
     {
         Bags {
             alloc,
@@ -38,8 +39,10 @@ impl Bags {
         transaction: Option<Transaction>,
         key: usize,
     ) -> Result<(), NoMemory>
+        requires { AreFull self.old }
         ensures added { OnOk result ((t : Transaction) (k : ℕ) → times self.new t k ≡ one_if (is_that t transaction && (key == k)) + times self.old t k) }
         ensures failed { OnErr result ((t : Transaction) (k : ℕ) → times self.new t k ≡ times self.old t k) }
+        ensures full { AreFull self.new }
     {
         match transaction {
             Some(transaction) => self.put(transaction, key),
@@ -49,8 +52,10 @@ impl Bags {
 
     #[tactic(auto, unfolding(crate::specs::Bags::times))]
     fn put(&mut self, transaction: Transaction, key: usize) -> Result<(), NoMemory>
+        requires { AreFull self.old }
         ensures added { OnOk result ((t : Transaction) (k : ℕ) → times self.new t k ≡ one_if (is_same transaction t && (key == k)) + times self.old t k) }
         ensures failed { OnErr result ((t : Transaction) (k : ℕ) → times self.new t k ≡ times self.old t k) }
+        ensures full { AreFull self.new }
     {
         if let Some(bag) = self.bags.get_mut(&transaction) {
             return add_to(bag, key, &mut self.spots);
@@ -63,7 +68,9 @@ impl Bags {
 
     /// Takes a key out from under a transaction, if there is one, and the bag with its last key.
     pub(crate) fn remove(&mut self, transaction: Option<Transaction>, key: usize)
-        ensures { (t : Transaction) (k : ℕ) → times self.new t k ≡ times self.old t k - one_if (is_that t transaction && (key == k)) }
+        requires { AreFull self.old }
+        ensures less { (t : Transaction) (k : ℕ) → times self.new t k ≡ times self.old t k - one_if (is_that t transaction && (key == k)) }
+        ensures full { AreFull self.new }
     {
         if let Some(transaction) = transaction {
             self.take(transaction, key);
@@ -72,7 +79,9 @@ impl Bags {
 
     #[tactic(auto, unfolding(crate::specs::Bags::times))]
     fn take(&mut self, transaction: Transaction, key: usize)
-        ensures { (t : Transaction) (k : ℕ) → times self.new t k ≡ times self.old t k - one_if (is_same transaction t && (key == k)) }
+        requires { AreFull self.old }
+        ensures less { (t : Transaction) (k : ℕ) → times self.new t k ≡ times self.old t k - one_if (is_same transaction t && (key == k)) }
+        ensures full { AreFull self.new }
     {
         let Some(bag) = self.bags.get_mut(&transaction) else {
             return
@@ -110,7 +119,7 @@ fn add_to(bag: &mut SmallVec<usize, 3>, key: usize, spots: &mut Vec<usize>) -> R
 fn take_out(bag: &mut SmallVec<usize, 3>, key: usize, spots: &mut Vec<usize>)
     ensures { (k : ℕ) → count_of k bag.new.items ≡ count_of k bag.old.items - one_if (key == k) }
 {
-    if let Some(spot) = spot_of(bag.as_slice(), key, noted(spots, key)) {
+    if let Some(spot) = spot_of(bag.as_slice(), key, spots) {
         bag.swap_remove(spot);
         if spot < bag.len() {
             let _noted = note(spots, bag.as_slice()[spot], spot);
@@ -119,10 +128,11 @@ fn take_out(bag: &mut SmallVec<usize, 3>, key: usize, spots: &mut Vec<usize>)
 }
 
 /// A spot of a key in a bag: the noted one, if the key stands there.
-fn spot_of(bag: &[usize], key: usize, noted: usize) -> Option<usize>
+fn spot_of(bag: &[usize], key: usize, spots: &Vec<usize>) -> Option<usize>
     ensures found { IfSome result (λ at. (at < length bag.now) × ((d : ℕ) → slice_index_or bag.now at d ≡ key)) }
     ensures none { IfNone result ((at d : ℕ) → at < length bag.now → slice_index_or bag.now at d ≢ key) }
 {
+    let noted = if key < spots.len() { spots[key] } else { 0 };
     if noted < bag.len() && bag[noted] == key {
         return Some(noted);
     }
@@ -145,13 +155,6 @@ fn note(spots: &mut Vec<usize>, key: usize, spot: usize) -> Result<(), NoMemory>
     }
     spots[key] = spot;
     Ok(())
-}
-
-/// The noted spot of a key.
-fn noted(spots: &Vec<usize>, key: usize) -> usize
-    ensures { result ≡ slice_index_or spots.now.items key 0 }
-{
-    if key < spots.len() { spots[key] } else { 0 }
 }
 
 /// The first key of a bag other than one.

@@ -59,10 +59,7 @@ impl Packets {
     pub(crate) fn is_flying(&self, serial: u64) -> bool
         ensures { result ≡ in_air (holds self.now serial) }
     {
-        match self.get(serial) {
-            Some(kept) => kept.in_flight,
-            None => false,
-        }
+        matches!(self.get(serial), Some(kept) if kept.in_flight)
     }
 
     /// The lowest serial in flight above one, up to the last one.

@@ -76,10 +76,7 @@ impl Ring {
     fn is_in_slot(&self, serial: u64) -> bool
         ensures { result ≡ is_of serial (slot self.now.slots.items (slot_of serial)) }
     {
-        match self.slot(slot_of(serial)) {
-            Some(place) => place.serial == serial,
-            None => false,
-        }
+        matches!(self.slot(slot_of(serial)), Some(place) if place.serial == serial)
     }
 
     /// The place of a serial.
@@ -88,15 +85,10 @@ impl Ring {
     pub(crate) fn get(&self, serial: u64) -> Option<&Place>
         ensures { option_copied result ≡ finds self.now serial }
     {
-        let at = slot_of(serial);
-        let Some(place) = self.slot(at) else {
-            return self.older.get(&serial)
-        };
-        if place.serial == serial {
-            Some(place)
-        } else {
-            self.older.get(&serial)
+        if self.is_in_slot(serial) {
+            return self.slot(slot_of(serial));
         }
+        self.older.get(&serial)
     }
 
     /// Moves the place in a slot to the older ones.
@@ -109,15 +101,9 @@ impl Ring {
         ensures size { length self.new.slots.items ≡ length self.old.slots.items }
         ensures free { OnOk result (slot self.new.slots.items at ≡ None) }
     {
-        if self.slots[at].is_none() {
-            return Ok(());
-        }
-        if let Some(place) = self.slots[at].take() {
-            if let Err(refused) = self.older.insert(place.serial, place) {
-                let (_, place) = refused.value;
-                self.slots[at] = Some(place);
-                return Err(NoMemory);
-            }
+        if let Some(place) = self.slots[at] {
+            self.older.insert(place.serial, place)?;
+            self.slots[at] = None;
         }
         Ok(())
     }
@@ -138,43 +124,22 @@ impl Ring {
         Ok(())
     }
 
-    /// Forgets the place of a serial among the older ones, if there are any.
-    fn forget_older(&mut self, serial: u64)
-        ensures slots { self.new.slots ≡ self.old.slots }
-        ensures older { (q : ℕ) → older self.new.older.entries q ≡ (if serial == q then None else older self.old.older.entries q) }
-    {
-        if !self.older.is_empty() {
-            self.older.remove(&serial);
-        }
-    }
-
-    /// Takes out a place that is in its slot.
-    #[tactic(auto, using(crate::proofs::Rings::of_range), unfolding(crate::specs::Rings::finds))]
-    fn take_from_slot(&mut self, serial: u64) -> Option<Place>
-        requires placed { Placed self.old.slots.items }
-        requires here { is_of serial (slot self.old.slots.items (slot_of serial)) ≡ true }
-        ensures taken { result ≡ finds self.old serial }
-        ensures removed { (q : ℕ) → finds self.new q ≡ (if serial == q then None else finds self.old q) }
-        ensures placed { Placed self.new.slots.items }
-    {
-        let at = slot_of(serial);
-        let place = self.slots[at].take();
-        self.forget_older(serial);
-        place
-    }
-
     /// Takes out the place of a serial.
-    #[tactic(auto, unfolding(crate::specs::Rings::finds))]
+    #[tactic(auto, using(crate::proofs::Rings::of_range), unfolding(crate::specs::Rings::finds))]
     pub(crate) fn take(&mut self, serial: u64) -> Option<Place>
         requires { Placed self.old.slots.items }
         ensures taken { result ≡ finds self.old serial }
         ensures removed { (q : ℕ) → finds self.new q ≡ (if serial == q then None else finds self.old q) }
         ensures placed { Placed self.new.slots.items }
     {
-        if self.is_in_slot(serial) {
-            self.take_from_slot(serial)
-        } else {
-            self.older.remove(&serial)
+        if !self.is_in_slot(serial) {
+            return self.older.remove(&serial);
         }
+        let place = self.slots[slot_of(serial)].take();
+        if self.older.is_empty() {
+            return place;
+        }
+        self.older.remove(&serial);
+        place
     }
 }

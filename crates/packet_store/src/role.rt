@@ -32,8 +32,5 @@ pub(crate) fn role_of(bytes: &[u8]) -> Role
 fn asks(tcode: u8) -> bool
     ensures { result ≡ asks tcode }
 {
-    match tcode {
-        0 | 1 | 4 | 5 | 9 => true,
-        _ => false,
-    }
+    matches!(tcode, 0 | 1 | 4 | 5 | 9)
 }

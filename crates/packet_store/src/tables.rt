@@ -103,9 +103,6 @@ impl Tables {
     fn is_delivered(&self, serial: u64) -> bool
         ensures { result ≡ is_delivered (found serial self.now.shelf) }
     {
-        match self.shelf.get(serial) {
-            Some(kept) => !kept.in_flight,
-            None => false,
-        }
+        matches!(self.shelf.get(serial), Some(kept) if !kept.in_flight)
     }
 }

@@ -1,17 +1,33 @@
 ghost use Rattle.std.specs.Prelude.{◌≡◌};
-ghost use Rattle.packet_store.specs.Transactions.{transaction_by, begun_as};
+ghost use Rattle.std.specs.Hash as fed;
+ghost use Rattle.std.specs.Cmp.Rules.{hashing};
+ghost use Rattle.std.proofs.Common.{rules};
+ghost use Rattle.packet_store.specs.Transactions.{transaction_by, begun_as, number_of};
 
 use crate::role::Role;
 use crate::sent::Sent;
+use std::hash::{Hash, Hasher};
 
 /// A transaction, by the generation in which it was sent, its requester, its responder and its
 /// label (IEEE 1394-1995, transaction layer).
-#[derive(Clone, Copy, PartialEq, Eq, Hash)]
+#[derive(Clone, Copy, PartialEq, Eq)]
 pub struct Transaction {
     pub generation: u32,
     pub requester: u8,
     pub responder: u8,
     pub label: u8,
+}
+
+/// By one write, as a map is asked for each packet.
+impl Hash for Transaction {
+    ghost hash_input = { λ t. fed.u64 (number_of t) };
+
+    ghost respects_eq = { Prim.search (hashing, rules) };
+
+    fn hash<H: Hasher>(&self, state: &mut H) {
+        let nodes = u64::from(self.requester) * 65_536 + u64::from(self.responder) * 256;
+        state.write_u64(u64::from(self.generation) * 16_777_216 + nodes + u64::from(self.label));
+    }
 }
 
 /// The transaction that a packet of this role belongs to. A request belongs to one of its sender,

@@ -25,4 +25,5 @@ pub returns-in-Some-get_mut-clause-exact : goal.returns-in-Some-get_mut-clause-e
 returns-in-Some-get_mut-clause-exact c = record {
   placed = c.requires.placed;
   tied = mark_tied _ _ _ _ c.args.serial c.in-Some.key c.in-Some-get_mut.kept.now c.requires.tied (marks c);
+  full = c.requires.full;
 }

@@ -60,4 +60,4 @@ returns-clause-exact c =
       placed = c.take.ensures.removed;
       less = search rules;
     } in
-    record { placed = c.take.ensures.placed; tied = take_tied _ _ _ _ _ _ c.args.serial c.in_ok-key.field-0 c.in_ok-kept.kept c.requires.tied takes }
+    record { placed = c.take.ensures.placed; tied = take_tied _ _ _ _ _ _ c.args.serial c.in_ok-key.field-0 c.in_ok-kept.kept c.requires.tied takes; full = c.remove.ensures.full }
