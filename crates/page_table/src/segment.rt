@@ -4,7 +4,7 @@ ghost use Rattle.page_table.specs.Buffer.{AreSegments, chunk_from, bytes_of};
 use sbp_base::Offset;
 
 /// A piece of a buffer: the first address, below 2^48, and the length in bytes.
-#[derive(Clone, Copy, Debug, PartialEq, Eq)]
+#[derive(Clone, Copy, Debug, Default, PartialEq, Eq)]
 pub struct Segment {
     pub base: u64,
     pub length: u16,

@@ -5,29 +5,26 @@ ghost use Rattle.page_table.specs.Elements.{elements_of, elements_from, first_fa
 use crate::fault::PageFault;
 use crate::read::{element_at, fault_from};
 use crate::segment::{Chunk, Segment, chunk_at, total_of};
+use arrayvec::ArrayVec;
 use sbp_base::Offset;
 use std::marker::Model;
-
-/// The most elements of a page table.
-const ROOM: usize = 64;
 
 /// The segments of a buffer in their order, with room for 64 of them.
 #[derive(Drop)]
 pub struct SegmentTable {
-    segments: [Segment; 64],
-    count: usize,
+    segments: ArrayVec<Segment, 64>,
 }
 
 impl Model for SegmentTable {
-    ghost use Rattle.std.specs.Prelude.{◌≤◌, take, List};
+    ghost use Rattle.std.specs.Prelude.{List};
     ghost use Rattle.page_table.specs.Buffer.{AreSegments};
     ghost use Rattle.page_table.specs.declared.segment.Segment.{Segment};
 
     ghost Value = { List Segment };
 
-    ghost view = { λ table. take table.count table.segments };
+    ghost view = { λ table. table.segments.items };
 
-    ghost invariant = { λ table. (table.count ≤ 64) × AreSegments (take table.count table.segments) };
+    ghost invariant = { λ table. AreSegments table.segments.items };
 }
 
 impl SegmentTable {
@@ -36,8 +33,7 @@ impl SegmentTable {
         ensures { result ≡ [] }
     {
         SegmentTable {
-            segments: [Segment { base: 0, length: 0 }; ROOM],
-            count: 0,
+            segments: ArrayVec::new(),
         }
     }
 
@@ -60,7 +56,7 @@ impl SegmentTable {
     pub fn total(&self) -> u32
         ensures { result ≡ bytes_of self.now }
     {
-        total_of(&self.segments[0..self.count])
+        total_of(self.segments.as_slice())
     }
 
     /// The chunk that begins `done` bytes into the buffer: it ends with its segment and has at most
@@ -74,14 +70,14 @@ impl SegmentTable {
         ensures few { IfSome result (λ chunk. chunk.length ≤ limit) }
         ensures some { IfSome result (λ chunk. 0 < chunk.length) }
     {
-        chunk_at(&self.segments[0..self.count], done, limit)
+        chunk_at(self.segments.as_slice(), done, limit)
     }
 
-    /// Removes all segments; their room keeps what was in it.
+    /// Removes all segments.
     fn clear(&mut self)
         ensures { self.new ≡ [] }
     {
-        self.count = 0;
+        self.segments.clear();
     }
 
     /// Adds a segment behind the others.
@@ -90,8 +86,7 @@ impl SegmentTable {
         requires sound { IsSegment segment }
         ensures { self.new ≡ self.old ++ segment ∷ [] }
     {
-        self.segments[self.count] = segment;
-        self.count += 1;
+        self.segments.push(segment);
     }
 
     /// Adds the elements of a page table without a fault, from element `at` on.
