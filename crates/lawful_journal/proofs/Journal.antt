@@ -135,7 +135,7 @@ module _ (wild : ℕ → Bool) (telling : Telling) (run : Run) (law : IsLawfulAs
   Rest = Two (Two (HasPushes run.start) Ordered) (TurnAsTold telling run.start)
 
   runs : EachTurn Runs past
-  runs = both (RunsWhereDue nobody run.start) (EndsAsRead run.start) past law.lawful.moments.runs law.lawful.moments.runs_end
+  runs = both (RunsWhereDue nobody run.start) (EndsAsRead run.start) past law.lawful.moments.carried.due law.lawful.moments.runs_end
 
   effects : EachTurn Effects past
   effects =

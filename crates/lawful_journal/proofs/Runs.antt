@@ -1,5 +1,5 @@
 -- What a turn has of runs: which commands run does not hang on how they end, and how they end is told or decided.
-use Rattle.std.proofs.Common.{◌≡◌, ◌∙◌, ℕ, Bool, if◌then◌else◌, List, [], ◌∷◌, map, Option, Some, None, is_some, refl, sym, ap, ap₂, subst}
+use Rattle.std.proofs.Common.{◌==◌, ◌≡◌, ◌∙◌, ℕ, Bool, if◌then◌else◌, List, [], ◌∷◌, map, Option, Some, None, is_some, refl, sym, ap, ap₂, subst}
 use Rattle.rbc_command.specs.declared.sense.Sense.{Sense}
 use Rattle.rbc_disk.specs.declared.command.BufferPlan.{BufferPlan}
 use Rattle.rbc_disk.specs.declared.command.Outcome.{Outcome}
@@ -10,7 +10,7 @@ use Rattle.rbc_disk.specs.Units.{PlainDisk}
 use Rattle.command_agent.specs.Machine as agent
 use Rattle.sbp_journal.specs.Addresses.{orb_pointer, doorbell}
 use Rattle.sbp_journal.specs.Run.{Moment, said}
-use Rattle.sbp_journal.specs.Wire.{Terms}
+use Rattle.sbp_journal.specs.Wire.{Terms, terms}
 use Rattle.sbp_journal.specs.declared.note.Note.{Note}
 use Rattle.sbp_journal.specs.declared.note.Note.TheVariants as notes
 use Rattle.sbp_laws.specs.Agents.{AgentTurn, Event, replies, writes, nothing, agent_event, agent_turn, initiator_at, target_before, told_among, untold_among, wire_before}
@@ -21,7 +21,7 @@ use Rattle.sbp_laws.specs.Lawful.{nobody}
 use Rattle.sbp_laws.specs.Lists.{list_in, named, number_in}
 use Rattle.sbp_laws.specs.MediaLaw.{load_in}
 use Rattle.sbp_laws.specs.NoteKinds.{of_kind}
-use Rattle.sbp_laws.specs.Targets.{Reply, Target, agent_at, plain_for, reply_of, unit_of}
+use Rattle.sbp_laws.specs.Targets.{Reply, Target, agent_at, plain_for, reply_of, told_by, unit_of}
 use Rattle.sbp_laws.specs.Turns.{Turn, turn}
 use Rattle.lawful_journal.specs.Telling.{EachEndsAsTold, EndsAsTold, OutcomesAsTold}
 use Rattle.lawful_journal.proofs.Alike.{View, view, reply_view}
@@ -37,15 +37,15 @@ of_view past i unit machine None = refl
 of_view past i unit machine (Some outcome) = refl
 
 module _ (target : Target) (past : List Moment) (start : Moment) (rest other : List Note) where
-  replied_view : (reply : Reply) → view (reply_of target reply (told_among rest (plain_for target reply))) ≡ view (reply_of target reply (told_among other (plain_for target reply)))
+  replied_view : (reply : Reply) → view (reply_of target reply (told_among (initiator_at target (terms past) reply.place) rest (plain_for target reply))) ≡ view (reply_of target reply (told_among (initiator_at target (terms past) reply.place) other (plain_for target reply)))
   replied_view reply =
-      reply_view (agent_at target reply.place).machine reply.place (plain_for target reply) (told_among rest (plain_for target reply)) (told_among other (plain_for target reply)) reply.which reply.answer
+      reply_view (agent_at target reply.place).machine reply.place (plain_for target reply) (told_among (initiator_at target (terms past) reply.place) rest (plain_for target reply)) (told_among (initiator_at target (terms past) reply.place) other (plain_for target reply)) reply.which reply.answer
 
-  pub same_runs_by : (event : Event) → run_by target (turn past start rest) (agent_turn event target rest) ≡ run_by target (turn past start other) (agent_turn event target other)
+  pub same_runs_by : (event : Event) → run_by target (turn past start rest) (agent_turn event target (terms past) rest) ≡ run_by target (turn past start other) (agent_turn event target (terms past) other)
   same_runs_by (replies reply) =
-      of_view past i unit (reply_of target reply (told_among rest (plain_for target reply))).1 (reply_of target reply (told_among rest (plain_for target reply))).0.ran
+      of_view past i unit (reply_of target reply (told_among (initiator_at target (terms past) reply.place) rest (plain_for target reply))).1 (reply_of target reply (told_among (initiator_at target (terms past) reply.place) rest (plain_for target reply))).0.ran
       ∙ ap (run_from past i unit) (replied_view reply)
-      ∙ sym (of_view past i unit (reply_of target reply (told_among other (plain_for target reply))).1 (reply_of target reply (told_among other (plain_for target reply))).0.ran)
+      ∙ sym (of_view past i unit (reply_of target reply (told_among (initiator_at target (terms past) reply.place) other (plain_for target reply))).1 (reply_of target reply (told_among (initiator_at target (terms past) reply.place) other (plain_for target reply))).0.ran)
     where
       i : ℕ
       i = initiator_at target (wire_before (turn past start rest)) reply.place
@@ -95,12 +95,13 @@ checks_are : (told : Option Sense) (target : Target) (a : Option AgentTurn) (res
 checks_are told target None rest ends as_told = none_in told target rest ends
 checks_are told target (Some a) rest ends as_told = ended_in told target a rest ends as_told
 
-same_checks : (told : Option Sense) (target : Target) (rest other : List Note) (event : Event) → checks_by told target (agent_turn event target rest) ≡ checks_by told target (agent_turn event target other)
-same_checks told target rest other (replies reply) = ap (λ v. ends_on told target v.plan reply.place) (replied_view target [] (said notes.Tick) rest other reply)
-same_checks told target rest other (writes orb_pointer place access) = refl
-same_checks told target rest other (writes doorbell place access) = refl
-same_checks told target rest other (writes name place access) = refl
-same_checks told target rest other nothing = refl
+same_checks : (told : Option Sense) (target : Target) (past : List Moment) (rest other : List Note) (event : Event)
+    → checks_by told target (agent_turn event target (terms past) rest) ≡ checks_by told target (agent_turn event target (terms past) other)
+same_checks told target past rest other (replies reply) = ap (λ v. ends_on told target v.plan reply.place) (replied_view target past (said notes.Tick) rest other reply)
+same_checks told target past rest other (writes orb_pointer place access) = refl
+same_checks told target past rest other (writes doorbell place access) = refl
+same_checks told target past rest other (writes name place access) = refl
+same_checks told target past rest other nothing = refl
 
 -- ---- the notes of runs
 abbrev run_note : (ℕ → List ℕ → Option Sense) → Run → Note
@@ -119,15 +120,15 @@ all_others (run ∷ runs) = ap (λ l. run ∷ l) (all_others runs)
 -- what a turn's runs are, and how they end
 pub record Runs (told : Option Sense) (disks : List Disk) (t : Turn) : Type 0 where
   pub due : of_others nobody (runs_in t.rest) ≡ of_others nobody (runs_due disks t)
-  pub ends : EndEachBy (target_before disks t) (agent_turn (agent_event disks t) (target_before disks t) t.rest) t.rest
-  pub as_told : OutcomesAsTold told (target_before disks t) (agent_turn (agent_event disks t) (target_before disks t) t.rest) t.rest
+  pub ends : EndEachBy (target_before disks t) (agent_turn (agent_event disks t) (target_before disks t) (wire_before t) t.rest) t.rest
+  pub as_told : OutcomesAsTold told (target_before disks t) (agent_turn (agent_event disks t) (target_before disks t) (wire_before t) t.rest) t.rest
 
 module _ (told : Option Sense) (disks : List Disk) (past : List Moment) (start : Moment) (rest other : List Note) where
   pub same_run_notes : Runs told disks (turn past start rest) → Runs told disks (turn past start other) → of_kind is_run_note rest ≡ of_kind is_run_note other
   same_run_notes runs more =
-      run_notes_are checks rest (checks_are told target (agent_turn event target rest) rest runs.ends runs.as_told)
+      run_notes_are checks rest (checks_are told target (agent_turn event target (terms past) rest) rest runs.ends runs.as_told)
       ∙ ap (map (run_note checks)) same_runs
-      ∙ sym (run_notes_are checks other (subst (λ c. ChecksAre c other) (sym (same_checks told target rest other event)) (checks_are told target (agent_turn event target other) other more.ends more.as_told)))
+      ∙ sym (run_notes_are checks other (subst (λ c. ChecksAre c other) (sym (same_checks told target past rest other event)) (checks_are told target (agent_turn event target (terms past) other) other more.ends more.as_told)))
     where
       target : Target
       target = target_before disks (turn past start rest)
@@ -136,21 +137,22 @@ module _ (told : Option Sense) (disks : List Disk) (past : List Moment) (start :
       event = agent_event disks (turn past start rest)
 
       checks : ℕ → List ℕ → Option Sense
-      checks = checks_by told target (agent_turn event target rest)
+      checks = checks_by told target (agent_turn event target (terms past) rest)
 
       same_runs : runs_in rest ≡ runs_in other
       same_runs = sym (all_others (runs_in rest)) ∙ runs.due ∙ ap (of_others nobody) (same_runs_by target past start rest other event) ∙ sym more.due ∙ all_others (runs_in other)
 
 -- ---- what reads the runs of a turn
-told_by_runs : (rest : List Note) (plain : PlainDisk) → told_among rest plain ≡ told_among (of_kind is_run_note rest) plain
-told_by_runs [] plain = refl
-told_by_runs (notes.Ran i list number unit cdb bytes check ∷ rest) plain = refl
-told_by_runs (note ∷ rest) plain = told_by_runs rest plain
+told_by_runs : (i : ℕ) (rest : List Note) (plain : PlainDisk) → told_among i rest plain ≡ told_among i (of_kind is_run_note rest) plain
+told_by_runs i [] plain = refl
+told_by_runs i (notes.Ran j list number unit cdb bytes check ∷ rest) plain =
+    ap (λ o. if j == i then told_by (notes.Ran j list number unit cdb bytes check) plain else o) (told_by_runs i rest plain)
+told_by_runs i (note ∷ rest) plain = told_by_runs i rest plain
 
-untold_by_runs : (rest : List Note) (plain : PlainDisk) (before : Bool) → untold_among rest plain before ≡ untold_among (of_kind is_run_note rest) plain before
-untold_by_runs [] plain before = refl
-untold_by_runs (notes.Ran i list number unit cdb bytes check ∷ rest) plain before = untold_by_runs rest plain _
-untold_by_runs (note ∷ rest) plain before = untold_by_runs rest plain before
+untold_by_runs : (i : ℕ) (rest : List Note) (plain : PlainDisk) (before : Bool) → untold_among i rest plain before ≡ untold_among i (of_kind is_run_note rest) plain before
+untold_by_runs i [] plain before = refl
+untold_by_runs i (notes.Ran j list number unit cdb bytes check ∷ rest) plain before = untold_by_runs i rest plain _
+untold_by_runs i (note ∷ rest) plain before = untold_by_runs i rest plain before
 
 load_by_runs : (target : Target) (wire : Terms) (rest : List Note) → load_in target wire rest ≡ load_in target wire (of_kind is_run_note rest)
 load_by_runs target wire [] = refl
@@ -162,17 +164,18 @@ turn_with target reply told untold =
     let s = reply_of target reply told in
     Some (record { place = reply.place; untold = untold; which = reply.which; step = s.0; machine = s.1 })
 
-turn_by_runs : (target : Target) (rest : List Note) (event : Event) → agent_turn event target rest ≡ agent_turn event target (of_kind is_run_note rest)
-turn_by_runs target rest (replies reply) =
-    ap₂ (turn_with target reply) (told_by_runs rest (plain_for target reply)) (untold_by_runs rest (plain_for target reply) (agent_at target reply.place).untold)
-turn_by_runs target rest (writes orb_pointer place access) = refl
-turn_by_runs target rest (writes doorbell place access) = refl
-turn_by_runs target rest (writes name place access) = refl
-turn_by_runs target rest nothing = refl
+turn_by_runs : (target : Target) (wire : Terms) (rest : List Note) (event : Event) → agent_turn event target wire rest ≡ agent_turn event target wire (of_kind is_run_note rest)
+turn_by_runs target wire rest (replies reply) =
+    ap₂ (turn_with target reply) (told_by_runs (initiator_at target wire reply.place) rest (plain_for target reply))
+    (untold_by_runs (initiator_at target wire reply.place) rest (plain_for target reply) (agent_at target reply.place).untold)
+turn_by_runs target wire rest (writes orb_pointer place access) = refl
+turn_by_runs target wire rest (writes doorbell place access) = refl
+turn_by_runs target wire rest (writes name place access) = refl
+turn_by_runs target wire rest nothing = refl
 
 module _ (rest other : List Note) (same : of_kind is_run_note rest ≡ of_kind is_run_note other) where
-  pub same_agent_turn : (target : Target) (event : Event) → agent_turn event target rest ≡ agent_turn event target other
-  same_agent_turn target event = turn_by_runs target rest event ∙ ap (agent_turn event target) same ∙ sym (turn_by_runs target other event)
+  pub same_agent_turn : (target : Target) (wire : Terms) (event : Event) → agent_turn event target wire rest ≡ agent_turn event target wire other
+  same_agent_turn target wire event = turn_by_runs target wire rest event ∙ ap (agent_turn event target wire) same ∙ sym (turn_by_runs target wire other event)
 
   pub same_load : (target : Target) (wire : Terms) → load_in target wire rest ≡ load_in target wire other
   same_load target wire = load_by_runs target wire rest ∙ ap (load_in target wire) same ∙ sym (load_by_runs target wire other)

@@ -60,18 +60,18 @@ module _ (telling : Telling) (disks : List Disk) (past : List Moment) (start : M
   same_runs = same_run_notes (telling.outcomes (run_count past)) disks past start rest other
       (record { due = h.runs; ends = h.runs_end; as_told = h.told.outcomes }) (record { due = k.runs; ends = k.runs_end; as_told = k.told.outcomes })
 
-  same_turn_of_agent : agent_turn (agent_event disks (turn past start rest)) (target_before disks (turn past start rest)) rest
-      ≡ agent_turn (agent_event disks (turn past start rest)) (target_before disks (turn past start rest)) other
-  same_turn_of_agent = same_agent_turn rest other same_runs (target_before disks (turn past start rest)) (agent_event disks (turn past start rest))
+  same_turn_of_agent : agent_turn (agent_event disks (turn past start rest)) (target_before disks (turn past start rest)) (wire_before (turn past start rest)) rest
+      ≡ agent_turn (agent_event disks (turn past start rest)) (target_before disks (turn past start rest)) (wire_before (turn past start rest)) other
+  same_turn_of_agent = same_agent_turn rest other same_runs (target_before disks (turn past start rest)) (wire_before (turn past start rest)) (agent_event disks (turn past start rest))
 
   also_told : LabelsAsTold (telling.chunks ((wire_after (turn past start rest)).count + 1)) (target_before disks (turn past start rest)) (turn past start other)
-      (agent_turn (agent_event disks (turn past start rest)) (target_before disks (turn past start rest)) rest)
+      (agent_turn (agent_event disks (turn past start rest)) (target_before disks (turn past start rest)) (wire_before (turn past start rest)) rest)
   also_told = subst (λ a. LabelsAsTold (telling.chunks ((wire_after (turn past start rest)).count + 1)) (target_before disks (turn past start rest)) (turn past start other) a) (sym same_turn_of_agent) k.told.labels
 
   same_ends_due : ends_due disks (turn past start rest) ≡ ends_due disks (turn past start other)
   same_ends_due =
       same_ends disks (telling.chunks ((wire_after (turn past start rest)).count + 1)) (target_before disks (turn past start rest)) past start rest other
-      (agent_turn (agent_event disks (turn past start rest)) (target_before disks (turn past start rest)) rest) h.told.labels also_told
+      (agent_turn (agent_event disks (turn past start rest)) (target_before disks (turn past start rest)) (wire_before (turn past start rest)) rest) h.told.labels also_told
       ∙ ap (ends_by disks (target_before disks (turn past start rest)) (turn past start other)) same_turn_of_agent
 
   same_loads : load_in (target_before disks (turn past start rest)) (wire_before (turn past start rest)) rest ≡ load_in (target_before disks (turn past start rest)) (wire_before (turn past start rest)) other
@@ -99,7 +99,7 @@ module _ (telling : Telling) (disks : List Disk) (past : List Moment) (start : M
   same_target_requests : target_requests disks (turn past start rest) ≡ target_requests disks (turn past start other)
   same_target_requests = ap₂ (λ x y. x ++ (manager_requests (target_before disks (turn past start rest)) (turn past start rest) ++ y))
       (same_agent_requests (telling.chunks ((wire_after (turn past start rest)).count + 1)) (target_before disks (turn past start rest)) past start rest other
-      (agent_turn (agent_event disks (turn past start rest)) (target_before disks (turn past start rest)) rest) h.told.labels also_told
+      (agent_turn (agent_event disks (turn past start rest)) (target_before disks (turn past start rest)) (wire_before (turn past start rest)) rest) h.told.labels also_told
       ∙ ap (agent_requests (target_before disks (turn past start rest)) (turn past start other)) same_turn_of_agent)
       (ap (λ load. push_requests (target_before disks (turn past start rest)) (wire_after (turn past start rest)) (logins_for (target_before disks (turn past start rest)) load)) same_loads)
 

@@ -80,8 +80,8 @@ ChunksAsTold telling past node rest requests = Unit {0}
 
 -- ---- a turn and a moment
 pub record TurnAsTold (telling : Telling) (disks : List Disk) (t : Turn) : Type 0 where
-  pub outcomes : OutcomesAsTold (telling.outcomes (run_count t.past)) (target_before disks t) (agent_turn (agent_event disks t) (target_before disks t) t.rest) t.rest
-  pub labels : LabelsAsTold (telling.chunks ((wire_after t).count + 1)) (target_before disks t) t (agent_turn (agent_event disks t) (target_before disks t) t.rest)
+  pub outcomes : OutcomesAsTold (telling.outcomes (run_count t.past)) (target_before disks t) (agent_turn (agent_event disks t) (target_before disks t) (wire_before t) t.rest) t.rest
+  pub labels : LabelsAsTold (telling.chunks ((wire_after t).count + 1)) (target_before disks t) t (agent_turn (agent_event disks t) (target_before disks t) (wire_before t) t.rest)
   pub chunks : ChunksAsTold telling (before_requests disks t) (asks_by disks t t.start).node (behind_answer disks t) (asks_by disks t t.start).requests
 
 abbrev pub TakenAsTold : (ℕ → Bool) → Telling → Moment → List Moment → Type 0

@@ -68,8 +68,7 @@ module _ (wild : ℕ → Bool) (run : Run) (line : ℕ) (event : Event) (told : 
       execution = (split (ExecutionAt wild run.start) (history run.entries) line event told law.moments.execution).1;
       status = record { taken = (split (TakenAt wild) (history run.entries) line event told law.moments.status.taken).1; each = (split_turns (TakesEach wild) (history run.entries) line event told [] law.moments.status.each).1 };
       answer = (split (AnswerAt wild run.start) (history run.entries) line event told law.moments.answer).1;
-      carried = record { carried = (split (CarriedAt wild run.start) (history run.entries) line event told law.moments.carried.carried).1; due = (split_turns (RunsWhereDue wild run.start) (history run.entries) line event told [] law.moments.carried.due).1 };
-      runs = (split_turns (RunsWhereDue nobody run.start) (history run.entries) line event told [] law.moments.runs).1;
+      carried = record { carried = (split (CarriedAt wild run.start) (history run.entries) line event told law.moments.carried.carried).1; due = (split_turns (RunsWhereDue nobody run.start) (history run.entries) line event told [] law.moments.carried.due).1 };
       runs_end = (split_turns (EndsAsRead run.start) (history run.entries) line event told [] law.moments.runs_end).1;
       takes = (split_turns (TakesEach nobody) (history run.entries) line event told [] law.moments.takes).1;
       cause = record { causes = (split_turns (HasCauses run.start) (history run.entries) line event told [] law.moments.cause.causes).1; aborted = (split (AbortedAt run.start) (history run.entries) line event told law.moments.cause.aborted).1 };
@@ -91,8 +90,7 @@ module _ (wild : ℕ → Bool) (run : Run) (line : ℕ) (event : Event) (told : 
     taken_each = (split_turns (TakesEach wild) (history run.entries) line event told [] law.moments.status.each).0;
     answer = (split (AnswerAt wild run.start) (history run.entries) line event told law.moments.answer).0;
     carried = (split (CarriedAt wild run.start) (history run.entries) line event told law.moments.carried.carried).0;
-    run_where_due = (split_turns (RunsWhereDue wild run.start) (history run.entries) line event told [] law.moments.carried.due).0;
-    runs = (split_turns (RunsWhereDue nobody run.start) (history run.entries) line event told [] law.moments.runs).0;
+    run_where_due = (split_turns (RunsWhereDue nobody run.start) (history run.entries) line event told [] law.moments.carried.due).0;
     runs_end = (split_turns (EndsAsRead run.start) (history run.entries) line event told [] law.moments.runs_end).0;
     takes = (split_turns (TakesEach nobody) (history run.entries) line event told [] law.moments.takes).0;
     causes = (split_turns (HasCauses run.start) (history run.entries) line event told [] law.moments.cause.causes).0;
@@ -117,8 +115,7 @@ module _ (wild : ℕ → Bool) (run : Run) (line : ℕ) (event : Event) (told : 
       execution = join (ExecutionAt wild run.start) (history run.entries) line event told new.execution before.moments.execution;
       status = record { taken = join (TakenAt wild) (history run.entries) line event told new.taken before.moments.status.taken; each = join_turns (TakesEach wild) (history run.entries) line event told [] new.taken_each before.moments.status.each };
       answer = join (AnswerAt wild run.start) (history run.entries) line event told new.answer before.moments.answer;
-      carried = record { carried = join (CarriedAt wild run.start) (history run.entries) line event told new.carried before.moments.carried.carried; due = join_turns (RunsWhereDue wild run.start) (history run.entries) line event told [] new.run_where_due before.moments.carried.due };
-      runs = join_turns (RunsWhereDue nobody run.start) (history run.entries) line event told [] new.runs before.moments.runs;
+      carried = record { carried = join (CarriedAt wild run.start) (history run.entries) line event told new.carried before.moments.carried.carried; due = join_turns (RunsWhereDue nobody run.start) (history run.entries) line event told [] new.run_where_due before.moments.carried.due };
       runs_end = join_turns (EndsAsRead run.start) (history run.entries) line event told [] new.runs_end before.moments.runs_end;
       takes = join_turns (TakesEach nobody) (history run.entries) line event told [] new.takes before.moments.takes;
       cause = record { causes = join_turns (HasCauses run.start) (history run.entries) line event told [] new.causes before.moments.cause.causes; aborted = join (AbortedAt run.start) (history run.entries) line event told new.aborted before.moments.cause.aborted };

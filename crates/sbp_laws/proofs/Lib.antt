@@ -1,6 +1,6 @@
 mod Orders
 mod Added
-mod Parts
+pub mod Parts
 mod OnceTries
 mod OrderTries
 mod ExecutionTries

@@ -17,7 +17,7 @@ use Rattle.sbp_laws.specs.OrderLaw.{OrderLaw}
 use Rattle.sbp_laws.specs.ExecutionLaw.{ExecutionLaw}
 use Rattle.sbp_laws.specs.StatusLaw.{StatusLaw, TakesEach}
 use Rattle.sbp_laws.specs.AnswerLaw.{AnswerLaw}
-use Rattle.sbp_laws.specs.CarriedLaw.{CarriedLaw, EndsAsRead, RunsWhereDue}
+use Rattle.sbp_laws.specs.CarriedLaw.{CarriedLaw, EndsAsRead}
 use Rattle.sbp_laws.specs.CauseLaw.{CauseLaw}
 use Rattle.sbp_laws.specs.JudgementLaw.{JudgementLaw}
 use Rattle.sbp_laws.specs.LoginLaw.{LoginLaw}
@@ -123,10 +123,6 @@ dies_action : ActionLaw (rare.wild_run rare.wild_dies).start (rare.wild_run rare
 unfolding reading fault_of tcode_of header_of offset_of rcode_of value_of length_of extended_of three four part_of is_to is_same asked_by begun_by belongs start_at lowest_from label_for free_from count_flying lowest_flying label_of with_label is_write kind_of slot_of window_at is_fifo point_step doorbell_step reset_step abort_step reply_step lost_step refusal verdict request_of check_of blank_bytes command_kind elements_from made block_head decide reads_eui live_login response_bytes start_step reply_step_of_manager decide_step fresh_id left_for enter_step back_step leave_step
 dies_action = record { brings = (record { before = rare.wild_notes rare.wild_dies ++ notes.Ignored 5 ignored.Slot ∷ notes.Sent 6 0 1 0 (journals.done_by_first 0) ∷ notes.Got 6 ∷ []; last = notes.Settled; is = refl; delivers = record { begins = tt; lowest = (refl, (refl, (refl, (refl, (refl, (refl, (refl, (refl, (refl, (refl, (refl, (refl, (refl, tt))))))))))))); few = six_of_many; all = inr refl }; ends = refl }, (refl, (refl, tt))); ordered = (record { effects = refl; first = refl }, (record { effects = refl; first = refl }, (record { effects = refl; first = refl }, (record { effects = refl; first = refl }, (record { effects = refl; first = refl }, (record { effects = refl; first = refl }, (record { effects = refl; first = refl }, (tt, (tt, (tt, tt)))))))))) }
 
-dies_runs : EachTurn (RunsWhereDue nobody (rare.wild_run rare.wild_dies).start) (history (rare.wild_run rare.wild_dies).entries)
-unfolding reading fault_of tcode_of header_of offset_of rcode_of value_of length_of extended_of three four part_of is_to is_same asked_by begun_by belongs start_at lowest_from label_for free_from count_flying lowest_flying label_of with_label is_write kind_of slot_of window_at is_fifo point_step doorbell_step reset_step abort_step reply_step lost_step refusal verdict request_of check_of blank_bytes command_kind elements_from made block_head decide reads_eui live_login response_bytes start_step reply_step_of_manager decide_step fresh_id left_for enter_step back_step leave_step
-dies_runs = (refl, (refl, (refl, (refl, (refl, (refl, (refl, (refl, (refl, (refl, tt))))))))))
-
 dies_runs_end : EachTurn (EndsAsRead (rare.wild_run rare.wild_dies).start) (history (rare.wild_run rare.wild_dies).entries)
 unfolding reading fault_of tcode_of header_of offset_of rcode_of value_of length_of extended_of three four part_of is_to is_same asked_by begun_by belongs start_at lowest_from label_for free_from count_flying lowest_flying label_of with_label is_write kind_of slot_of window_at is_fifo point_step doorbell_step reset_step abort_step reply_step lost_step refusal verdict request_of check_of blank_bytes command_kind elements_from made block_head decide reads_eui live_login response_bytes start_step reply_step_of_manager decide_step fresh_id left_for enter_step back_step leave_step
 dies_runs_end = (tt, (tt, (tt, (tt, (tt, (tt, (tt, (tt, (tt, (tt, tt))))))))))
@@ -134,10 +130,6 @@ dies_runs_end = (tt, (tt, (tt, (tt, (tt, (tt, (tt, (tt, (tt, (tt, tt))))))))))
 dies_takes : EachTurn (TakesEach nobody) (history (rare.wild_run rare.wild_dies).entries)
 unfolding reading fault_of tcode_of header_of offset_of rcode_of value_of length_of extended_of three four part_of is_to is_same asked_by begun_by belongs start_at lowest_from label_for free_from count_flying lowest_flying label_of with_label is_write kind_of slot_of window_at is_fifo point_step doorbell_step reset_step abort_step reply_step lost_step refusal verdict request_of check_of blank_bytes command_kind elements_from made block_head decide reads_eui live_login response_bytes start_step reply_step_of_manager decide_step fresh_id left_for enter_step back_step leave_step
 dies_takes = (refl, (refl, (refl, (refl, (refl, (refl, (refl, (refl, (refl, (refl, tt))))))))))
-
-reset_ignored_runs : EachTurn (RunsWhereDue nobody (rare.wild_write (notes.Ignored 1 ignored.Login) (notes.Sent 2 0 0 1 (journals.done_by_target 0 7) ∷ [])).start) (history (rare.wild_write (notes.Ignored 1 ignored.Login) (notes.Sent 2 0 0 1 (journals.done_by_target 0 7) ∷ [])).entries)
-unfolding reading fault_of tcode_of header_of offset_of rcode_of value_of length_of extended_of three four part_of is_to is_same asked_by begun_by belongs start_at lowest_from label_for free_from count_flying lowest_flying label_of with_label is_write kind_of slot_of window_at is_fifo point_step doorbell_step reset_step abort_step reply_step lost_step refusal verdict request_of check_of blank_bytes command_kind elements_from made block_head decide reads_eui live_login response_bytes start_step reply_step_of_manager decide_step fresh_id left_for enter_step back_step leave_step
-reset_ignored_runs = (refl, (refl, (refl, (refl, tt))))
 
 reset_ignored_runs_end : EachTurn (EndsAsRead (rare.wild_write (notes.Ignored 1 ignored.Login) (notes.Sent 2 0 0 1 (journals.done_by_target 0 7) ∷ [])).start) (history (rare.wild_write (notes.Ignored 1 ignored.Login) (notes.Sent 2 0 0 1 (journals.done_by_target 0 7) ∷ [])).entries)
 unfolding reading fault_of tcode_of header_of offset_of rcode_of value_of length_of extended_of three four part_of is_to is_same asked_by begun_by belongs start_at lowest_from label_for free_from count_flying lowest_flying label_of with_label is_write kind_of slot_of window_at is_fifo point_step doorbell_step reset_step abort_step reply_step lost_step refusal verdict request_of check_of blank_bytes command_kind elements_from made block_head decide reads_eui live_login response_bytes start_step reply_step_of_manager decide_step fresh_id left_for enter_step back_step leave_step
@@ -148,7 +140,7 @@ unfolding reading fault_of tcode_of header_of offset_of rcode_of value_of length
 reset_ignored_takes = (refl, (refl, (refl, (refl, tt))))
 
 dies : LawfulForOthers (rare.wild_run rare.wild_dies)
-dies = record { moments = record { form = dies_form; once = dies_once; order = dies_order; execution = dies_execution; status = dies_status; answer = dies_answer; carried = dies_carried; runs = dies_runs; runs_end = dies_runs_end; takes = dies_takes; cause = dies_cause; judgement = dies_judged; login = dies_login; media = dies_media; sent = record { packets = dies_packets; answers = dies_answers; requests = dies_requests; after = dies_after } }; action = dies_action }
+dies = record { moments = record { form = dies_form; once = dies_once; order = dies_order; execution = dies_execution; status = dies_status; answer = dies_answer; carried = dies_carried; runs_end = dies_runs_end; takes = dies_takes; cause = dies_cause; judgement = dies_judged; login = dies_login; media = dies_media; sent = record { packets = dies_packets; answers = dies_answers; requests = dies_requests; after = dies_after } }; action = dies_action }
 
 reset_ignored_form : EachMoment FormAt (history (rare.wild_write (notes.Ignored 1 ignored.Login) (notes.Sent 2 0 0 1 (journals.done_by_target 0 7) ∷ [])).entries)
 unfolding reading fault_of tcode_of header_of offset_of rcode_of value_of length_of extended_of three four part_of is_to is_same asked_by begun_by belongs start_at lowest_from label_for free_from count_flying lowest_flying label_of with_label is_write kind_of slot_of window_at is_fifo point_step doorbell_step reset_step abort_step reply_step lost_step refusal verdict request_of check_of blank_bytes command_kind elements_from made block_head decide reads_eui live_login response_bytes start_step reply_step_of_manager decide_step fresh_id left_for enter_step back_step leave_step
@@ -215,7 +207,7 @@ unfolding reading fault_of tcode_of header_of offset_of rcode_of value_of length
 reset_ignored_action = record { brings = ((refl, (refl, tt)), (refl, (refl, tt))); ordered = (record { effects = refl; first = refl }, (tt, (tt, (tt, tt)))) }
 
 reset_ignored : LawfulForOthers (rare.wild_write (notes.Ignored 1 ignored.Login) (notes.Sent 2 0 0 1 (journals.done_by_target 0 7) ∷ []))
-reset_ignored = record { moments = record { form = reset_ignored_form; once = reset_ignored_once; order = reset_ignored_order; execution = reset_ignored_execution; status = reset_ignored_status; answer = reset_ignored_answer; carried = reset_ignored_carried; runs = reset_ignored_runs; runs_end = reset_ignored_runs_end; takes = reset_ignored_takes; cause = reset_ignored_cause; judgement = reset_ignored_judged; login = reset_ignored_login; media = reset_ignored_media; sent = record { packets = reset_ignored_packets; answers = reset_ignored_answers; requests = reset_ignored_requests; after = reset_ignored_after } }; action = reset_ignored_action }
+reset_ignored = record { moments = record { form = reset_ignored_form; once = reset_ignored_once; order = reset_ignored_order; execution = reset_ignored_execution; status = reset_ignored_status; answer = reset_ignored_answer; carried = reset_ignored_carried; runs_end = reset_ignored_runs_end; takes = reset_ignored_takes; cause = reset_ignored_cause; judgement = reset_ignored_judged; login = reset_ignored_login; media = reset_ignored_media; sent = record { packets = reset_ignored_packets; answers = reset_ignored_answers; requests = reset_ignored_requests; after = reset_ignored_after } }; action = reset_ignored_action }
 
 not_of_all : Lawful (rare.wild_run rare.wild_dies) → ⊥
 unfolding reading fault_of tcode_of header_of offset_of rcode_of value_of length_of extended_of three four part_of is_to is_same asked_by begun_by belongs start_at lowest_from label_for free_from count_flying lowest_flying label_of with_label is_write kind_of slot_of window_at is_fifo point_step doorbell_step reset_step abort_step reply_step lost_step refusal verdict request_of check_of blank_bytes command_kind elements_from made block_head decide reads_eui live_login response_bytes start_step reply_step_of_manager decide_step fresh_id left_for enter_step back_step leave_step
@@ -263,7 +255,7 @@ wild_request_twice = λ law. (law.moments.sent.requests.0 refl).1
 
 wild_run_forged : LawfulForOthers refused.wild_runs → ⊥
 unfolding reading fault_of tcode_of header_of offset_of rcode_of value_of length_of extended_of three four part_of is_to is_same asked_by begun_by belongs start_at lowest_from label_for free_from count_flying lowest_flying label_of with_label is_write kind_of slot_of window_at is_fifo point_step doorbell_step reset_step abort_step reply_step lost_step refusal verdict request_of check_of blank_bytes command_kind elements_from made block_head decide reads_eui live_login response_bytes start_step reply_step_of_manager decide_step fresh_id left_for enter_step back_step leave_step
-wild_run_forged = λ law. let bad = law.moments.runs.0 in cc bad
+wild_run_forged = λ law. let bad = law.moments.carried.due.0 in cc bad
 
 wild_ends_as_read : EachTurn (EndsAsRead journals.one_disk) (refused.wild_ends None)
 unfolding reading fault_of tcode_of header_of offset_of rcode_of value_of length_of extended_of three four part_of is_to is_same asked_by begun_by belongs start_at lowest_from label_for free_from count_flying lowest_flying label_of with_label is_write kind_of slot_of window_at is_fifo point_step doorbell_step reset_step abort_step reply_step lost_step refusal verdict request_of check_of blank_bytes command_kind elements_from made block_head decide reads_eui live_login response_bytes start_step reply_step_of_manager decide_step fresh_id left_for enter_step back_step leave_step

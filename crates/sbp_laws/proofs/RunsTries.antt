@@ -724,4 +724,4 @@ unfolding reading fault_of tcode_of header_of offset_of rcode_of value_of length
 untold_runs_end = (tt, (tt, (tt, (tt, (tt, ((tt, tt), (tt, (tt, (tt, (tt, (tt, (tt, tt))))))))))))
 
 pub tried : RunsTried
-tried = record { capacity = record { once = capacity_once; order = capacity_order; execution = capacity_execution; status = capacity_status; answer = capacity_answer; carried = capacity_carried; runs = capacity_carried.due; runs_end = capacity_runs_end; takes = capacity_status.each; cause = capacity_cause; judgement = capacity_judged; login = capacity_login; media = capacity_media; sent = record { packets = capacity_packets; answers = capacity_answers; requests = capacity_requests; after = capacity_after } }; agent_reset = record { once = agent_reset_once; order = agent_reset_order; execution = agent_reset_execution; status = agent_reset_status; answer = agent_reset_answer; carried = agent_reset_carried; runs = agent_reset_carried.due; runs_end = agent_reset_runs_end; takes = agent_reset_status.each; cause = agent_reset_cause; judgement = agent_reset_judged; login = agent_reset_login; media = agent_reset_media; sent = record { packets = agent_reset_packets; answers = agent_reset_answers; requests = agent_reset_requests; after = agent_reset_after } }; logout = record { once = logout_once; order = logout_order; execution = logout_execution; status = logout_status; answer = logout_answer; carried = logout_carried; runs = logout_carried.due; runs_end = logout_runs_end; takes = logout_status.each; cause = logout_cause; judgement = logout_judged; login = logout_login; media = logout_media; sent = record { packets = logout_packets; answers = logout_answers; requests = logout_requests; after = logout_after } }; read_ahead = record { once = read_ahead_once; order = read_ahead_order; execution = read_ahead_execution; status = read_ahead_status; answer = read_ahead_answer; carried = read_ahead_carried; runs = read_ahead_carried.due; runs_end = read_ahead_runs_end; takes = read_ahead_status.each; cause = read_ahead_cause; judgement = read_ahead_judged; login = read_ahead_login; media = read_ahead_media; sent = record { packets = read_ahead_packets; answers = read_ahead_answers; requests = read_ahead_requests; after = read_ahead_after } }; login = record { once = login_once; order = login_order; execution = login_execution; status = login_status; answer = login_answer; carried = login_carried; runs = login_carried.due; runs_end = login_runs_end; takes = login_status.each; cause = login_cause; judgement = login_judged; login = login_login; media = login_media; sent = record { packets = login_packets; answers = login_answers; requests = login_requests; after = login_after } }; reconnect = record { once = reconnect_once; order = reconnect_order; execution = reconnect_execution; status = reconnect_status; answer = reconnect_answer; carried = reconnect_carried; runs = reconnect_carried.due; runs_end = reconnect_runs_end; takes = reconnect_status.each; cause = reconnect_cause; judgement = reconnect_judged; login = reconnect_login; media = reconnect_media; sent = record { packets = reconnect_packets; answers = reconnect_answers; requests = reconnect_requests; after = reconnect_after } }; table = record { once = table_once; order = table_order; execution = table_execution; status = table_status; answer = table_answer; carried = table_carried; runs = table_carried.due; runs_end = table_runs_end; takes = table_status.each; cause = table_cause; judgement = table_judged; login = table_login; media = table_media; sent = record { packets = table_packets; answers = table_answers; requests = table_requests; after = table_after } }; load = record { once = load_once; order = load_order; execution = load_execution; status = load_status; answer = load_answer; carried = load_carried; runs = load_carried.due; runs_end = load_runs_end; takes = load_status.each; cause = load_cause; judgement = load_judged; login = load_login; media = load_media; sent = record { packets = load_packets; answers = load_answers; requests = load_requests; after = load_after } }; aborts = record { once = aborts_once; order = aborts_order; execution = aborts_execution; status = aborts_status; answer = aborts_answer; carried = aborts_carried; runs = aborts_carried.due; runs_end = aborts_runs_end; takes = aborts_status.each; cause = aborts_cause; judgement = aborts_judged; login = aborts_login; media = aborts_media; sent = record { packets = aborts_packets; answers = aborts_answers; requests = aborts_requests; after = aborts_after } }; unit_reset = record { once = unit_reset_once; order = unit_reset_order; execution = unit_reset_execution; status = unit_reset_status; answer = unit_reset_answer; carried = unit_reset_carried; runs = unit_reset_carried.due; runs_end = unit_reset_runs_end; takes = unit_reset_status.each; cause = unit_reset_cause; judgement = unit_reset_judged; login = unit_reset_login; media = unit_reset_media; sent = record { packets = unit_reset_packets; answers = unit_reset_answers; requests = unit_reset_requests; after = unit_reset_after } }; untold = record { once = untold_once; order = untold_order; execution = untold_execution; status = untold_status; answer = untold_answer; carried = untold_carried; runs = untold_carried.due; runs_end = untold_runs_end; takes = untold_status.each; cause = untold_cause; judgement = untold_judged; login = untold_login; media = untold_media; sent = record { packets = untold_packets; answers = untold_answers; requests = untold_requests; after = untold_after } } }
+tried = record { capacity = record { once = capacity_once; order = capacity_order; execution = capacity_execution; status = capacity_status; answer = capacity_answer; carried = capacity_carried; runs_end = capacity_runs_end; takes = capacity_status.each; cause = capacity_cause; judgement = capacity_judged; login = capacity_login; media = capacity_media; sent = record { packets = capacity_packets; answers = capacity_answers; requests = capacity_requests; after = capacity_after } }; agent_reset = record { once = agent_reset_once; order = agent_reset_order; execution = agent_reset_execution; status = agent_reset_status; answer = agent_reset_answer; carried = agent_reset_carried; runs_end = agent_reset_runs_end; takes = agent_reset_status.each; cause = agent_reset_cause; judgement = agent_reset_judged; login = agent_reset_login; media = agent_reset_media; sent = record { packets = agent_reset_packets; answers = agent_reset_answers; requests = agent_reset_requests; after = agent_reset_after } }; logout = record { once = logout_once; order = logout_order; execution = logout_execution; status = logout_status; answer = logout_answer; carried = logout_carried; runs_end = logout_runs_end; takes = logout_status.each; cause = logout_cause; judgement = logout_judged; login = logout_login; media = logout_media; sent = record { packets = logout_packets; answers = logout_answers; requests = logout_requests; after = logout_after } }; read_ahead = record { once = read_ahead_once; order = read_ahead_order; execution = read_ahead_execution; status = read_ahead_status; answer = read_ahead_answer; carried = read_ahead_carried; runs_end = read_ahead_runs_end; takes = read_ahead_status.each; cause = read_ahead_cause; judgement = read_ahead_judged; login = read_ahead_login; media = read_ahead_media; sent = record { packets = read_ahead_packets; answers = read_ahead_answers; requests = read_ahead_requests; after = read_ahead_after } }; login = record { once = login_once; order = login_order; execution = login_execution; status = login_status; answer = login_answer; carried = login_carried; runs_end = login_runs_end; takes = login_status.each; cause = login_cause; judgement = login_judged; login = login_login; media = login_media; sent = record { packets = login_packets; answers = login_answers; requests = login_requests; after = login_after } }; reconnect = record { once = reconnect_once; order = reconnect_order; execution = reconnect_execution; status = reconnect_status; answer = reconnect_answer; carried = reconnect_carried; runs_end = reconnect_runs_end; takes = reconnect_status.each; cause = reconnect_cause; judgement = reconnect_judged; login = reconnect_login; media = reconnect_media; sent = record { packets = reconnect_packets; answers = reconnect_answers; requests = reconnect_requests; after = reconnect_after } }; table = record { once = table_once; order = table_order; execution = table_execution; status = table_status; answer = table_answer; carried = table_carried; runs_end = table_runs_end; takes = table_status.each; cause = table_cause; judgement = table_judged; login = table_login; media = table_media; sent = record { packets = table_packets; answers = table_answers; requests = table_requests; after = table_after } }; load = record { once = load_once; order = load_order; execution = load_execution; status = load_status; answer = load_answer; carried = load_carried; runs_end = load_runs_end; takes = load_status.each; cause = load_cause; judgement = load_judged; login = load_login; media = load_media; sent = record { packets = load_packets; answers = load_answers; requests = load_requests; after = load_after } }; aborts = record { once = aborts_once; order = aborts_order; execution = aborts_execution; status = aborts_status; answer = aborts_answer; carried = aborts_carried; runs_end = aborts_runs_end; takes = aborts_status.each; cause = aborts_cause; judgement = aborts_judged; login = aborts_login; media = aborts_media; sent = record { packets = aborts_packets; answers = aborts_answers; requests = aborts_requests; after = aborts_after } }; unit_reset = record { once = unit_reset_once; order = unit_reset_order; execution = unit_reset_execution; status = unit_reset_status; answer = unit_reset_answer; carried = unit_reset_carried; runs_end = unit_reset_runs_end; takes = unit_reset_status.each; cause = unit_reset_cause; judgement = unit_reset_judged; login = unit_reset_login; media = unit_reset_media; sent = record { packets = unit_reset_packets; answers = unit_reset_answers; requests = unit_reset_requests; after = unit_reset_after } }; untold = record { once = untold_once; order = untold_order; execution = untold_execution; status = untold_status; answer = untold_answer; carried = untold_carried; runs_end = untold_runs_end; takes = untold_status.each; cause = untold_cause; judgement = untold_judged; login = untold_login; media = untold_media; sent = record { packets = untold_packets; answers = untold_answers; requests = untold_requests; after = untold_after } } }

@@ -33,8 +33,7 @@ pub record Adds (wild : ℕ → Bool) (start : List Disk) (past : List Moment) (
   pub taken_each : EachTurnOf (TakesEach wild) past line event told
   pub answer : EachMomentOf (AnswerAt wild start) past line event told
   pub carried : EachMomentOf (CarriedAt wild start) past line event told
-  pub run_where_due : EachTurnOf (RunsWhereDue wild start) past line event told
-  pub runs : EachTurnOf (RunsWhereDue nobody start) past line event told
+  pub run_where_due : EachTurnOf (RunsWhereDue nobody start) past line event told
   pub runs_end : EachTurnOf (EndsAsRead start) past line event told
   pub takes : EachTurnOf (TakesEach nobody) past line event told
   pub causes : EachTurnOf (HasCauses start) past line event told

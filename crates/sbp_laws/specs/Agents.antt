@@ -131,15 +131,18 @@ pub record AgentTurn : Type 0 where
   pub step : AgentStep
   pub machine : agent.Machine
 
--- what a run in these notes told
-abbrev pub told_among : List Note → PlainDisk → Option Told
-told_among [] plain = None
-told_among (notes.Ran i n k unit cdb bytes check ∷ rest) plain = told_by (notes.Ran i n k unit cdb bytes check) plain
-told_among (note ∷ rest) plain = told_among rest plain
+-- what the first run of an initiator in these notes told
+abbrev pub told_among : (i : ℕ) → List Note → PlainDisk → Option Told
+told_among i [] plain = None
+told_among i (notes.Ran j n k unit cdb bytes check ∷ rest) plain =
+    if j == i then told_by (notes.Ran j n k unit cdb bytes check) plain else told_among i rest plain
+told_among i (note ∷ rest) plain = told_among i rest plain
 
-abbrev pub untold_among : List Note → PlainDisk → (before : Bool) → Bool
-untold_among [] plain before = before
-untold_among (note ∷ rest) plain before = untold_among rest plain (untold_by note plain before)
+abbrev pub untold_among : (i : ℕ) → List Note → PlainDisk → (before : Bool) → Bool
+untold_among i [] plain before = before
+untold_among i (notes.Ran j n k unit cdb bytes check ∷ rest) plain before =
+    untold_among i rest plain (if j == i then untold_by (notes.Ran j n k unit cdb bytes check) plain before else before)
+untold_among i (note ∷ rest) plain before = untold_among i rest plain before
 
 abbrev pub by_pointer : (place : ℕ) → Agent → Result Ask PointRefusal × agent.Machine → Option AgentTurn
 by_pointer place a (Err refusal, machine) = None
@@ -149,25 +152,25 @@ by_pointer place a (Ok ask, machine) =
 abbrev pub by_doorbell : (place : ℕ) → Agent → Ask × agent.Machine → Option AgentTurn
 by_doorbell place a (ask, machine) = Some (record { place = place; untold = a.untold; which = Main; step = steps.asks ask; machine = machine })
 
-abbrev pub by_reply : Target → Reply → List Note → Option AgentTurn
-by_reply target reply rest =
-    let s = reply_of target reply (told_among rest (plain_for target reply)) in
+abbrev pub by_reply : Target → Terms → Reply → List Note → Option AgentTurn
+by_reply target wire reply rest =
+    let s = reply_of target reply (told_among (initiator_at target wire reply.place) rest (plain_for target reply)) in
     let a = agent_at target reply.place in
     Some (record {
       place = reply.place;
-      untold = untold_among rest (plain_for target reply) a.untold;
+      untold = untold_among (initiator_at target wire reply.place) rest (plain_for target reply) a.untold;
       which = reply.which;
       step = s.0;
       machine = s.1;
     })
 
-abbrev pub agent_turn : Event → Target → List Note → Option AgentTurn
-agent_turn (replies reply) target rest = by_reply target reply rest
-agent_turn (writes orb_pointer place access) target rest =
+abbrev pub agent_turn : Event → Target → Terms → List Note → Option AgentTurn
+agent_turn (replies reply) target wire rest = by_reply target wire reply rest
+agent_turn (writes orb_pointer place access) target wire rest =
     by_pointer place (agent_at target place) (steps.point_step (agent_at target place).machine (pointer_at access.payload 0))
-agent_turn (writes doorbell place access) target rest =
+agent_turn (writes doorbell place access) target wire rest =
     by_doorbell place (agent_at target place) (steps.doorbell_step (agent_at target place).machine)
-agent_turn event target rest = None
+agent_turn event target wire rest = None
 
 -- ---- its requests, and what comes of one that finds no label
 -- what an agent sends: all its requests are of blocks; a status block goes to the login's FIFO

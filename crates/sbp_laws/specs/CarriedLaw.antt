@@ -100,7 +100,7 @@ run_by target t None = []
 run_by target t (Some a) = run_of t.past (initiator_at target (wire_before t) a.place) (unit_of target a.place) a.machine a.step.ran
 
 abbrev pub runs_due : List Disk → Turn → List Run
-runs_due disks t = run_by (target_before disks t) t (agent_turn (agent_event disks t) (target_before disks t) t.rest)
+runs_due disks t = run_by (target_before disks t) t (agent_turn (agent_event disks t) (target_before disks t) (wire_before t) t.rest)
 
 abbrev pub of_others : (ℕ → Bool) → List Run → List Run
 of_others wild runs = filter (λ run. not (wild run.initiator)) runs
@@ -122,8 +122,8 @@ EndEachBy target a (notes.Ran i list number unit cdb bytes check ∷ rest) = End
 EndEachBy target a (note ∷ rest) = EndEachBy target a rest
 
 abbrev pub EndsAsRead : List Disk → Turn → Type 0
-EndsAsRead disks t = EndEachBy (target_before disks t) (agent_turn (agent_event disks t) (target_before disks t) t.rest) t.rest
+EndsAsRead disks t = EndEachBy (target_before disks t) (agent_turn (agent_event disks t) (target_before disks t) (wire_before t) t.rest) t.rest
 
 pub record CarriedLaw (wild : ℕ → Bool) (disks : List Disk) (past : List Moment) : Type 0 where
   pub carried : EachMoment (CarriedAt wild disks) past
-  pub due : EachTurn (RunsWhereDue wild disks) past
+  pub due : EachTurn (RunsWhereDue (λ i. false) disks) past

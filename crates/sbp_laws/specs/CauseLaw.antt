@@ -15,7 +15,7 @@ use Rattle.sbp_laws.specs.Terms.{runs, ended_status}
 use Rattle.sbp_laws.specs.Turns.{Turn, EachMoment, EachTurn}
 use Rattle.sbp_laws.specs.Lists.{Orb, named}
 use Rattle.sbp_laws.specs.Targets.{Decided, target_at}
-use Rattle.sbp_laws.specs.Agents.{agent_event, agent_turn, target_before}
+use Rattle.sbp_laws.specs.Agents.{agent_event, agent_turn, target_before, wire_before}
 use Rattle.sbp_laws.specs.Management.{cuts_due, cleared_due, failures_due}
 use Rattle.sbp_laws.specs.Operations.{operation_notes}
 use Rattle.sbp_laws.specs.NoteKinds.{is_cut_note, is_cleared_note, is_failure_note, is_end_note, is_operation_note, of_kind}
@@ -30,7 +30,7 @@ pub record HasCauses (disks : List Disk) (t : Turn) : Type 0 where
   pub faults : FaultsFollowDeaths None t.rest
   pub failures : of_kind is_failure_note t.rest ≡ failures_due (target_before disks t) t
   pub operations : of_kind is_operation_note t.rest ≡ operation_notes t
-  pub unserved : DiesUnserved (target_before disks t) t (agent_turn (agent_event disks t) (target_before disks t) t.rest)
+  pub unserved : DiesUnserved (target_before disks t) t (agent_turn (agent_event disks t) (target_before disks t) (wire_before t) t.rest)
   pub codes : IllegalsHaveCodes (illegal_in disks t) t.rest
   pub failing : FailuresHaveRows (target_before disks t) t t.rest
   pub once : dies_again disks t ≡ false

@@ -121,7 +121,7 @@ is_main_short target wire event = false
 -- the payload has another length, or the ORB or the page table that comes to be checked is illegal
 abbrev pub death_row : FailCause → List Disk → Turn → Bool
 death_row causes.Timeout disks t = is_expired (main_answer (agent_event disks t))
-death_row causes.Label disks t = asks_in_vain (target_before disks t) t (agent_turn (agent_event disks t) (target_before disks t) t.rest)
+death_row causes.Label disks t = asks_in_vain (target_before disks t) t (agent_turn (agent_event disks t) (target_before disks t) (wire_before t) t.rest)
 death_row causes.Refused disks t = is_refused (main_answer (agent_event disks t))
 death_row causes.Grammar disks t = is_main_short (target_before disks t) (wire_before t) (agent_event disks t) || is_some (illegal_in disks t)
 
@@ -209,4 +209,4 @@ ends_by disks target t None = []
 ends_by disks target t (Some a) = agent_notes_for disks target t a
 
 abbrev pub ends_due : List Disk → Turn → List Note
-ends_due disks t = ends_by disks (target_before disks t) t (agent_turn (agent_event disks t) (target_before disks t) t.rest)
+ends_due disks t = ends_by disks (target_before disks t) t (agent_turn (agent_event disks t) (target_before disks t) (wire_before t) t.rest)

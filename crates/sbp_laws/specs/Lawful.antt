@@ -12,7 +12,7 @@ use Rattle.sbp_laws.specs.OrderLaw.{OrderLaw}
 use Rattle.sbp_laws.specs.ExecutionLaw.{ExecutionLaw}
 use Rattle.sbp_laws.specs.StatusLaw.{StatusLaw, TakesEach}
 use Rattle.sbp_laws.specs.AnswerLaw.{AnswerLaw}
-use Rattle.sbp_laws.specs.CarriedLaw.{CarriedLaw, EndsAsRead, RunsWhereDue}
+use Rattle.sbp_laws.specs.CarriedLaw.{CarriedLaw, EndsAsRead}
 use Rattle.sbp_laws.specs.CauseLaw.{CauseLaw}
 use Rattle.sbp_laws.specs.JudgementLaw.{JudgementLaw}
 use Rattle.sbp_laws.specs.LoginLaw.{LoginLaw}
@@ -39,7 +39,6 @@ pub record AreLawful (wild : ℕ → Bool) (start : List Disk) (past : List Mome
   pub status : StatusLaw wild past
   pub answer : AnswerLaw wild start past
   pub carried : CarriedLaw wild start past
-  pub runs : EachTurn (RunsWhereDue nobody start) past
   pub runs_end : EachTurn (EndsAsRead start) past
   pub takes : EachTurn (TakesEach nobody) past
   pub cause : CauseLaw start past

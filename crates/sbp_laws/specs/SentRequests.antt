@@ -16,7 +16,7 @@ use Rattle.sbp_laws.specs.Deliveries.{once_told}
 use Rattle.sbp_laws.specs.Packets.{packet_at, answered_at, answer_in, id_of, id_for, label_for, request_bytes, sender_in, receiver_in}
 use Rattle.sbp_laws.specs.Hosts.{host_at}
 use Rattle.sbp_laws.specs.Targets.{Target}
-use Rattle.sbp_laws.specs.Agents.{Request, requests_to, AgentTurn, agent_turn, agent_event, agent_requests_for, target_before, wire_after}
+use Rattle.sbp_laws.specs.Agents.{Request, requests_to, AgentTurn, agent_turn, agent_event, agent_requests_for, target_before, wire_before, wire_after}
 use Rattle.sbp_laws.specs.Management.{manager_requests}
 use Rattle.sbp_laws.specs.MediaLaw.{push_requests, logins_told}
 use Rattle.sbp_laws.specs.Operations.{next_read}
@@ -32,7 +32,7 @@ agent_requests target t (Some a) = agent_requests_for target t a
 abbrev pub target_requests : List Disk → Turn → List Request
 target_requests disks t =
     let target = target_before disks t in
-    agent_requests target t (agent_turn (agent_event disks t) target t.rest) ++ (manager_requests target t ++ push_requests target (wire_after t) (logins_told target t))
+    agent_requests target t (agent_turn (agent_event disks t) target (wire_before t) t.rest) ++ (manager_requests target t ++ push_requests target (wire_after t) (logins_told target t))
 
 -- an initiator's: the next quadlet of a ROM, or that of its action
 abbrev pub host_requests : Turn → (i serial : ℕ) → Option ℕ → List Request

@@ -13,7 +13,7 @@ use Rattle.sbp_laws.specs.OrderLaw.{OrderLaw}
 use Rattle.sbp_laws.specs.ExecutionLaw.{ExecutionLaw}
 use Rattle.sbp_laws.specs.StatusLaw.{StatusLaw, TakesEach}
 use Rattle.sbp_laws.specs.AnswerLaw.{AnswerLaw}
-use Rattle.sbp_laws.specs.CarriedLaw.{CarriedLaw, EndsAsRead, RunsWhereDue}
+use Rattle.sbp_laws.specs.CarriedLaw.{CarriedLaw, EndsAsRead}
 use Rattle.sbp_laws.specs.CauseLaw.{CauseLaw}
 use Rattle.sbp_laws.specs.JudgementLaw.{JudgementLaw}
 use Rattle.sbp_laws.specs.LoginLaw.{LoginLaw}
@@ -342,7 +342,6 @@ pub record KeepsLaws (start : List Disk) (past : List Moment) : Type 0 where
   pub status : StatusLaw nobody past
   pub answer : AnswerLaw nobody start past
   pub carried : CarriedLaw nobody start past
-  pub runs : EachTurn (RunsWhereDue nobody start) past
   pub runs_end : EachTurn (EndsAsRead start) past
   pub takes : EachTurn (TakesEach nobody) past
   pub cause : CauseLaw start past

@@ -15,7 +15,8 @@ pub fn lawful_entry_by_entry()
     ensures { AddsLawfully }
 {}
 
-/// What `LawfulOnTheBus` says of a run is a part of what `LawfulBut` says of it.
+/// What `LawfulOnTheBus` says of a run is a part of what `LawfulBut` says of it; and what `FormedOnTheBus` says of it,
+/// where its notes are inside the types of their fields.
 #[tactic(auto, using(crate::proofs::Parts::part_of_lawful))]
 pub fn lawful_runs_are_so_on_the_bus()
     ensures { IsPartOfLawful }
