@@ -2,6 +2,7 @@ ghost use Rattle.std.specs.Prelude.{◌≡◌, ℕ, ◌^◌, ◌<◌, ◌≤◌,
 ghost use Rattle.std.specs.Option.{option_copied};
 ghost use Rattle.packet_store.specs.Rings.{slot_of, slot, is_of, finds, older, Placed};
 
+use crate::transaction::Transaction;
 use sbp_base::NoMemory;
 use std::alloc::Global;
 use std::collections::HashMap;
@@ -9,11 +10,12 @@ use std::collections::HashMap;
 /// The slots of a ring.
 const SLOTS: u64 = 2048;
 
-/// A serial, and the key of its packet in the slab.
+/// A serial, and the key of its packet in the slab with its transaction.
 #[derive(Clone, Copy, Drop)]
 pub(crate) struct Place {
     pub(crate) serial: u64,
     pub(crate) key: usize,
+    pub(crate) transaction: Option<Transaction>,
 }
 
 /// Places by their serials: each in the slot of its serial or, where a later one has that slot, among
