@@ -7,7 +7,7 @@ use Rattle.packet_store.specs.declared.packets.Packets.{Packets}
 use Rattle.packet_store.specs.declared.transaction.Transaction.{Transaction}
 use Rattle.packet_store.specs.Transactions.{belongs, transaction_of}
 use Rattle.packet_store.specs.Bags.{AreFull, one_if, times}
-use Rattle.packet_store.specs.Rings.{finds, Placed}
+use Rattle.packet_store.specs.Rings.{finds, IsRing}
 
 -- the key of a place
 abbrev pub key_in : Option Place → Option ℕ
@@ -35,6 +35,6 @@ pub record AreTied (slab : Slab Kept) (by_serial : ℕ → Option Place) (by_tra
   pub bagged : (t : Transaction) (key : ℕ) → by_transaction t key ≡ one_if (is_among t (get slab key))
 
 pub record Exact (packets : Packets) : Type 0 where
-  pub placed : Placed packets.ring.slots.items
+  pub ring : IsRing packets.ring
   pub tied : AreTied packets.slab (finds packets.ring) (times packets.bags)
   pub full : AreFull packets.bags

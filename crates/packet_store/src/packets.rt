@@ -93,7 +93,11 @@ impl Packets {
         let serial = kept.serial;
         self.slab.reserve(1)?;
         let key = self.slab.vacant_key();
-        self.ring.put(Place { serial, key, transaction })?;
+        self.ring.put(Place {
+            serial,
+            key,
+            transaction,
+        })?;
         if let Err(error) = self.bags.insert(transaction, key) {
             self.ring.take(serial);
             return Err(error);
@@ -115,18 +119,22 @@ impl Packets {
         Some(kept)
     }
 
-    /// The packet of a serial becomes delivered.
-    pub(crate) fn deliver(&mut self, serial: u64)
+    /// The packet of a serial becomes delivered. Whether it was in flight.
+    pub(crate) fn deliver(&mut self, serial: u64) -> bool
         requires { Exact self.old }
+        ensures flew { result ≡ in_air (holds self.old serial) }
         ensures marked { (q : ℕ) → holds self.new q ≡ (if serial == q then marked (holds self.old q) else holds self.old q) }
         ensures exact { Exact self.new }
     {
         let Some(key) = self.key_of(serial) else {
-            return
+            return false
         };
         if let Some(kept) = self.slab.get_mut(key) {
+            let flew = kept.in_flight;
             kept.in_flight = false;
+            return flew;
         }
+        false
     }
 
     /// A serial of a transaction other than one, if there is one.

@@ -54,4 +54,4 @@ pub returns-clause-exact : goal.returns-clause-exact
 returns-clause-exact c =
     let s = c.args.self.now in
     let takes = takes_of c in
-    record { placed = c.take.ensures.placed; tied = take_tied _ _ _ _ _ _ c.args.serial c.in_ok-place.place c.in_ok-kept.kept c.requires.tied takes; full = c.remove.ensures.full }
+    record { ring = c.take.ensures.ring; tied = take_tied _ _ _ _ _ _ c.args.serial c.in_ok-place.place c.in_ok-kept.kept c.requires.tied takes; full = c.remove.ensures.full }
