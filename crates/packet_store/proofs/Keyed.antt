@@ -12,8 +12,8 @@ use Rattle.packet_store.specs.Packets.{AreTied, is_among, kept_in, key_in}
 use Rattle.packet_store.proofs.Same.{and_false, and_true, differs, equal_of, same_test, unequal_of}
 use Rattle.std.proofs.lemmas.Option.{same_Some}
 
-abbrev place : (s key : ℕ) → Place
-place s key = record { serial = s; key = key }
+abbrev place : Kept → ℕ → Place
+place k key = record { serial = k.serial; key = key; transaction = transaction_of k.sent }
 
 -- what holds at any answer holds where it is an error
 pub on_error : {A E : Type 0} {X : Type 0} (r : Result A E) → X → OnErr r X
@@ -77,7 +77,7 @@ pub record Puts (slab after : Slab Kept) (f g : ℕ → Option Place) (m n : Tra
   pub none : f k.serial ≡ None
   pub here : get after key ≡ Some k
   pub others : (other : ℕ) → other ≢ key → get after other ≡ get slab other
-  pub placed : (q : ℕ) → g q ≡ cond (k.serial == q) (Some (place k.serial key)) (f q)
+  pub placed : (q : ℕ) → g q ≡ cond (k.serial == q) (Some (place k key)) (f q)
   pub added : (t : Transaction) (j : ℕ) → n t j ≡ one_if (is_that t (transaction_of k.sent) && (key == j)) + m t j
 
 taken_key : (slab : Slab Kept) (key other : ℕ) (k : Kept) → get slab key ≡ None → get slab other ≡ Some k → other ≢ key
@@ -85,9 +85,9 @@ taken_key slab key other k v h eq =
     let c : None ≡ Some k = sym v ∙ ap (get slab) (sym eq) ∙ h in
     cc c
 
-put_kept : (slab after : Slab Kept) (f g : ℕ → Option Place) (m n : Transaction → ℕ → ℕ) (k : Kept) (key q : ℕ) (x : Place) (b : Bool) → (k.serial == q) ≡ b → AreTied slab f m → Puts slab after f g m n k key → cond b (Some (place k.serial key)) (f q) ≡ Some x → (j : Kept) × (get after x.key ≡ Some j) × (j.serial ≡ q)
+put_kept : (slab after : Slab Kept) (f g : ℕ → Option Place) (m n : Transaction → ℕ → ℕ) (k : Kept) (key q : ℕ) (x : Place) (b : Bool) → (k.serial == q) ≡ b → AreTied slab f m → Puts slab after f g m n k key → cond b (Some (place k key)) (f q) ≡ Some x → (j : Kept) × (get after x.key ≡ Some j) × (j.serial ≡ q)
 put_kept slab after f g m n k key q x true e t p h =
-    let same = same_Some (place k.serial key) x h in
+    let same = same_Some (place k key) x h in
     (k, ap (λ (y : Place). get after y.key) (sym same) ∙ p.here, equal_of k.serial q e)
 put_kept slab after f g m n k key q x false e t p h =
     let a = t.kept q x h in
@@ -98,16 +98,16 @@ taken_serial f s q x none h eq =
     let c : None ≡ Some x = sym none ∙ ap f eq ∙ h in
     cc c
 
-put_found : (slab after : Slab Kept) (f g : ℕ → Option Place) (m n : Transaction → ℕ → ℕ) (k : Kept) (key other : ℕ) (j : Kept) (b : Bool) → (other == key) ≡ b → AreTied slab f m → Puts slab after f g m n k key → get after other ≡ Some j → g j.serial ≡ Some (place j.serial other)
+put_found : (slab after : Slab Kept) (f g : ℕ → Option Place) (m n : Transaction → ℕ → ℕ) (k : Kept) (key other : ℕ) (j : Kept) (b : Bool) → (other == key) ≡ b → AreTied slab f m → Puts slab after f g m n k key → get after other ≡ Some j → g j.serial ≡ Some (place j other)
 put_found slab after f g m n k key other j true e t p h =
     let eq = equal_of other key e in
     let same = same_Some k j (sym p.here ∙ ap (get after) (sym eq) ∙ h) in
-    let here : g k.serial ≡ Some (place k.serial key) = p.placed k.serial ∙ ap (λ b. cond b (Some (place k.serial key)) (f k.serial)) (same_test k.serial) in
-    subst (λ (i : Kept). g i.serial ≡ Some (place i.serial other)) same (here ∙ ap (λ c. Some (place k.serial c)) (sym eq))
+    let here : g k.serial ≡ Some (place k key) = p.placed k.serial ∙ ap (λ b. cond b (Some (place k key)) (f k.serial)) (same_test k.serial) in
+    subst (λ (i : Kept). g i.serial ≡ Some (place i other)) same (here ∙ ap (λ c. Some (place k c)) (sym eq))
 put_found slab after f g m n k key other j false e t p h =
     let old = t.found other j (sym (p.others other (unequal_of other key e)) ∙ h) in
-    let d = differs k.serial j.serial (taken_serial f k.serial j.serial (place j.serial other) p.none old) in
-    p.placed j.serial ∙ ap (λ b. cond b (Some (place k.serial key)) (f j.serial)) d ∙ old
+    let d = differs k.serial j.serial (taken_serial f k.serial j.serial (place j other) p.none old) in
+    p.placed j.serial ∙ ap (λ b. cond b (Some (place k key)) (f j.serial)) d ∙ old
 
 put_bagged : (slab after : Slab Kept) (f g : ℕ → Option Place) (m n : Transaction → ℕ → ℕ) (k : Kept) (key other : ℕ) (t : Transaction) (b : Bool) → (key == other) ≡ b → AreTied slab f m → Puts slab after f g m n k key → n t other ≡ one_if (is_among t (get after other))
 unfolding belongs
@@ -138,7 +138,7 @@ put_other slab after f g m n k key q (Some x) e t p =
     let a = t.kept q x e in
     p.others x.key (taken_key slab key x.key a.0 p.vacant a.1)
 
-put_by : (slab after : Slab Kept) (f g : ℕ → Option Place) (m n : Transaction → ℕ → ℕ) (k : Kept) (key q : ℕ) (b : Bool) → AreTied slab f m → Puts slab after f g m n k key → kept_in after (key_in (cond b (Some (place k.serial key)) (f q))) ≡ cond b (Some k) (kept_in slab (key_in (f q)))
+put_by : (slab after : Slab Kept) (f g : ℕ → Option Place) (m n : Transaction → ℕ → ℕ) (k : Kept) (key q : ℕ) (b : Bool) → AreTied slab f m → Puts slab after f g m n k key → kept_in after (key_in (cond b (Some (place k key)) (f q))) ≡ cond b (Some k) (kept_in slab (key_in (f q)))
 put_by slab after f g m n k key q true t p = p.here
 put_by slab after f g m n k key q false t p = put_other slab after f g m n k key q (f q) refl t p
 
@@ -155,6 +155,14 @@ pub record Takes (slab after : Slab Kept) (f g : ℕ → Option Place) (m n : Tr
   pub placed : (q : ℕ) → g q ≡ cond (s == q) None (f q)
   pub less : (t : Transaction) (j : ℕ) → n t j ≡ m t j - one_if (is_that t (transaction_of k.sent) && (x.key == j))
 
+-- the place of a packet has its transaction
+pub place_of : (slab : Slab Kept) (f : ℕ → Option Place) (m : Transaction → ℕ → ℕ) (s : ℕ) (x : Place) (k : Kept) → AreTied slab f m → f s ≡ Some x → get slab x.key ≡ Some k → x.transaction ≡ transaction_of k.sent
+place_of slab f m s x k t e h =
+    let a = t.kept s x e in
+    let same = same_Some a.0 k (sym a.1 ∙ h) in
+    let named : s ≡ k.serial = sym a.2 ∙ ap (λ (j : Kept). j.serial) same in
+    ap (λ (y : Place). y.transaction) (same_Some x (place k x.key) (sym e ∙ ap f named ∙ t.found x.key k h))
+
 -- two serials have two keys
 two_keys : (slab : Slab Kept) (f : ℕ → Option Place) (m : Transaction → ℕ → ℕ) (s q : ℕ) (x y : Place) → AreTied slab f m → f s ≡ Some x → f q ≡ Some y → s ≢ q → y.key ≢ x.key
 two_keys slab f m s q x y t a b ne eq =
@@ -169,14 +177,14 @@ take_kept slab after f g m n s x k q y false e t p h =
     let a = t.kept q y h in
     (a.0, p.others y.key (two_keys slab f m s q x y t p.was h (unequal_of s q e)) ∙ a.1, a.2)
 
-take_found : (slab after : Slab Kept) (f g : ℕ → Option Place) (m n : Transaction → ℕ → ℕ) (s : ℕ) (x : Place) (k : Kept) (other : ℕ) (j : Kept) (b : Bool) → (other == x.key) ≡ b → AreTied slab f m → Takes slab after f g m n s x k → get after other ≡ Some j → g j.serial ≡ Some (place j.serial other)
+take_found : (slab after : Slab Kept) (f g : ℕ → Option Place) (m n : Transaction → ℕ → ℕ) (s : ℕ) (x : Place) (k : Kept) (other : ℕ) (j : Kept) (b : Bool) → (other == x.key) ≡ b → AreTied slab f m → Takes slab after f g m n s x k → get after other ≡ Some j → g j.serial ≡ Some (place j other)
 take_found slab after f g m n s x k other j true e t p h =
     let c : None ≡ Some j = sym p.gone ∙ ap (get after) (sym (equal_of other x.key e)) ∙ h in
     cc c
 take_found slab after f g m n s x k other j false e t p h =
     let ne = unequal_of other x.key e in
     let old = t.found other j (sym (p.others other ne) ∙ h) in
-    let d = differs s j.serial (λ eq. ne (ap (λ (y : Place). y.key) (same_Some (place j.serial other) x (sym old ∙ ap f (sym eq) ∙ p.was)))) in
+    let d = differs s j.serial (λ eq. ne (ap (λ (y : Place). y.key) (same_Some (place j other) x (sym old ∙ ap f (sym eq) ∙ p.was)))) in
     p.placed j.serial ∙ ap (λ b. cond b None (f j.serial)) d ∙ old
 
 take_bagged : (slab after : Slab Kept) (f g : ℕ → Option Place) (m n : Transaction → ℕ → ℕ) (s : ℕ) (x : Place) (k : Kept) (other : ℕ) (t : Transaction) (b : Bool) → (x.key == other) ≡ b → AreTied slab f m → Takes slab after f g m n s x k → n t other ≡ one_if (is_among t (get after other))
@@ -231,11 +239,11 @@ mark_kept slab after f m s key k q x false e t p h =
     let a = t.kept q x h in
     (a.0, p.others x.key (unequal_of x.key key e) ∙ a.1, a.2)
 
-mark_found : (slab after : Slab Kept) (f : ℕ → Option Place) (m : Transaction → ℕ → ℕ) (s key : ℕ) (k : Kept) (other : ℕ) (j : Kept) (b : Bool) → (other == key) ≡ b → AreTied slab f m → Marks slab after f s key k → get after other ≡ Some j → f j.serial ≡ Some (place j.serial other)
+mark_found : (slab after : Slab Kept) (f : ℕ → Option Place) (m : Transaction → ℕ → ℕ) (s key : ℕ) (k : Kept) (other : ℕ) (j : Kept) (b : Bool) → (other == key) ≡ b → AreTied slab f m → Marks slab after f s key k → get after other ≡ Some j → f j.serial ≡ Some (place j other)
 mark_found slab after f m s key k other j true e t p h =
     let eq = equal_of other key e in
     let same = same_Some (record k { in_flight = false }) j (sym p.here ∙ ap (get after) (sym eq) ∙ h) in
-    subst (λ (i : Kept). f i.serial ≡ Some (place i.serial other)) same (t.found other k (ap (get slab) eq ∙ p.there))
+    subst (λ (i : Kept). f i.serial ≡ Some (place i other)) same (t.found other k (ap (get slab) eq ∙ p.there))
 mark_found slab after f m s key k other j false e t p h = t.found other j (sym (p.others other (unequal_of other key e)) ∙ h)
 
 mark_bagged : (slab after : Slab Kept) (f : ℕ → Option Place) (m : Transaction → ℕ → ℕ) (s key : ℕ) (k : Kept) (other : ℕ) (t : Transaction) (b : Bool) → (other == key) ≡ b → AreTied slab f m → Marks slab after f s key k → m t other ≡ one_if (is_among t (get after other))

@@ -3,9 +3,8 @@ use Rattle.std.proofs.Common.{◌≡◌, ◌∙◌, refl, sym, ap, ℕ, zero, su
 use Rattle.std.specs.Prelude.{◌≢◌, ◌==◌, Option, slice_set, slice_index_or}
 use Rattle.std.proofs.lemmas.List.{get_or-set_same, get_or-set_other, get_or_read}
 use Rattle.packet_store.specs.declared.ring.Place.{Place}
-use Rattle.packet_store.specs.Rings.{slot_of, slot, is_of, pick, older, Placed}
+use Rattle.packet_store.specs.Rings.{slot_of, slot, is_of, pick, older, Placed, Apart}
 use Rattle.packet_store.proofs.Same.{differs, equal_of, unequal_of}
-use Rattle.std.proofs.lemmas.Option.{same_Some}
 
 -- a serial of another slot is another serial
 other_serial : (s q at : ℕ) → slot_of s ≡ at → slot_of q ≢ at → (s == q) ≡ false
@@ -37,23 +36,6 @@ put_at slots at q k o false e h l none =
 
 pub put_there : (slots : List (Option Place)) (at q : ℕ) (k : Place) (o : Option Place) → slot_of k.serial ≡ at → at < length slots → slot slots at ≡ None → pick q (slot (slice_set slots at (Some k)) (slot_of q)) o ≡ cond (k.serial == q) (Some k) (pick q (slot slots (slot_of q)) o)
 put_there slots at q k o h l none = put_at slots at q k o (slot_of q == at) refl h l none
-
-placed_step : (slots : List (Option Place)) (at other : ℕ) (x : Option Place) (k : Place) (b : Bool) → (other == at) ≡ b → at < length slots → Placed slots → ((j : Place) → x ≡ Some j → slot_of j.serial ≡ at) → slot (slice_set slots at x) other ≡ Some k → slot_of k.serial ≡ other
-placed_step slots at other x k true e l p here h =
-    let eq = equal_of other at e in
-    here k (sym (get_or-set_same slots at x None l) ∙ ap (slot (slice_set slots at x)) (sym eq) ∙ h) ∙ sym eq
-placed_step slots at other x k false e l p here h =
-    p other k (sym (get_or-set_other slots at other x None (unequal_of other at e)) ∙ h)
-
--- a packet in its slot, or none in a slot, keeps all in theirs
-pub placed_set : (slots : List (Option Place)) (at : ℕ) (x : Option Place) → at < length slots → Placed slots → ((j : Place) → x ≡ Some j → slot_of j.serial ≡ at) → Placed (slice_set slots at x)
-placed_set slots at x l p here = λ other k h. placed_step slots at other x k (other == at) refl l p here h
-
-pub placed_some : (slots : List (Option Place)) (at : ℕ) (k : Place) → at < length slots → Placed slots → slot_of k.serial ≡ at → Placed (slice_set slots at (Some k))
-placed_some slots at k l p e = placed_set slots at (Some k) l p (λ j h. ap (λ (x : Place). slot_of x.serial) (sym (same_Some k j h)) ∙ e)
-
-pub placed_none : (slots : List (Option Place)) (at : ℕ) → at < length slots → Placed slots → Placed (slice_set slots at None)
-placed_none slots at l p = placed_set slots at None l p (λ j h. cc h)
 
 -- ---- a packet moved to the older ones
 spilled_at : (slots : List (Option Place)) (before after : List (ℕ × Place)) (at q : ℕ) (k : Place) (b : Bool) → (slot_of q == at) ≡ b → slot_of k.serial ≡ at → slot slots at ≡ Some k → Changes before after k.serial (Some k) → pick q (slot (slice_set slots at None) (slot_of q)) (older after q) ≡ pick q (slot slots (slot_of q)) (older before q)
@@ -98,3 +80,10 @@ of_range s (suc at) (x ∷ slots) e = let r = of_range s at slots e in omega ari
 
 pub read : (slots : List (Option Place)) (at : ℕ) (x : Option Place) → at < length slots → x ≡ slice_index_or slots at x → x ≡ slot slots at
 read slots at x l e = get_or_read slots at x l e None
+
+-- ---- a serial has one place
+apart_more : (slots : List (Option Place)) (entries : List (ℕ × Place)) → Apart slots entries → Apart (slots ++ None ∷ []) entries
+apart_more slots entries a = λ q t. a q (ap (is_of q) (sym (slot_more slots (slot_of q))) ∙ t)
+
+pub ring_more : (slots : List (Option Place)) (entries : List (ℕ × Place)) → Placed slots → Apart slots entries → Placed (slots ++ None ∷ []) × Apart (slots ++ None ∷ []) entries
+ring_more slots entries p a = (placed_more slots p, apart_more slots entries a)

@@ -5,9 +5,9 @@ use Rattle.packet_store.specs.declared.sent.Kept.{Kept}
 use Rattle.packet_store.specs.declared.ring.Place.{Place}
 use Rattle.packet_store.specs.declared.packets.Packets.{Packets}
 use Rattle.packet_store.specs.declared.transaction.Transaction.{Transaction}
-use Rattle.packet_store.specs.Transactions.{belongs}
+use Rattle.packet_store.specs.Transactions.{belongs, transaction_of}
 use Rattle.packet_store.specs.Bags.{AreFull, one_if, times}
-use Rattle.packet_store.specs.Rings.{finds, Placed}
+use Rattle.packet_store.specs.Rings.{finds, IsRing}
 
 -- the key of a place
 abbrev pub key_in : Option Place → Option ℕ
@@ -31,10 +31,10 @@ is_among t (Some k) = belongs t k.sent
 -- Both indexes have the keys of the kept packets that belong there, each once, and no other key.
 pub record AreTied (slab : Slab Kept) (by_serial : ℕ → Option Place) (by_transaction : Transaction → ℕ → ℕ) : Type 0 where
   pub kept : (q : ℕ) (x : Place) → by_serial q ≡ Some x → (k : Kept) × (get slab x.key ≡ Some k) × (k.serial ≡ q)
-  pub found : (key : ℕ) (k : Kept) → get slab key ≡ Some k → by_serial k.serial ≡ Some (record { serial = k.serial; key = key })
+  pub found : (key : ℕ) (k : Kept) → get slab key ≡ Some k → by_serial k.serial ≡ Some (record { serial = k.serial; key = key; transaction = transaction_of k.sent })
   pub bagged : (t : Transaction) (key : ℕ) → by_transaction t key ≡ one_if (is_among t (get slab key))
 
 pub record Exact (packets : Packets) : Type 0 where
-  pub placed : Placed packets.ring.slots.items
+  pub ring : IsRing packets.ring
   pub tied : AreTied packets.slab (finds packets.ring) (times packets.bags)
   pub full : AreFull packets.bags

@@ -1,5 +1,5 @@
 -- The places of a ring as a function: what it has under a serial.
-use Rattle.std.specs.Prelude.{◌≡◌, ℕ, ◌==◌, ◌%◌, nat_eq, Bool, false, if◌then◌else◌, List, Option, Some, None, slice_index_or}
+use Rattle.std.specs.Prelude.{◌≡◌, ℕ, ◌==◌, ◌%◌, nat_eq, Bool, true, false, if◌then◌else◌, List, Option, Some, None, slice_index_or}
 use Rattle.std.specs.Map.{lookup}
 use Rattle.packet_store.specs.declared.ring.Place.{Place}
 use Rattle.packet_store.specs.declared.ring.Ring.{Ring}
@@ -33,3 +33,12 @@ finds ring serial = pick serial (slot ring.slots.items (slot_of serial)) (older 
 -- each place in a slot is in that of its serial
 abbrev pub Placed : List (Option Place) → Type 0
 Placed slots = (at : ℕ) (k : Place) → slot slots at ≡ Some k → slot_of k.serial ≡ at
+
+-- no older place has a serial whose place is in its slot
+abbrev pub Apart : List (Option Place) → List (ℕ × Place) → Type 0
+Apart slots entries = (q : ℕ) → is_of q (slot slots (slot_of q)) ≡ true → older entries q ≡ None
+
+-- a serial has one place at most
+pub record IsRing (ring : Ring) : Type 0 where
+  pub placed : Placed ring.slots.items
+  pub apart : Apart ring.slots.items ring.older.entries

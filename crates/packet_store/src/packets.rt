@@ -8,9 +8,8 @@ ghost use Rattle.packet_store.specs.Transactions.{transaction_of};
 
 use crate::bags::Bags;
 use crate::ring::{Place, Ring};
-use crate::role::role_of;
 use crate::sent::Kept;
-use crate::transaction::{Transaction, transaction_of};
+use crate::transaction::Transaction;
 use sbp_base::NoMemory;
 use slab::Slab;
 use std::alloc::Global;
@@ -94,7 +93,11 @@ impl Packets {
         let serial = kept.serial;
         self.slab.reserve(1)?;
         let key = self.slab.vacant_key();
-        self.ring.put(Place { serial, key })?;
+        self.ring.put(Place {
+            serial,
+            key,
+            transaction,
+        })?;
         if let Err(error) = self.bags.insert(transaction, key) {
             self.ring.take(serial);
             return Err(error);
@@ -110,25 +113,28 @@ impl Packets {
         ensures removed { (q : ℕ) → holds self.new q ≡ (if serial == q then None else holds self.old q) }
         ensures exact { Exact self.new }
     {
-        let key = self.ring.take(serial)?.key;
-        let kept = self.slab.try_remove(key)?;
-        let transaction = transaction_of(role_of(kept.sent.bytes.as_slice()), &kept.sent);
-        self.bags.remove(transaction, key);
+        let place = self.ring.take(serial)?;
+        let kept = self.slab.try_remove(place.key)?;
+        self.bags.remove(place.transaction, place.key);
         Some(kept)
     }
 
-    /// The packet of a serial becomes delivered.
-    pub(crate) fn deliver(&mut self, serial: u64)
+    /// The packet of a serial becomes delivered. Whether it was in flight.
+    pub(crate) fn deliver(&mut self, serial: u64) -> bool
         requires { Exact self.old }
+        ensures flew { result ≡ in_air (holds self.old serial) }
         ensures marked { (q : ℕ) → holds self.new q ≡ (if serial == q then marked (holds self.old q) else holds self.old q) }
         ensures exact { Exact self.new }
     {
         let Some(key) = self.key_of(serial) else {
-            return
+            return false
         };
         if let Some(kept) = self.slab.get_mut(key) {
+            let flew = kept.in_flight;
             kept.in_flight = false;
+            return flew;
         }
+        false
     }
 
     /// A serial of a transaction other than one, if there is one.

@@ -1,7 +1,8 @@
 ghost use Rattle.std.specs.Prelude.{◌≡◌, ℕ, ◌^◌, ◌<◌, ◌≤◌, ◌==◌, if◌then◌else◌, length, false, true, None, Some, OnOk, OnErr, IfSome, IfNone};
 ghost use Rattle.std.specs.Option.{option_copied};
-ghost use Rattle.packet_store.specs.Rings.{slot_of, slot, is_of, finds, older, Placed};
+ghost use Rattle.packet_store.specs.Rings.{slot_of, slot, is_of, finds, IsRing};
 
+use crate::transaction::Transaction;
 use sbp_base::NoMemory;
 use std::alloc::Global;
 use std::collections::HashMap;
@@ -9,11 +10,12 @@ use std::collections::HashMap;
 /// The slots of a ring.
 const SLOTS: u64 = 2048;
 
-/// A serial, and the key of its packet in the slab.
+/// A serial, and the key of its packet in the slab with its transaction.
 #[derive(Clone, Copy, Drop)]
 pub(crate) struct Place {
     pub(crate) serial: u64,
     pub(crate) key: usize,
+    pub(crate) transaction: Option<Transaction>,
 }
 
 /// Places by their serials: each in the slot of its serial or, where a later one has that slot, among
@@ -38,7 +40,7 @@ impl Ring {
     #[tactic(auto, unfolding(crate::specs::Rings::finds))]
     pub(crate) fn new(alloc: Global) -> Ring
         ensures none { (q : ℕ) → finds result q ≡ None }
-        ensures placed { Placed result.slots.items }
+        ensures ring { IsRing result }
     {
         Ring {
             slots: Vec::new(alloc),
@@ -47,11 +49,11 @@ impl Ring {
     }
 
     /// Makes the slots, where there are none yet.
-    #[tactic(auto, using(crate::proofs::Rings::placed_more, crate::proofs::Rings::slot_more), unfolding(crate::specs::Rings::finds))]
+    #[tactic(auto, using(crate::proofs::Rings::ring_more, crate::proofs::Rings::slot_more), unfolding(crate::specs::Rings::finds))]
     fn prepare(&mut self) -> Result<(), NoMemory>
-        requires { Placed self.old.slots.items }
+        requires { IsRing self.old }
         ensures same { (q : ℕ) → finds self.new q ≡ finds self.old q }
-        ensures placed { Placed self.new.slots.items }
+        ensures ring { IsRing self.new }
         ensures size { OnOk result (2048 ≤ length self.new.slots.items) }
     {
         while (self.slots.len() as u64) < SLOTS {
@@ -92,12 +94,12 @@ impl Ring {
     }
 
     /// Moves the place in a slot to the older ones.
-    #[tactic(auto, using(crate::proofs::Rings::spilled, crate::proofs::Rings::placed_none), unfolding(crate::specs::Rings::finds))]
+    #[tactic(auto, using(crate::proofs::Rings::spilled), unfolding(crate::specs::Rings::finds))]
     fn spill(&mut self, at: usize) -> Result<(), NoMemory>
         requires at { at < length self.old.slots.items }
-        requires placed { Placed self.old.slots.items }
+        requires ring { IsRing self.old }
         ensures same { (q : ℕ) → finds self.new q ≡ finds self.old q }
-        ensures placed { Placed self.new.slots.items }
+        ensures ring { IsRing self.new }
         ensures size { length self.new.slots.items ≡ length self.old.slots.items }
         ensures free { OnOk result (slot self.new.slots.items at ≡ None) }
     {
@@ -109,12 +111,13 @@ impl Ring {
     }
 
     /// Puts a place under its serial.
-    #[tactic(auto, using(crate::proofs::Rings::put_there, crate::proofs::Rings::placed_some), unfolding(crate::specs::Rings::finds))]
+    #[tactic(auto, using(crate::proofs::Rings::put_there), unfolding(crate::specs::Rings::finds))]
     pub(crate) fn put(&mut self, place: Place) -> Result<(), NoMemory>
-        requires { Placed self.old.slots.items }
+        requires ring { IsRing self.old }
+        requires fresh { finds self.old place.serial ≡ None }
         ensures put { OnOk result ((q : ℕ) → finds self.new q ≡ (if place.serial == q then Some place else finds self.old q)) }
         ensures failed { OnErr result ((q : ℕ) → finds self.new q ≡ finds self.old q) }
-        ensures placed { Placed self.new.slots.items }
+        ensures ring { IsRing self.new }
         ensures fits { place.serial < 2 ^ 64 }
     {
         let at = slot_of(place.serial);
@@ -127,19 +130,14 @@ impl Ring {
     /// Takes out the place of a serial.
     #[tactic(auto, using(crate::proofs::Rings::of_range), unfolding(crate::specs::Rings::finds))]
     pub(crate) fn take(&mut self, serial: u64) -> Option<Place>
-        requires { Placed self.old.slots.items }
+        requires { IsRing self.old }
         ensures taken { result ≡ finds self.old serial }
         ensures removed { (q : ℕ) → finds self.new q ≡ (if serial == q then None else finds self.old q) }
-        ensures placed { Placed self.new.slots.items }
+        ensures ring { IsRing self.new }
     {
-        if !self.is_in_slot(serial) {
-            return self.older.remove(&serial);
+        if self.is_in_slot(serial) {
+            return self.slots[slot_of(serial)].take();
         }
-        let place = self.slots[slot_of(serial)].take();
-        if self.older.is_empty() {
-            return place;
-        }
-        self.older.remove(&serial);
-        place
+        self.older.remove(&serial)
     }
 }

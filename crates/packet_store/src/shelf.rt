@@ -150,8 +150,7 @@ impl Shelf {
     pub(crate) fn deliver(&mut self, serial: u64)
         ensures { self.new ≡ with_delivered serial self.old }
     {
-        let flew = self.packets.is_flying(serial);
-        self.packets.deliver(serial);
+        let flew = self.packets.deliver(serial);
         if flew {
             self.flights.land(&self.packets, serial, self.last);
         }

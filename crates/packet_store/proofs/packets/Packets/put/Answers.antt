@@ -28,7 +28,7 @@ returns-in-Err-clause-failed c = λ q.
     let m = times s.bags in
     let reserved : (key : ℕ) → get c.reserve.new.self key ≡ get s.slab key = λ key. ap (λ x. get x key) c.reserve.ensures.rest_kept in
     let none = absent s.slab f m c.args.kept.serial c.requires.exact.tied c.requires.fresh in
-    let back = undone f (finds c.put.new.self) (finds c.take.new.self) c.args.kept.serial (record { serial = c.args.kept.serial; key = c.vacant_key-key.result }) none c.in_ok-put.ensures.put c.take.ensures.removed in
+    let back = undone f (finds c.put.new.self) (finds c.take.new.self) c.args.kept.serial (record { serial = c.args.kept.serial; key = c.vacant_key-key.result; transaction = c.args.transaction }) none c.in_ok-put.ensures.put c.take.ensures.removed in
     ap (λ o. kept_in c.reserve.new.self (key_in o)) (back q) ∙ kept_same s.slab c.reserve.new.self (key_in (f q)) reserved
 
 pub returns-in-Err-clause-exact : goal.returns-in-Err-clause-exact
@@ -39,8 +39,8 @@ returns-in-Err-clause-exact c =
     let m = times s.bags in
     let reserved : (key : ℕ) → get c.reserve.new.self key ≡ get s.slab key = λ key. ap (λ x. get x key) c.reserve.ensures.rest_kept in
     let none = absent s.slab f m c.args.kept.serial c.requires.exact.tied c.requires.fresh in
-    let back = undone f (finds c.put.new.self) (finds c.take.new.self) c.args.kept.serial (record { serial = c.args.kept.serial; key = c.vacant_key-key.result }) none c.in_ok-put.ensures.put c.take.ensures.removed in
-    record { placed = c.take.ensures.placed; tied = same_tied s.slab c.reserve.new.self f (finds c.take.new.self) m (times c.insert.new.self) c.requires.exact.tied reserved back c.in-Err.ensures.failed; full = c.insert.ensures.full }
+    let back = undone f (finds c.put.new.self) (finds c.take.new.self) c.args.kept.serial (record { serial = c.args.kept.serial; key = c.vacant_key-key.result; transaction = c.args.transaction }) none c.in_ok-put.ensures.put c.take.ensures.removed in
+    record { ring = c.take.ensures.ring; tied = same_tied s.slab c.reserve.new.self f (finds c.take.new.self) m (times c.insert.new.self) c.requires.exact.tied reserved back c.in-Err.ensures.failed; full = c.insert.ensures.full }
 
 pub returns-clause-put : goal.returns-clause-put
 unfolding holds
@@ -56,7 +56,7 @@ returns-clause-put c = λ q.
       none = none;
       here = ap (get c.insert_reserved.new.self) (c.vacant_key-key.ensures.value ∙ sym c.insert_reserved.ensures.key) ∙ c.insert_reserved.ensures.updates.changed;
       others = λ other ne. c.insert_reserved.ensures.updates.others other (λ e. ne (e ∙ c.insert_reserved.ensures.key ∙ sym c.vacant_key-key.ensures.value));
-      placed = c.in_ok-put.ensures.put;
+      placed = subst (λ o. (p : ℕ) → finds c.put.new.self p ≡ cond (c.args.kept.serial == p) (Some (record { serial = c.args.kept.serial; key = c.vacant_key-key.result; transaction = o })) (f p)) c.requires.named c.in_ok-put.ensures.put;
       added = subst (λ o. (t : Transaction) (k : ℕ) → times c.insert.new.self t k ≡ one_if (is_that t o && (c.vacant_key-key.result == k)) + m t k) c.requires.named c.in_default.ensures.added;
     } in
     put_holds _ _ _ _ _ _ c.args.kept c.vacant_key-key.result q tied puts
@@ -76,7 +76,13 @@ returns-clause-exact c =
       none = none;
       here = ap (get c.insert_reserved.new.self) (c.vacant_key-key.ensures.value ∙ sym c.insert_reserved.ensures.key) ∙ c.insert_reserved.ensures.updates.changed;
       others = λ other ne. c.insert_reserved.ensures.updates.others other (λ e. ne (e ∙ c.insert_reserved.ensures.key ∙ sym c.vacant_key-key.ensures.value));
-      placed = c.in_ok-put.ensures.put;
+      placed = subst (λ o. (p : ℕ) → finds c.put.new.self p ≡ cond (c.args.kept.serial == p) (Some (record { serial = c.args.kept.serial; key = c.vacant_key-key.result; transaction = o })) (f p)) c.requires.named c.in_ok-put.ensures.put;
       added = subst (λ o. (t : Transaction) (k : ℕ) → times c.insert.new.self t k ≡ one_if (is_that t o && (c.vacant_key-key.result == k)) + m t k) c.requires.named c.in_default.ensures.added;
     } in
-    record { placed = c.put.ensures.placed; tied = put_tied _ _ _ _ _ _ c.args.kept c.vacant_key-key.result tied puts; full = c.insert.ensures.full }
+    record { ring = c.put.ensures.ring; tied = put_tied _ _ _ _ _ _ c.args.kept c.vacant_key-key.result tied puts; full = c.insert.ensures.full }
+
+pub put-requires-clause-fresh : goal.put-requires-clause-fresh
+unfolding holds
+put-requires-clause-fresh c =
+    let s = c.args.self.now in
+    absent s.slab (finds s.ring) (times s.bags) c.args.kept.serial c.requires.exact.tied c.requires.fresh
