@@ -29,6 +29,7 @@ pub fn decode(bytes: &[u8]) -> Result<PacketRef<'_>, PacketFault>
 }
 
 /// The law that no bytes spell two packets.
+#[tactic(auto, using(crate::proofs::Unique::spelled_once))]
 pub fn spells_once()
     ensures { SpellsOnce }
 {}

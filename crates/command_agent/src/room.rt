@@ -2,6 +2,7 @@ ghost use Rattle.std.specs.Prelude.{◌≡◌, ◌+◌, ◌≤◌, ◌<◌, [], 
 ghost use Rattle.rbc_disk.specs.Units.{plain_disk};
 ghost use Rattle.rbc_disk.specs.Runs.{need_of, Feeds, HasRun};
 
+use arrayvec::ArrayVec;
 use rbc_disk::{BufferPlan, Medium, Outcome, Unit};
 use sbp_base::NoMemory;
 use std::alloc::Global;
@@ -101,24 +102,18 @@ impl Room {
     }
 }
 
-/// The most bytes of a packet's payload.
-const PAYLOAD: usize = 2048;
-
-/// The bytes of a write.
+/// The bytes of a write, as many as a packet has at most.
 #[derive(Drop)]
 pub struct Outgoing {
-    bytes: [u8; 2048],
-    count: usize,
+    bytes: ArrayVec<u8, 2048>,
 }
 
 impl Model for Outgoing {
-    ghost use Rattle.std.specs.Prelude.{◌≡◌, ◌≤◌, ℕ, List, length, take};
+    ghost use Rattle.std.specs.Prelude.{ℕ, List};
 
     ghost Value = { List ℕ };
 
-    ghost view = { λ a. take a.count a.bytes };
-
-    ghost invariant = { λ a. a.count ≤ 2048 };
+    ghost view = { λ a. a.bytes.items };
 }
 
 impl Outgoing {
@@ -127,8 +122,7 @@ impl Outgoing {
         ensures { result ≡ [] }
     {
         Outgoing {
-            bytes: [0; PAYLOAD],
-            count: 0,
+            bytes: ArrayVec::new(),
         }
     }
 
@@ -136,7 +130,7 @@ impl Outgoing {
     pub fn as_slice(&self) -> &[u8]
         ensures { result.now ≡ self.now }
     {
-        &self.bytes[0..self.count]
+        self.bytes.as_slice()
     }
 
     /// These bytes take the place of those before.
@@ -144,8 +138,7 @@ impl Outgoing {
         requires { length bytes.now ≤ 2048 }
         ensures { self.new ≡ bytes.now }
     {
-        let count = bytes.len();
-        self.bytes[0..count].copy_from_slice(bytes);
-        self.count = count;
+        self.bytes.clear();
+        self.bytes.try_extend_from_slice(bytes).unwrap();
     }
 }

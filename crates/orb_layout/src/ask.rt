@@ -4,12 +4,13 @@ ghost use Rattle.orb_layout.specs.Replies.{answer_of, lent, payload_of, write_fa
 use sbp_base::Offset;
 
 /// What an agent or the manager wants sent next.
-#[derive(Clone, Copy, Debug, PartialEq, Eq)]
+#[derive(Clone, Copy, Debug, Default, PartialEq, Eq)]
 pub enum Ask {
     /// A read of `length` bytes from `offset` on.
     Read { offset: Offset, length: u16 },
     /// A write of `length` bytes from `offset` on.
     Write { offset: Offset, length: u16 },
+    #[default]
     Nothing,
 }
 

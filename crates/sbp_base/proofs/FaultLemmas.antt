@@ -2,9 +2,5 @@
 use Rattle.std.proofs.Common.{◌≤◌, ℕ, Result, Ok, Err, arith}
 use Rattle.sbp_base.specs.Faults.{HasCause, Rose}
 
-pub cause_later : {A E : Type 0} (before now : ℕ) (result : Result A E) → HasCause before now result → before ≤ now
-cause_later before now (Ok value) h = let e = h.counted in omega arith
-cause_later before now (Err failed) h = let e = h.counted in omega arith
-
 pub cause_rose : {A E : Type 0} (before now : ℕ) (failed : E) → HasCause {A = A} before now (Err failed) → Rose before now
 cause_rose before now failed h = let e = h.counted in omega arith

@@ -1,5 +1,6 @@
 ghost use Rattle.std.specs.Prelude.{◌≡◌, ◌<◌, ◌++◌, [], length};
 
+use arrayvec::ArrayVec;
 use command_agent::AgentStep;
 use orb_layout::{Ask, FailCause, StatusKind};
 use rbc_disk::Outcome;
@@ -25,19 +26,16 @@ pub struct TaskStep {
 /// and then the fetcher's, whose place is 8.
 #[derive(Drop)]
 pub struct TaskAsks {
-    asks: [(u8, Ask); 2],
-    count: usize,
+    asks: ArrayVec<(u8, Ask), 2>,
 }
 
 impl Model for TaskAsks {
-    ghost use Rattle.std.specs.Prelude.{◌≤◌, ℕ, List, take};
+    ghost use Rattle.std.specs.Prelude.{ℕ, List};
     ghost use Rattle.orb_layout.specs.declared.ask.Ask.{Ask};
 
     ghost Value = { List (ℕ × Ask) };
 
-    ghost view = { λ a. take a.count a.asks };
-
-    ghost invariant = { λ a. a.count ≤ 2 };
+    ghost view = { λ a. a.asks.items };
 }
 
 impl TaskAsks {
@@ -48,8 +46,7 @@ impl TaskAsks {
         ensures { result ≡ [] }
     {
         TaskAsks {
-            asks: [(FETCHER, Ask::Nothing); 2],
-            count: 0,
+            asks: ArrayVec::new(),
         }
     }
 
@@ -59,8 +56,7 @@ impl TaskAsks {
         ensures { self.new ≡ self.old ++ asked place ask }
     {
         if ask != Ask::Nothing {
-            self.asks[self.count] = (place, ask);
-            self.count += 1;
+            self.asks.push((place, ask));
         }
     }
 
@@ -68,8 +64,7 @@ impl TaskAsks {
     pub fn as_slice(&self) -> &[(u8, Ask)]
         ensures { result.now ≡ self.now }
     {
-        let asks = &self.asks[..];
-        &asks[0..self.count]
+        self.asks.as_slice()
     }
 }
 
