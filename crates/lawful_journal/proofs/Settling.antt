@@ -1,5 +1,6 @@
 -- Deliveries one after the other are determined: each by the lowest packet in flight, and how many there are.
-use Rattle.std.proofs.Common.{◌≡◌, ◌∙◌, ℕ, suc, ◌+◌, ◌≤◌, ◌⊎◌, Bool, List, [], ◌∷◌, Some, None, unwrap_or, true≢false, refl, sym, ap, subst, inl, inr, arith}
+use Rattle.std.proofs.Math.Option.{some-injective}
+use Rattle.std.proofs.Common.{◌≡◌, ◌∙◌, ℕ, suc, ◌+◌, ◌≤◌, ◌⊎◌, Bool, List, [], ◌∷◌, Some, None, true≢false, refl, sym, ap, subst, inl, inr, arith}
 use Rattle.rbc_disk.specs.Disk.{Disk}
 use Rattle.sbp_journal.specs.Run.{Moment, said}
 use Rattle.sbp_journal.specs.Wire.{terms}
@@ -18,14 +19,11 @@ use Rattle.lawful_journal.proofs.Turned.{Holds, same_rest, same_verdict}
 abbrev pub first_note : List Disk → List Moment → ℕ → Note
 first_note disks past serial = (verdict_of disks (turn past (said notes.Tick) []) serial).note
 
-number_is : (a b : ℕ) → Some a ≡ Some b → a ≡ b
-number_is a b e = ap (λ o. unwrap_or o 0) e
-
 pub is_first : (telling : Telling) (disks : List Disk) (past : List Moment) (note : Note) (rest : List Note) (serial : ℕ) → delivered_by note ≡ Some serial → Holds telling disks (turn past (said note) rest) → note ≡ first_note disks past serial
 is_first telling disks past (notes.Got other) rest serial e h =
-    sym h.judges ∙ ap (λ v. v.note) (same_verdict disks past (said (notes.Got other)) (said notes.Tick) rest [] other) ∙ ap (first_note disks past) (number_is other serial e)
+    sym h.judges ∙ ap (λ v. v.note) (same_verdict disks past (said (notes.Got other)) (said notes.Tick) rest [] other) ∙ ap (first_note disks past) (some-injective other serial e)
 is_first telling disks past (notes.Ignored other cause) rest serial e h =
-    sym h.judges.0 ∙ ap (λ v. v.note) (same_verdict disks past (said (notes.Ignored other cause)) (said notes.Tick) rest [] other) ∙ ap (first_note disks past) (number_is other serial e)
+    sym h.judges.0 ∙ ap (λ v. v.note) (same_verdict disks past (said (notes.Ignored other cause)) (said notes.Tick) rest [] other) ∙ ap (first_note disks past) (some-injective other serial e)
 is_first telling disks past note rest serial e h = absurd (let no : None ≡ Some serial = e in cc)
 
 -- this note begins a turn
@@ -146,7 +144,7 @@ module _ (wild : ℕ → Bool) (telling : Telling) (disks : List Disk) where
             ∙ ap (λ n. n ∷ next.rest) same ∙ sym next.is
           where
             serials : next.serial ≡ serial
-            serials = number_is next.serial serial (sym next.flies ∙ here.flies)
+            serials = some-injective next.serial serial (sym next.flies ∙ here.flies)
 
             same : first ≡ next.first
             same =

@@ -18,6 +18,8 @@ use Rattle.sbp_laws.specs.LoginLaw.{HasLogins}
 use Rattle.sbp_laws.specs.SentPackets.{SentAt}
 use Rattle.sbp_laws.specs.SentAnswers.{AnswersLaw}
 use Rattle.sbp_laws.specs.SentRequests.{RequestsLaw}
+use Rattle.sbp_laws.specs.SentWrites.{DecisionsAreSent, StatusesAreSent}
+use Rattle.sbp_laws.specs.Unasked.{NoneUnasked}
 use Rattle.sbp_laws.specs.SentLaw.{AfterTurn}
 use Rattle.sbp_laws.specs.MediaLaw.{HasPushes}
 use Rattle.sbp_laws.specs.ActionLaw.{Ordered}
@@ -74,7 +76,7 @@ module _ (wild : ℕ → Bool) (run : Run) (line : ℕ) (event : Event) (told : 
       cause = record { causes = (split_turns (HasCauses run.start) (history run.entries) line event told [] law.moments.cause.causes).1; aborted = (split (AbortedAt run.start) (history run.entries) line event told law.moments.cause.aborted).1 };
       judgement = (split_turns (Judges run.start) (history run.entries) line event told [] law.moments.judgement).1;
       login = (split_turns (HasLogins run.start) (history run.entries) line event told [] law.moments.login).1;
-      sent = record { packets = (split SentAt (history run.entries) line event told law.moments.sent.packets).1; answers = (split_turns (AnswersLaw run.start) (history run.entries) line event told [] law.moments.sent.answers).1; requests = (split_turns (RequestsLaw run.start) (history run.entries) line event told [] law.moments.sent.requests).1; after = (split_turns (AfterTurn run.start) (history run.entries) line event told [] law.moments.sent.after).1 };
+      sent = record { packets = (split SentAt (history run.entries) line event told law.moments.sent.packets).1; answers = (split_turns (AnswersLaw run.start) (history run.entries) line event told [] law.moments.sent.answers).1; requests = (split_turns (RequestsLaw run.start) (history run.entries) line event told [] law.moments.sent.requests).1; after = (split_turns (AfterTurn run.start) (history run.entries) line event told [] law.moments.sent.after).1; statuses = (split_turns (StatusesAreSent run.start) (history run.entries) line event told [] law.moments.sent.statuses).1; decisions = (split_turns (DecisionsAreSent run.start) (history run.entries) line event told [] law.moments.sent.decisions).1; asked = (split (NoneUnasked run.start) (history run.entries) line event told law.moments.sent.asked).1 };
       media = (split_turns (HasPushes run.start) (history run.entries) line event told [] law.moments.media).1;
     };
     action = record { brings = law.action.brings.1; ordered = (split_turns Ordered (history run.entries) line event told [] law.action.ordered).1 };
@@ -104,6 +106,9 @@ module _ (wild : ℕ → Bool) (run : Run) (line : ℕ) (event : Event) (told : 
     media = (split_turns (HasPushes run.start) (history run.entries) line event told [] law.moments.media).0;
     brings = law.action.brings.0;
     ordered = (split_turns Ordered (history run.entries) line event told [] law.action.ordered).0;
+    statuses = (split_turns (StatusesAreSent run.start) (history run.entries) line event told [] law.moments.sent.statuses).0;
+    decisions = (split_turns (DecisionsAreSent run.start) (history run.entries) line event told [] law.moments.sent.decisions).0;
+    asked = (split (NoneUnasked run.start) (history run.entries) line event told law.moments.sent.asked).0;
   }
 
   with_one : LawfulBut wild run → Adds wild run.start (history run.entries) line event told → LawfulBut wild (with_entry run line event told)
@@ -121,7 +126,7 @@ module _ (wild : ℕ → Bool) (run : Run) (line : ℕ) (event : Event) (told : 
       cause = record { causes = join_turns (HasCauses run.start) (history run.entries) line event told [] new.causes before.moments.cause.causes; aborted = join (AbortedAt run.start) (history run.entries) line event told new.aborted before.moments.cause.aborted };
       judgement = join_turns (Judges run.start) (history run.entries) line event told [] new.judged before.moments.judgement;
       login = join_turns (HasLogins run.start) (history run.entries) line event told [] new.logins before.moments.login;
-      sent = record { packets = join SentAt (history run.entries) line event told new.packets before.moments.sent.packets; answers = join_turns (AnswersLaw run.start) (history run.entries) line event told [] new.answers before.moments.sent.answers; requests = join_turns (RequestsLaw run.start) (history run.entries) line event told [] new.requests before.moments.sent.requests; after = join_turns (AfterTurn run.start) (history run.entries) line event told [] new.after before.moments.sent.after };
+      sent = record { packets = join SentAt (history run.entries) line event told new.packets before.moments.sent.packets; answers = join_turns (AnswersLaw run.start) (history run.entries) line event told [] new.answers before.moments.sent.answers; requests = join_turns (RequestsLaw run.start) (history run.entries) line event told [] new.requests before.moments.sent.requests; after = join_turns (AfterTurn run.start) (history run.entries) line event told [] new.after before.moments.sent.after; statuses = join_turns (StatusesAreSent run.start) (history run.entries) line event told [] new.statuses before.moments.sent.statuses; decisions = join_turns (DecisionsAreSent run.start) (history run.entries) line event told [] new.decisions before.moments.sent.decisions; asked = join (NoneUnasked run.start) (history run.entries) line event told new.asked before.moments.sent.asked };
       media = join_turns (HasPushes run.start) (history run.entries) line event told [] new.media before.moments.media;
     };
     action = record { brings = (new.brings, before.action.brings); ordered = join_turns Ordered (history run.entries) line event told [] new.ordered before.action.ordered };

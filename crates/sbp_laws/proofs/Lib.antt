@@ -18,4 +18,5 @@ mod BudgetTries
 mod Forms
 mod OthersTries
 mod NamedTries
+mod OwnTries
 pub mod InTime

@@ -26,6 +26,8 @@ use Rattle.sbp_laws.specs.ActionLaw.{ActionLaw}
 use Rattle.sbp_laws.specs.SentPackets.{SentAt}
 use Rattle.sbp_laws.specs.SentAnswers.{AnswersLaw}
 use Rattle.sbp_laws.specs.SentRequests.{RequestsLaw}
+use Rattle.sbp_laws.specs.SentWrites.{DecisionsAreSent, StatusesAreSent}
+use Rattle.sbp_laws.specs.Unasked.{NoneUnasked}
 use Rattle.sbp_laws.specs.SentLaw.{AfterTurn, SentLaw}
 use Rattle.sbp_laws.proofs.Forms.{typed}
 use Rattle.async_packet.specs.Reading.{reading}
@@ -89,7 +91,7 @@ dies_carried = record { carried = (tt, (tt, (tt, (tt, (tt, (tt, (tt, (tt, (tt, (
 
 dies_cause : CauseLaw (rare.wild_run rare.wild_dies).start (history (rare.wild_run rare.wild_dies).entries)
 unfolding reading fault_of tcode_of header_of offset_of rcode_of value_of length_of extended_of three four part_of is_to is_same asked_by begun_by belongs start_at lowest_from label_for free_from count_flying lowest_flying label_of with_label is_write kind_of slot_of window_at is_fifo point_step doorbell_step reset_step abort_step reply_step lost_step refusal verdict request_of check_of blank_bytes command_kind elements_from made block_head decide reads_eui live_login response_bytes start_step reply_step_of_manager decide_step fresh_id left_for enter_step back_step leave_step
-dies_cause = record { causes = (record { cuts = refl; cleared = refl; ends = refl; deaths = tt; faults = tt; failures = refl; operations = refl; unserved = tt; codes = tt; failing = tt; once = refl }, (record { cuts = refl; cleared = refl; ends = refl; deaths = tt; faults = tt; failures = refl; operations = refl; unserved = tt; codes = tt; failing = tt; once = refl }, (record { cuts = refl; cleared = refl; ends = refl; deaths = tt; faults = tt; failures = refl; operations = refl; unserved = tt; codes = tt; failing = tt; once = refl }, (record { cuts = refl; cleared = refl; ends = refl; deaths = (refl, tt); faults = (refl, tt); failures = refl; operations = refl; unserved = tt; codes = tt; failing = tt; once = refl }, (record { cuts = refl; cleared = refl; ends = refl; deaths = tt; faults = tt; failures = refl; operations = refl; unserved = tt; codes = tt; failing = tt; once = refl }, (record { cuts = refl; cleared = refl; ends = refl; deaths = tt; faults = tt; failures = refl; operations = refl; unserved = tt; codes = tt; failing = tt; once = refl }, (record { cuts = refl; cleared = refl; ends = refl; deaths = tt; faults = tt; failures = refl; operations = refl; unserved = tt; codes = tt; failing = tt; once = refl }, (record { cuts = refl; cleared = refl; ends = refl; deaths = tt; faults = tt; failures = refl; operations = refl; unserved = tt; codes = tt; failing = tt; once = refl }, (record { cuts = refl; cleared = refl; ends = refl; deaths = tt; faults = tt; failures = refl; operations = refl; unserved = tt; codes = tt; failing = tt; once = refl }, (record { cuts = refl; cleared = refl; ends = refl; deaths = tt; faults = tt; failures = refl; operations = refl; unserved = tt; codes = tt; failing = tt; once = refl }, tt)))))))))); aborted = (tt, (tt, (tt, (tt, (tt, (tt, (tt, (tt, (tt, (tt, (tt, (tt, (tt, (tt, (tt, (tt, (tt, (tt, (tt, (tt, tt)))))))))))))))))))) }
+dies_cause = record { causes = (record { cuts = refl; cleared = refl; ends = refl; deaths = tt; faults = tt; failures = refl; operations = refl; unserved = tt; codes = tt; failing = tt; once = refl; aborts = refl; decided = record { cut = refl; cleared = refl; moved = refl } }, (record { cuts = refl; cleared = refl; ends = refl; deaths = tt; faults = tt; failures = refl; operations = refl; unserved = tt; codes = tt; failing = tt; once = refl; aborts = refl; decided = record { cut = refl; cleared = refl; moved = refl } }, (record { cuts = refl; cleared = refl; ends = refl; deaths = tt; faults = tt; failures = refl; operations = refl; unserved = tt; codes = tt; failing = tt; once = refl; aborts = refl; decided = record { cut = refl; cleared = refl; moved = refl } }, (record { cuts = refl; cleared = refl; ends = refl; deaths = (refl, tt); faults = (refl, tt); failures = refl; operations = refl; unserved = tt; codes = tt; failing = tt; once = refl; aborts = refl; decided = record { cut = refl; cleared = refl; moved = refl } }, (record { cuts = refl; cleared = refl; ends = refl; deaths = tt; faults = tt; failures = refl; operations = refl; unserved = tt; codes = tt; failing = tt; once = refl; aborts = refl; decided = record { cut = refl; cleared = refl; moved = refl } }, (record { cuts = refl; cleared = refl; ends = refl; deaths = tt; faults = tt; failures = refl; operations = refl; unserved = tt; codes = tt; failing = tt; once = refl; aborts = refl; decided = record { cut = refl; cleared = refl; moved = refl } }, (record { cuts = refl; cleared = refl; ends = refl; deaths = tt; faults = tt; failures = refl; operations = refl; unserved = tt; codes = tt; failing = tt; once = refl; aborts = refl; decided = record { cut = refl; cleared = refl; moved = refl } }, (record { cuts = refl; cleared = refl; ends = refl; deaths = tt; faults = tt; failures = refl; operations = refl; unserved = tt; codes = tt; failing = tt; once = refl; aborts = refl; decided = record { cut = refl; cleared = refl; moved = refl } }, (record { cuts = refl; cleared = refl; ends = refl; deaths = tt; faults = tt; failures = refl; operations = refl; unserved = tt; codes = tt; failing = tt; once = refl; aborts = refl; decided = record { cut = refl; cleared = refl; moved = refl } }, (record { cuts = refl; cleared = refl; ends = refl; deaths = tt; faults = tt; failures = refl; operations = refl; unserved = tt; codes = tt; failing = tt; once = refl; aborts = refl; decided = record { cut = refl; cleared = refl; moved = refl } }, tt)))))))))); aborted = (tt, (tt, (tt, (tt, (tt, (tt, (tt, (tt, (tt, (tt, (tt, (tt, (tt, (tt, (tt, (tt, (tt, (tt, (tt, (tt, tt)))))))))))))))))))) }
 
 dies_judged : JudgementLaw (rare.wild_run rare.wild_dies).start (history (rare.wild_run rare.wild_dies).entries)
 unfolding reading fault_of tcode_of header_of offset_of rcode_of value_of length_of extended_of three four part_of is_to is_same asked_by begun_by belongs start_at lowest_from label_for free_from count_flying lowest_flying label_of with_label is_write kind_of slot_of window_at is_fifo point_step doorbell_step reset_step abort_step reply_step lost_step refusal verdict request_of check_of blank_bytes command_kind elements_from made block_head decide reads_eui live_login response_bytes start_step reply_step_of_manager decide_step fresh_id left_for enter_step back_step leave_step
@@ -114,6 +116,18 @@ dies_answers = (tt, (tt, (tt, (tt, ((refl, tt), (tt, ((refl, tt), (tt, (tt, (tt,
 dies_requests : EachTurn (RequestsLaw (rare.wild_run rare.wild_dies).start) (history (rare.wild_run rare.wild_dies).entries)
 unfolding reading fault_of tcode_of header_of offset_of rcode_of value_of length_of extended_of three four part_of is_to is_same asked_by begun_by belongs start_at lowest_from label_for free_from count_flying lowest_flying label_of with_label is_write kind_of slot_of window_at is_fifo point_step doorbell_step reset_step abort_step reply_step lost_step refusal verdict request_of check_of blank_bytes command_kind elements_from made block_head decide reads_eui live_login response_bytes start_step reply_step_of_manager decide_step fresh_id left_for enter_step back_step leave_step
 dies_requests = (λ e. tt, (λ e. tt, (λ e. cc e, (λ e. (record { number = refl; in_generation = refl; sender = refl; receiver = refl; label = refl; spelled = refl }, tt), (λ e. tt, (λ e. tt, (λ e. (record { number = refl; in_generation = refl; sender = refl; receiver = refl; label = refl; spelled = refl }, tt), (λ e. tt, (λ e. cc e, (λ e. tt, tt))))))))))
+
+dies_statuses : EachTurn (StatusesAreSent (rare.wild_run rare.wild_dies).start) (history (rare.wild_run rare.wild_dies).entries)
+unfolding reading fault_of tcode_of header_of offset_of rcode_of value_of length_of extended_of three four part_of is_to is_same asked_by begun_by belongs start_at lowest_from label_for free_from count_flying lowest_flying label_of with_label is_write kind_of slot_of window_at is_fifo point_step doorbell_step reset_step abort_step reply_step lost_step refusal verdict request_of check_of blank_bytes command_kind elements_from made block_head decide reads_eui live_login response_bytes start_step reply_step_of_manager decide_step fresh_id left_for enter_step back_step leave_step
+dies_statuses = (refl, (refl, (refl, (refl, (refl, (refl, (refl, (refl, (refl, (refl, tt))))))))))
+
+dies_decisions : EachTurn (DecisionsAreSent (rare.wild_run rare.wild_dies).start) (history (rare.wild_run rare.wild_dies).entries)
+unfolding reading fault_of tcode_of header_of offset_of rcode_of value_of length_of extended_of three four part_of is_to is_same asked_by begun_by belongs start_at lowest_from label_for free_from count_flying lowest_flying label_of with_label is_write kind_of slot_of window_at is_fifo point_step doorbell_step reset_step abort_step reply_step lost_step refusal verdict request_of check_of blank_bytes command_kind elements_from made block_head decide reads_eui live_login response_bytes start_step reply_step_of_manager decide_step fresh_id left_for enter_step back_step leave_step
+dies_decisions = (refl, (refl, (refl, (refl, (refl, (refl, (refl, (refl, (refl, (refl, tt))))))))))
+
+dies_asked : EachMoment (NoneUnasked (rare.wild_run rare.wild_dies).start) (history (rare.wild_run rare.wild_dies).entries)
+unfolding reading fault_of tcode_of header_of offset_of rcode_of value_of length_of extended_of three four part_of is_to is_same asked_by begun_by belongs start_at lowest_from label_for free_from count_flying lowest_flying label_of with_label is_write kind_of slot_of window_at is_fifo point_step doorbell_step reset_step abort_step reply_step lost_step refusal verdict request_of check_of blank_bytes command_kind elements_from made block_head decide reads_eui live_login response_bytes start_step reply_step_of_manager decide_step fresh_id left_for enter_step back_step leave_step
+dies_asked = (tt, (tt, (tt, (tt, (tt, (tt, (tt, (tt, (tt, (tt, (tt, (tt, (tt, (tt, (tt, (tt, (tt, (tt, (tt, (tt, tt))))))))))))))))))))
 
 dies_after : EachTurn (AfterTurn (rare.wild_run rare.wild_dies).start) (history (rare.wild_run rare.wild_dies).entries)
 unfolding reading fault_of tcode_of header_of offset_of rcode_of value_of length_of extended_of three four part_of is_to is_same asked_by begun_by belongs start_at lowest_from label_for free_from count_flying lowest_flying label_of with_label is_write kind_of slot_of window_at is_fifo point_step doorbell_step reset_step abort_step reply_step lost_step refusal verdict request_of check_of blank_bytes command_kind elements_from made block_head decide reads_eui live_login response_bytes start_step reply_step_of_manager decide_step fresh_id left_for enter_step back_step leave_step
@@ -140,7 +154,7 @@ unfolding reading fault_of tcode_of header_of offset_of rcode_of value_of length
 reset_ignored_takes = (refl, (refl, (refl, (refl, tt))))
 
 dies : LawfulForOthers (rare.wild_run rare.wild_dies)
-dies = record { moments = record { form = dies_form; once = dies_once; order = dies_order; execution = dies_execution; status = dies_status; answer = dies_answer; carried = dies_carried; runs_end = dies_runs_end; takes = dies_takes; cause = dies_cause; judgement = dies_judged; login = dies_login; media = dies_media; sent = record { packets = dies_packets; answers = dies_answers; requests = dies_requests; after = dies_after } }; action = dies_action }
+dies = record { moments = record { form = dies_form; once = dies_once; order = dies_order; execution = dies_execution; status = dies_status; answer = dies_answer; carried = dies_carried; runs_end = dies_runs_end; takes = dies_takes; cause = dies_cause; judgement = dies_judged; login = dies_login; media = dies_media; sent = record { packets = dies_packets; answers = dies_answers; requests = dies_requests; after = dies_after; statuses = dies_statuses; decisions = dies_decisions; asked = dies_asked } }; action = dies_action }
 
 reset_ignored_form : EachMoment FormAt (history (rare.wild_write (notes.Ignored 1 ignored.Login) (notes.Sent 2 0 0 1 (journals.done_by_target 0 7) ∷ [])).entries)
 unfolding reading fault_of tcode_of header_of offset_of rcode_of value_of length_of extended_of three four part_of is_to is_same asked_by begun_by belongs start_at lowest_from label_for free_from count_flying lowest_flying label_of with_label is_write kind_of slot_of window_at is_fifo point_step doorbell_step reset_step abort_step reply_step lost_step refusal verdict request_of check_of blank_bytes command_kind elements_from made block_head decide reads_eui live_login response_bytes start_step reply_step_of_manager decide_step fresh_id left_for enter_step back_step leave_step
@@ -172,7 +186,7 @@ reset_ignored_carried = record { carried = (tt, (tt, (tt, (tt, (tt, (tt, (tt, (t
 
 reset_ignored_cause : CauseLaw (rare.wild_write (notes.Ignored 1 ignored.Login) (notes.Sent 2 0 0 1 (journals.done_by_target 0 7) ∷ [])).start (history (rare.wild_write (notes.Ignored 1 ignored.Login) (notes.Sent 2 0 0 1 (journals.done_by_target 0 7) ∷ [])).entries)
 unfolding reading fault_of tcode_of header_of offset_of rcode_of value_of length_of extended_of three four part_of is_to is_same asked_by begun_by belongs start_at lowest_from label_for free_from count_flying lowest_flying label_of with_label is_write kind_of slot_of window_at is_fifo point_step doorbell_step reset_step abort_step reply_step lost_step refusal verdict request_of check_of blank_bytes command_kind elements_from made block_head decide reads_eui live_login response_bytes start_step reply_step_of_manager decide_step fresh_id left_for enter_step back_step leave_step
-reset_ignored_cause = record { causes = (record { cuts = refl; cleared = refl; ends = refl; deaths = tt; faults = tt; failures = refl; operations = refl; unserved = tt; codes = tt; failing = tt; once = refl }, (record { cuts = refl; cleared = refl; ends = refl; deaths = tt; faults = tt; failures = refl; operations = refl; unserved = tt; codes = tt; failing = tt; once = refl }, (record { cuts = refl; cleared = refl; ends = refl; deaths = tt; faults = tt; failures = refl; operations = refl; unserved = tt; codes = tt; failing = tt; once = refl }, (record { cuts = refl; cleared = refl; ends = refl; deaths = tt; faults = tt; failures = refl; operations = refl; unserved = tt; codes = tt; failing = tt; once = refl }, tt)))); aborted = (tt, (tt, (tt, (tt, (tt, (tt, (tt, (tt, tt)))))))) }
+reset_ignored_cause = record { causes = (record { cuts = refl; cleared = refl; ends = refl; deaths = tt; faults = tt; failures = refl; operations = refl; unserved = tt; codes = tt; failing = tt; once = refl; aborts = refl; decided = record { cut = refl; cleared = refl; moved = refl } }, (record { cuts = refl; cleared = refl; ends = refl; deaths = tt; faults = tt; failures = refl; operations = refl; unserved = tt; codes = tt; failing = tt; once = refl; aborts = refl; decided = record { cut = refl; cleared = refl; moved = refl } }, (record { cuts = refl; cleared = refl; ends = refl; deaths = tt; faults = tt; failures = refl; operations = refl; unserved = tt; codes = tt; failing = tt; once = refl; aborts = refl; decided = record { cut = refl; cleared = refl; moved = refl } }, (record { cuts = refl; cleared = refl; ends = refl; deaths = tt; faults = tt; failures = refl; operations = refl; unserved = tt; codes = tt; failing = tt; once = refl; aborts = refl; decided = record { cut = refl; cleared = refl; moved = refl } }, tt)))); aborted = (tt, (tt, (tt, (tt, (tt, (tt, (tt, (tt, tt)))))))) }
 
 reset_ignored_judged : JudgementLaw (rare.wild_write (notes.Ignored 1 ignored.Login) (notes.Sent 2 0 0 1 (journals.done_by_target 0 7) ∷ [])).start (history (rare.wild_write (notes.Ignored 1 ignored.Login) (notes.Sent 2 0 0 1 (journals.done_by_target 0 7) ∷ [])).entries)
 unfolding reading fault_of tcode_of header_of offset_of rcode_of value_of length_of extended_of three four part_of is_to is_same asked_by begun_by belongs start_at lowest_from label_for free_from count_flying lowest_flying label_of with_label is_write kind_of slot_of window_at is_fifo point_step doorbell_step reset_step abort_step reply_step lost_step refusal verdict request_of check_of blank_bytes command_kind elements_from made block_head decide reads_eui live_login response_bytes start_step reply_step_of_manager decide_step fresh_id left_for enter_step back_step leave_step
@@ -198,6 +212,18 @@ reset_ignored_requests : EachTurn (RequestsLaw (rare.wild_write (notes.Ignored 1
 unfolding reading fault_of tcode_of header_of offset_of rcode_of value_of length_of extended_of three four part_of is_to is_same asked_by begun_by belongs start_at lowest_from label_for free_from count_flying lowest_flying label_of with_label is_write kind_of slot_of window_at is_fifo point_step doorbell_step reset_step abort_step reply_step lost_step refusal verdict request_of check_of blank_bytes command_kind elements_from made block_head decide reads_eui live_login response_bytes start_step reply_step_of_manager decide_step fresh_id left_for enter_step back_step leave_step
 reset_ignored_requests = (λ e. cc e, (λ e. tt, (λ e. cc e, (λ e. tt, tt))))
 
+reset_ignored_statuses : EachTurn (StatusesAreSent (rare.wild_write (notes.Ignored 1 ignored.Login) (notes.Sent 2 0 0 1 (journals.done_by_target 0 7) ∷ [])).start) (history (rare.wild_write (notes.Ignored 1 ignored.Login) (notes.Sent 2 0 0 1 (journals.done_by_target 0 7) ∷ [])).entries)
+unfolding reading fault_of tcode_of header_of offset_of rcode_of value_of length_of extended_of three four part_of is_to is_same asked_by begun_by belongs start_at lowest_from label_for free_from count_flying lowest_flying label_of with_label is_write kind_of slot_of window_at is_fifo point_step doorbell_step reset_step abort_step reply_step lost_step refusal verdict request_of check_of blank_bytes command_kind elements_from made block_head decide reads_eui live_login response_bytes start_step reply_step_of_manager decide_step fresh_id left_for enter_step back_step leave_step
+reset_ignored_statuses = (refl, (refl, (refl, (refl, tt))))
+
+reset_ignored_decisions : EachTurn (DecisionsAreSent (rare.wild_write (notes.Ignored 1 ignored.Login) (notes.Sent 2 0 0 1 (journals.done_by_target 0 7) ∷ [])).start) (history (rare.wild_write (notes.Ignored 1 ignored.Login) (notes.Sent 2 0 0 1 (journals.done_by_target 0 7) ∷ [])).entries)
+unfolding reading fault_of tcode_of header_of offset_of rcode_of value_of length_of extended_of three four part_of is_to is_same asked_by begun_by belongs start_at lowest_from label_for free_from count_flying lowest_flying label_of with_label is_write kind_of slot_of window_at is_fifo point_step doorbell_step reset_step abort_step reply_step lost_step refusal verdict request_of check_of blank_bytes command_kind elements_from made block_head decide reads_eui live_login response_bytes start_step reply_step_of_manager decide_step fresh_id left_for enter_step back_step leave_step
+reset_ignored_decisions = (refl, (refl, (refl, (refl, tt))))
+
+reset_ignored_asked : EachMoment (NoneUnasked (rare.wild_write (notes.Ignored 1 ignored.Login) (notes.Sent 2 0 0 1 (journals.done_by_target 0 7) ∷ [])).start) (history (rare.wild_write (notes.Ignored 1 ignored.Login) (notes.Sent 2 0 0 1 (journals.done_by_target 0 7) ∷ [])).entries)
+unfolding reading fault_of tcode_of header_of offset_of rcode_of value_of length_of extended_of three four part_of is_to is_same asked_by begun_by belongs start_at lowest_from label_for free_from count_flying lowest_flying label_of with_label is_write kind_of slot_of window_at is_fifo point_step doorbell_step reset_step abort_step reply_step lost_step refusal verdict request_of check_of blank_bytes command_kind elements_from made block_head decide reads_eui live_login response_bytes start_step reply_step_of_manager decide_step fresh_id left_for enter_step back_step leave_step
+reset_ignored_asked = (tt, (tt, (tt, (tt, (tt, (tt, (tt, (tt, tt))))))))
+
 reset_ignored_after : EachTurn (AfterTurn (rare.wild_write (notes.Ignored 1 ignored.Login) (notes.Sent 2 0 0 1 (journals.done_by_target 0 7) ∷ [])).start) (history (rare.wild_write (notes.Ignored 1 ignored.Login) (notes.Sent 2 0 0 1 (journals.done_by_target 0 7) ∷ [])).entries)
 unfolding reading fault_of tcode_of header_of offset_of rcode_of value_of length_of extended_of three four part_of is_to is_same asked_by begun_by belongs start_at lowest_from label_for free_from count_flying lowest_flying label_of with_label is_write kind_of slot_of window_at is_fifo point_step doorbell_step reset_step abort_step reply_step lost_step refusal verdict request_of check_of blank_bytes command_kind elements_from made block_head decide reads_eui live_login response_bytes start_step reply_step_of_manager decide_step fresh_id left_for enter_step back_step leave_step
 reset_ignored_after = (record { agents = (tt, (tt, (tt, (tt, (tt, (tt, (tt, (tt, tt)))))))); management = tt; roms = (tt, (tt, tt)) }, (record { agents = (tt, (tt, (tt, (tt, (tt, (tt, (tt, (tt, tt)))))))); management = tt; roms = (tt, (tt, tt)) }, (record { agents = (tt, (tt, (tt, (tt, (tt, (tt, (tt, (tt, tt)))))))); management = tt; roms = (tt, (tt, tt)) }, (record { agents = (tt, (tt, (tt, (tt, (tt, (tt, (tt, (tt, tt)))))))); management = tt; roms = (tt, (tt, tt)) }, tt))))
@@ -207,7 +233,7 @@ unfolding reading fault_of tcode_of header_of offset_of rcode_of value_of length
 reset_ignored_action = record { brings = ((refl, (refl, tt)), (refl, (refl, tt))); ordered = (record { effects = refl; first = refl }, (tt, (tt, (tt, tt)))) }
 
 reset_ignored : LawfulForOthers (rare.wild_write (notes.Ignored 1 ignored.Login) (notes.Sent 2 0 0 1 (journals.done_by_target 0 7) ∷ []))
-reset_ignored = record { moments = record { form = reset_ignored_form; once = reset_ignored_once; order = reset_ignored_order; execution = reset_ignored_execution; status = reset_ignored_status; answer = reset_ignored_answer; carried = reset_ignored_carried; runs_end = reset_ignored_runs_end; takes = reset_ignored_takes; cause = reset_ignored_cause; judgement = reset_ignored_judged; login = reset_ignored_login; media = reset_ignored_media; sent = record { packets = reset_ignored_packets; answers = reset_ignored_answers; requests = reset_ignored_requests; after = reset_ignored_after } }; action = reset_ignored_action }
+reset_ignored = record { moments = record { form = reset_ignored_form; once = reset_ignored_once; order = reset_ignored_order; execution = reset_ignored_execution; status = reset_ignored_status; answer = reset_ignored_answer; carried = reset_ignored_carried; runs_end = reset_ignored_runs_end; takes = reset_ignored_takes; cause = reset_ignored_cause; judgement = reset_ignored_judged; login = reset_ignored_login; media = reset_ignored_media; sent = record { packets = reset_ignored_packets; answers = reset_ignored_answers; requests = reset_ignored_requests; after = reset_ignored_after; statuses = reset_ignored_statuses; decisions = reset_ignored_decisions; asked = reset_ignored_asked } }; action = reset_ignored_action }
 
 not_of_all : Lawful (rare.wild_run rare.wild_dies) → ⊥
 unfolding reading fault_of tcode_of header_of offset_of rcode_of value_of length_of extended_of three four part_of is_to is_same asked_by begun_by belongs start_at lowest_from label_for free_from count_flying lowest_flying label_of with_label is_write kind_of slot_of window_at is_fifo point_step doorbell_step reset_step abort_step reply_step lost_step refusal verdict request_of check_of blank_bytes command_kind elements_from made block_head decide reads_eui live_login response_bytes start_step reply_step_of_manager decide_step fresh_id left_for enter_step back_step leave_step
@@ -231,7 +257,7 @@ other_sends_more = λ law. law.moments.sent.requests.0 refl
 
 target_answers : SentLaw rare.untold_disk (history (refused.target_sends []).entries)
 unfolding reading fault_of tcode_of header_of offset_of rcode_of value_of length_of extended_of three four part_of is_to is_same asked_by begun_by belongs start_at lowest_from label_for free_from count_flying lowest_flying label_of with_label is_write kind_of slot_of window_at is_fifo point_step doorbell_step reset_step abort_step reply_step lost_step refusal verdict request_of check_of blank_bytes command_kind elements_from made block_head decide reads_eui live_login response_bytes start_step reply_step_of_manager decide_step fresh_id left_for enter_step back_step leave_step sum_of low_bits
-target_answers = record { packets = ((refl, λ e. record { in_generation = refl; spelled = record { packet = read_quadlet_response (journals.to_first 0) 0 (slice_index_or (made 0x0200000000000010 1) 0 0); canonical = refl; retry = refl; priority = refl; source = refl; destination = refl }; label = tt }), (tt, (tt, ((refl, λ e. absurd (cc e)), (tt, (tt, (tt, (tt, tt)))))))); answers = ((refl, tt), (tt, (tt, (tt, tt)))); requests = (λ e. tt, (λ e. tt, (λ e. cc e, (λ e. tt, tt)))); after = (record { agents = (tt, (tt, (tt, (tt, (tt, (tt, (tt, (tt, tt)))))))); management = tt; roms = (tt, (tt, tt)) }, (record { agents = (tt, (tt, (tt, (tt, (tt, (tt, (tt, (tt, tt)))))))); management = tt; roms = (tt, (tt, tt)) }, (record { agents = (tt, (tt, (tt, (tt, (tt, (tt, (tt, (tt, tt)))))))); management = tt; roms = (tt, (tt, tt)) }, (record { agents = (tt, (tt, (tt, (tt, (tt, (tt, (tt, (tt, tt)))))))); management = tt; roms = (tt, (tt, tt)) }, tt)))) }
+target_answers = record { packets = ((refl, λ e. record { in_generation = refl; spelled = record { packet = read_quadlet_response (journals.to_first 0) 0 (slice_index_or (made 0x0200000000000010 1) 0 0); canonical = refl; retry = refl; priority = refl; source = refl; destination = refl }; label = tt }), (tt, (tt, ((refl, λ e. absurd (cc e)), (tt, (tt, (tt, (tt, tt)))))))); answers = ((refl, tt), (tt, (tt, (tt, tt)))); requests = (λ e. tt, (λ e. tt, (λ e. cc e, (λ e. tt, tt)))); after = (record { agents = (tt, (tt, (tt, (tt, (tt, (tt, (tt, (tt, tt)))))))); management = tt; roms = (tt, (tt, tt)) }, (record { agents = (tt, (tt, (tt, (tt, (tt, (tt, (tt, (tt, tt)))))))); management = tt; roms = (tt, (tt, tt)) }, (record { agents = (tt, (tt, (tt, (tt, (tt, (tt, (tt, (tt, tt)))))))); management = tt; roms = (tt, (tt, tt)) }, (record { agents = (tt, (tt, (tt, (tt, (tt, (tt, (tt, (tt, tt)))))))); management = tt; roms = (tt, (tt, tt)) }, tt)))); statuses = (refl, (refl, (refl, (refl, tt)))); decisions = (refl, (refl, (refl, (refl, tt)))); asked = (tt, (tt, (tt, (tt, (tt, (tt, (tt, (tt, tt)))))))) }
 
 target_reads_the_other : LawfulForOthers (refused.target_sends (refused.reads_the_other ∷ [])) → ⊥
 unfolding reading fault_of tcode_of header_of offset_of rcode_of value_of length_of extended_of three four part_of is_to is_same asked_by begun_by belongs start_at lowest_from label_for free_from count_flying lowest_flying label_of with_label is_write kind_of slot_of window_at is_fifo point_step doorbell_step reset_step abort_step reply_step lost_step refusal verdict request_of check_of blank_bytes command_kind elements_from made block_head decide reads_eui live_login response_bytes start_step reply_step_of_manager decide_step fresh_id left_for enter_step back_step leave_step

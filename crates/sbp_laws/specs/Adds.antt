@@ -18,6 +18,8 @@ use Rattle.sbp_laws.specs.LoginLaw.{HasLogins}
 use Rattle.sbp_laws.specs.SentPackets.{SentAt}
 use Rattle.sbp_laws.specs.SentAnswers.{AnswersLaw}
 use Rattle.sbp_laws.specs.SentRequests.{RequestsLaw}
+use Rattle.sbp_laws.specs.SentWrites.{DecisionsAreSent, StatusesAreSent}
+use Rattle.sbp_laws.specs.Unasked.{NoneUnasked}
 use Rattle.sbp_laws.specs.SentLaw.{AfterTurn}
 use Rattle.sbp_laws.specs.MediaLaw.{HasPushes}
 use Rattle.sbp_laws.specs.ActionLaw.{Brings, Ordered}
@@ -47,6 +49,9 @@ pub record Adds (wild : ℕ → Bool) (start : List Disk) (past : List Moment) (
   pub media : EachTurnOf (HasPushes start) past line event told
   pub brings : Brings start past line event (reverse told)
   pub ordered : EachTurnOf Ordered past line event told
+  pub statuses : EachTurnOf (StatusesAreSent start) past line event told
+  pub decisions : EachTurnOf (DecisionsAreSent start) past line event told
+  pub asked : EachMomentOf (NoneUnasked start) past line event told
 
 -- Lawful of a run with one more entry is lawful of the run, and what the entry adds.
 abbrev pub AddsLawfully : Type 0

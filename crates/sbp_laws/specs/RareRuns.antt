@@ -162,6 +162,13 @@ labels_gone more =
     behind (begins ++ asked 2 (events.Act 0 (actions.Append test_ready)) ∷ said (notes.Append 0 0 0 ready_block Nothing) ∷ said (notes.Rung 0 0 0) ∷ map said (reads_under 64)
     ++ said (notes.Sent 65 0 1 0 pointer_packet) ∷ asked 3 (events.Deliver 65) ∷ said (notes.Got 65) ∷ []) more
 
+-- the read of its ORB has the last label, and is to time out
+abbrev pub last_label_gone : List Moment
+last_label_gone =
+    behind (begins ++ asked 2 (events.Act 0 (actions.Append test_ready)) ∷ said (notes.Append 0 0 0 ready_block Nothing) ∷ said (notes.Rung 0 0 0) ∷ map said (reads_under 63)
+    ++ said (notes.Sent 64 0 1 0 pointer_packet) ∷ asked 3 (events.Deliver 64) ∷ said (notes.Got 64) ∷ said (notes.Sent 65 0 0 1 (done_by_target 0 0))
+    ∷ said (notes.Sent 66 0 0 1 (fetch_packet 63 0x10000000)) ∷ asked 4 (events.Timeout 66) ∷ []) []
+
 -- its ORB is to be read as an operation of initiator 0 begins
 abbrev pub labels_gone_to_manager : List Note → List Moment
 labels_gone_to_manager more =

@@ -7,6 +7,10 @@ use Rattle.orb_layout.specs.declared.status.StatusKind.TheVariants as kinds
 use Rattle.orb_layout.specs.declared.ask.FailCause.TheVariants as causes
 use Rattle.orb_layout.specs.ManagementOrbs.{management_bytes}
 use Rattle.orb_layout.specs.Pointers.{quad_bytes}
+use Rattle.orb_layout.specs.StatusBlocks.{status_bytes}
+use Rattle.orb_layout.specs.QueryResponses.{query_bytes}
+use Rattle.orb_layout.specs.declared.management.ManagementOrb.{ManagementOrb}
+use Rattle.media_bay.specs.Unsolicited.{block}
 use Rattle.rbc_command.specs.declared.sense.Sense.{Sense}
 use Rattle.config_rom.specs.Make.{made}
 use Rattle.sbp_journal.specs.Run.{Run, Entry, Moment, asked, said}
@@ -21,6 +25,8 @@ use Rattle.sbp_journal.specs.declared.operation.FunctionWord.TheVariants as func
 use Rattle.sbp_journal.specs.declared.operation.Operation.TheVariants as operations
 use Rattle.sbp_journal.specs.declared.operation.OpWord.TheVariants as words
 use Rattle.sbp_laws.specs.Journals.{told, begins, appends_first, appended, resets, till_pointer, till_orb, till_status, points_agent, takes_status, ran, ended, two_appended, comes_again, rings_suspended, links_second, state_packet, target_id, first_id, second_id, header, to_target, to_first, done_by_target, done_by_first, fetch_packet, orb_packet, pointer_packet, status_packet, test_ready, ready_block, capacity_block, login_orb, block_of, write_block_0, two_begin, enables, loads, reads_login, begin_entry, append_entry, entry}
+use Rattle.sbp_laws.specs.Journals as journals
+use Rattle.sbp_laws.specs.Targets.{eui_of}
 use Rattle.sbp_laws.specs.WorkedRuns as runs
 use Rattle.sbp_laws.specs.WorkedRuns.{till_capacity}
 use Rattle.sbp_laws.specs.RareRuns as rare
@@ -428,3 +434,66 @@ abbrev pub wild_ends : Option Sense → List Moment
 wild_ends check =
     told (till_orb ++ asked 5 (events.Inject 0 rom_read) ∷ said (notes.Injected 5) ∷ said (notes.Sent 5 0 1 0 rom_read)
     ∷ asked 6 (events.Deliver 4) ∷ said (notes.Got 4) ∷ ran check ∷ [])
+
+-- ---- own words: the read of an ORB times out; an ORB that another one is linked behind comes, and ends with a status block of this head; an ORB
+-- ends with another block
+abbrev pub fetch_expires : List Moment
+fetch_expires = told (till_pointer ++ (points_agent ++ asked 4 (events.Timeout 3) ∷ []))
+
+abbrev pub fails_with : List Note → List Note
+fails_with more = rare.dies_of causes.Timeout kinds.Failed ++ more
+
+abbrev pub failed_status : (src : ℕ) → Note
+failed_status src = notes.Sent 4 0 0 1 (canon (write_block (to_first 1) 0x13000000 (status_bytes (record { src = src; kind = kinds.Failed; orb = 0x10000000 }))))
+
+abbrev pub linked_comes : List Moment
+linked_comes =
+    told (begins ++ (appends_first ++ (links_second
+    ++ said (notes.Got 1) ∷ said (notes.Sent 3 0 0 1 (done_by_target 0 0)) ∷ said (notes.Sent 4 0 0 1 (fetch_packet 0 0x10000000))
+    ∷ asked 5 (events.Deliver 4) ∷ said (notes.Got 4) ∷ said (notes.Sent 5 0 1 0 (orb_packet 0 0 0x10000040)) ∷ asked 6 (events.Deliver 5) ∷ [])))
+
+abbrev pub runs_and_ends : List Note
+runs_and_ends = notes.Ran 0 (Some 0) (Some 0) 0 ready_block [] None ∷ notes.Ended 0 (Some 0) (Some 0) kinds.Good ∷ []
+
+abbrev pub ends_linked : (head : ℕ) → List Note
+ends_linked head = runs_and_ends ++ notes.Sent 6 0 0 1 (status_packet head) ∷ fetches_ahead ∷ []
+
+abbrev pub ends_by : List ℕ → List Note
+ends_by bytes = runs_and_ends ++ notes.Sent 5 0 0 1 bytes ∷ []
+
+-- a login's response, or the status block behind it, is left out; and a query, which is answered with a login of this ID
+abbrev pub response_left_out : List Moment
+response_left_out = instead 1 (journals.responds 0xfffff0040000) []
+
+abbrev pub block_left_out : List Moment
+block_left_out = instead 6 runs.login_told []
+
+abbrev pub query_orb : ManagementOrb
+query_orb = record login_orb { function = 1; response_length = 100 }
+
+abbrev pub query_comes : List Moment
+query_comes =
+    told (begins ++ asked 2 (events.Act 0 (actions.Query 0)) ∷ said (notes.Sent 1 0 1 0 (canon (write_block (to_target 0) 0xfffff0010000 (quad_bytes (0 ∷ 0x12000000 ∷ [])))))
+    ∷ asked 3 events.Settle ∷ said (notes.Got 1) ∷ said (notes.Sent 2 0 0 1 (done_by_target 0 0)) ∷ said (notes.Sent 3 0 0 1 (fetch_packet 0 0x12000000))
+    ∷ said (notes.Got 2) ∷ said (notes.Got 3) ∷ said (notes.Sent 4 0 1 0 (canon (read_block_response (to_target 0) 0 (management_bytes query_orb)))) ∷ [])
+
+abbrev pub answers_query : (id : ℕ) → List Note
+answers_query id =
+    notes.Managed 0 functions.Query 0 0 None
+    ∷ notes.Sent 5 0 0 1 (canon (write_block (to_first 0) 0x12001000 (query_bytes (record { node = first_id; login = id; eui = eui_of 0 } ∷ [])))) ∷ []
+
+-- a next pointer is read again, and is null; a DOORBELL comes before it does, or none
+abbrev pub rereads : List Moment → List Moment
+rereads between =
+    told (rings_suspended ++ (said (notes.Sent 9 0 0 1 (canon (read_block (to_first 0) 0x10000000 8))) ∷ between
+    ++ (asked 8 (events.Deliver 9) ∷ said (notes.Got 9) ∷ said (notes.Sent 12 0 1 0 (canon (read_block_response (to_target 0) 0 (quad_bytes (0x80000000 ∷ 0 ∷ [])))))
+    ∷ asked 9 (events.Deliver 12) ∷ said (notes.Got 12) ∷ [])))
+
+abbrev pub rings_again : List Moment
+rings_again =
+    asked 6 (events.Act 0 actions.Ring) ∷ said (notes.Rung 0 0 0) ∷ said (notes.Sent 10 0 1 0 (canon (write_quadlet (to_target 1) 0xfffff0040010 2)))
+    ∷ asked 7 (events.Deliver 10) ∷ said (notes.Got 10) ∷ said (notes.Sent 11 0 0 1 (done_by_target 1 0)) ∷ []
+
+-- an unsolicited status is sent, of which no note tells
+abbrev pub tells_unannounced : List Moment
+tells_unannounced = told (two_begin ++ said (notes.Sent 1 0 0 2 (canon (write_block (to_second 0) 0x13000000 block))) ∷ [])

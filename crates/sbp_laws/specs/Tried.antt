@@ -4,8 +4,12 @@ use Rattle.orb_layout.specs.Pointers.{quad_bytes}
 use Rattle.rbc_disk.specs.Disk.{Disk}
 use Rattle.sbp_journal.specs.Run.{Moment, history, said}
 use Rattle.sbp_journal.specs.declared.note.Note.TheVariants as notes
-use Rattle.sbp_laws.specs.Turns.{EachTurn, turn}
-use Rattle.sbp_laws.specs.Targets.{target_at}
+use Rattle.sbp_laws.specs.Turns.{EachMoment, EachTurn, turn}
+use Rattle.sbp_laws.specs.Targets.{Agent, agent_at, over, target_at}
+use Rattle.sbp_laws.specs.Aborts.{AbortsStand}
+use Rattle.sbp_laws.specs.Decided.{DecisionStands}
+use Rattle.sbp_laws.specs.SentWrites.{DecisionsAreSent, StatusesAreSent}
+use Rattle.sbp_laws.specs.Unasked.{NoneUnasked}
 use Rattle.sbp_laws.specs.Deaths.{illegal_in, DeathsHaveRows, FailuresHaveRows, IllegalsHaveCodes}
 use Rattle.sbp_laws.specs.Lawful.{nobody, LawfulForOthers, Lawful}
 use Rattle.sbp_laws.specs.OnceLaw.{OnceLaw}
@@ -17,7 +21,7 @@ use Rattle.sbp_laws.specs.CarriedLaw.{CarriedLaw, EndsAsRead}
 use Rattle.sbp_laws.specs.CauseLaw.{CauseLaw}
 use Rattle.sbp_laws.specs.JudgementLaw.{JudgementLaw}
 use Rattle.sbp_laws.specs.LoginLaw.{LoginLaw}
-use Rattle.sbp_laws.specs.SentLaw.{SentLaw}
+use Rattle.sbp_laws.specs.SentLaw.{IsAtRest, SentLaw}
 use Rattle.sbp_laws.specs.MediaLaw.{MediaLaw}
 use Rattle.sbp_laws.specs.ActionLaw.{ActionLaw}
 use Rattle.sbp_laws.specs.Budget.{budget, Lossless}
@@ -399,3 +403,34 @@ pub record NamedTried : Type 0 where
   pub cut_unnamed : CauseLaw journals.one_disk (rare.cut_unnamed None)
   pub dies_named_since : CauseLaw journals.one_disk (rare.dies_unnamed (Some 0)) → ⊥
   pub cut_named_since : CauseLaw journals.one_disk (rare.cut_unnamed (Some 0)) → ⊥
+
+-- Sentences that stand in the subject's own words beside the steps of the machines: by packets that were got and sent, notes and tables. Each
+-- refuses its journal by itself, with no other law.
+pub record OwnTried : Type 0 where
+  pub abort_out_of_nothing : EachTurn (AbortsStand journals.one_disk) journals.aborted_unasked → ⊥
+  pub abort_passed_over : EachTurn (AbortsStand journals.one_disk) refused.aborted_left_out → ⊥
+  pub cut_left_out : EachTurn (DecisionStands journals.one_disk) (rare.abort_set []) → ⊥
+  pub cleared_left_out : EachTurn (DecisionStands journals.one_disk) (rare.unit_reset (notes.Cut 1 (Some 0) cuts.UnitReset ∷ notes.Managed 0 functions.UnitReset 1 0 None ∷ [])) → ⊥
+  pub left_left_out : EachTurn (DecisionStands journals.one_disk) refused.left_left_out → ⊥
+  pub end_without_status : EachTurn (StatusesAreSent journals.one_disk) journals.status_unsent → ⊥
+  pub failure_told : StatusesAreSent journals.one_disk (turn refused.fetch_expires (said (notes.TimedOut 3)) (refused.fails_with (refused.failed_status 1 ∷ [])))
+  pub failure_untold : StatusesAreSent journals.one_disk (turn refused.fetch_expires (said (notes.TimedOut 3)) (refused.fails_with [])) → ⊥
+  pub failure_told_as_linked : StatusesAreSent journals.one_disk (turn refused.fetch_expires (said (notes.TimedOut 3)) (refused.fails_with (refused.failed_status 0 ∷ []))) → ⊥
+  pub status_finds_no_label : StatusesAreSent journals.one_disk (turn rare.last_label_gone (said (notes.TimedOut 66)) (rare.dies_of causes.Timeout kinds.Failed))
+  pub last_told_as_linked : EachTurn (StatusesAreSent journals.one_disk) journals.status_src_0 → ⊥
+  pub linked_told : StatusesAreSent journals.one_disk (turn refused.linked_comes (said (notes.Got 5)) (refused.ends_linked 0x01000000))
+  pub linked_told_as_last : StatusesAreSent journals.one_disk (turn refused.linked_comes (said (notes.Got 5)) (refused.ends_linked 0x41000000)) → ⊥
+  pub status_to_other_fifo : StatusesAreSent journals.one_disk (turn (journals.told journals.till_orb) (said (notes.Got 4)) (refused.ends_by (refused.block_packet 0x13000020 0x41000000 0x10000000))) → ⊥
+  pub status_of_other_slot : StatusesAreSent journals.one_disk (turn (journals.told journals.till_orb) (said (notes.Got 4)) (refused.ends_by (refused.block_packet 0x13000000 0x41000000 0x10000040))) → ⊥
+  pub response_left_out : EachTurn (DecisionsAreSent journals.one_disk) refused.response_left_out → ⊥
+  pub response_otherwise : EachTurn (DecisionsAreSent journals.one_disk) (journals.responds 0xfffff0040020) → ⊥
+  pub query_answered : DecisionsAreSent journals.one_disk (turn refused.query_comes (said (notes.Got 4)) (refused.answers_query 1))
+  pub query_answered_otherwise : DecisionsAreSent journals.one_disk (turn refused.query_comes (said (notes.Got 4)) (refused.answers_query 2)) → ⊥
+  pub block_of_other_orb : EachTurn (DecisionsAreSent journals.one_disk) refused.management_status_elsewhere → ⊥
+  pub block_left_out : EachTurn (DecisionsAreSent journals.one_disk) refused.block_left_out → ⊥
+  pub rests : IsAtRest journals.one_disk (refused.rereads []) 0 (agent_at (over (target_at journals.one_disk (refused.rereads []))) 0)
+  pub rests_rung : (a : Agent) → IsAtRest journals.one_disk (refused.rereads refused.rings_again) 0 a → ⊥
+  pub rests_unanswered : (a : Agent) → IsAtRest journals.one_disk (journals.told journals.till_status) 0 a → ⊥
+  pub rests_linked : (a : Agent) → IsAtRest journals.one_disk (journals.told journals.second_linked) 0 a → ⊥
+  pub reads_unasked : EachMoment (NoneUnasked rare.untold_disk) (history (refused.target_sends (refused.reads_the_other ∷ [])).entries) → ⊥
+  pub status_unannounced : EachMoment (NoneUnasked journals.empty_bay) refused.tells_unannounced → ⊥

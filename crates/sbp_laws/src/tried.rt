@@ -1,4 +1,4 @@
-ghost use Rattle.sbp_laws.specs.Tried.{RunsTried, ActionTried, AnswerTried, BudgetTried, CarriedTried, CauseTried, ExecutionTried, JudgementTried, LoginTried, MediaTried, NamedTried, OnceTried, OrderTried, OthersTried, SentTried, StatusTried};
+ghost use Rattle.sbp_laws.specs.Tried.{RunsTried, ActionTried, AnswerTried, BudgetTried, CarriedTried, CauseTried, ExecutionTried, JudgementTried, LoginTried, MediaTried, NamedTried, OnceTried, OrderTried, OthersTried, OwnTried, SentTried, StatusTried};
 
 // Each law accepts a journal and refuses others that differ from it in a note.
 
@@ -95,4 +95,11 @@ pub fn others_tried()
 /// An injected pointer names a slot before an ORB is prepared there: its list has no name, and none later.
 pub fn named_tried()
     ensures { NamedTried }
+{}
+
+/// Sentences in the subject's own words, over packets that were got and sent, each of which refuses its
+/// journal by itself: ORBs that are aborted, what a decision brings and sends, the status behind an end,
+/// where an agent rests, and requests that nobody asked for.
+pub fn own_words_tried()
+    ensures { OwnTried }
 {}
