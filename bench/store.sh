@@ -26,8 +26,8 @@ ratio() {
 }
 
 few=$(cost 1000 200000)
-ratio "packets in flight" "$few" "$(($(cost 100000 200000) - $(cost 100000 1)))"
-ratio turns "$few" "$(cost 1000 400000)"
+ratio "200,000 turns beside 1,000 and 100,000 packets in flight" "$few" "$(($(cost 100000 200000) - $(cost 100000 1)))"
+ratio "200,000 and 400,000 turns" "$few" "$(cost 1000 400000)"
 
 # the instructions of a run
 count() {
