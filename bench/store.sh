@@ -7,11 +7,9 @@ set -e
 cd "$(dirname "$0")/.."
 work=$(mktemp -d)
 trap 'rm -r "$work"' EXIT
+git archive HEAD crates crates.txt HANDLES | tar x -C "$work"
 mkdir -p "$work/crates/store_bench/src"
-cp -r crates/sbp_base crates/async_packet crates/packet_store "$work/crates"
 cp bench/store/main.txt "$work/crates/store_bench/src/main.rt"
-cp HANDLES "$work"
-grep -E '^(sbp_base|async_packet|packet_store):' crates.txt > "$work/crates.txt"
 echo 'store_bench: sbp_base packet_store' >> "$work/crates.txt"
 (cd "$work/crates/store_bench" && rt run -- 1 1 > "$work/log" 2>&1) || { tail -5 "$work/log"; exit 1; }
 
