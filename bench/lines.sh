@@ -14,9 +14,14 @@ awk 'BEGIN {
 }' > "$work/run"
 cp examples/rom.hex "$work/rom"
 
-for word in decode run rom; do
+measure() {
+    local word=$2 count peak
     valgrind --tool=callgrind --callgrind-out-file=/dev/null "$program" "$word" < "$work/$word" 2> "$work/log" > "$work/out"
     count=$(awk '/Collected/ { print $4 }' "$work/log")
+    [ -n "$count" ] || { tail -n 3 "$work/log" >&2; exit 1; }
     peak=$(/usr/bin/time -f %M "$program" "$word" < "$work/$word" 2>&1 > "$work/out")
-    echo "$word: $count instructions, peak $peak kB"
-done
+    echo "$1: $count instructions, peak $peak kB"
+}
+measure "decode of 20,000 lines" decode
+measure "run of 10,000 appends" run
+measure "rom of examples/rom.hex" rom

@@ -5,7 +5,7 @@
 # them (about 10); `decode` over traces of 1 MB and 10 MB (about 10).
 # First build the program: cd crates/sbp2 && rt run -- run < stdin
 cd "$(dirname "$0")/.." || exit 1
-program=crates/sbp2/out/sbp2
+program=${1:-crates/sbp2/out/sbp2}
 work=$(mktemp -d)
 trap 'rm -r "$work"' EXIT
 
@@ -51,10 +51,10 @@ cost() {
 
 # both runs of a word, and their ratio
 compare() {
-    awk -v word="$1" -v a="$(cost "$1" "$2" "$3")" -v b="$(cost "$1" "$2" "$4")" \
-        'BEGIN { printf "%s: %d ms and %d ms, ratio %.2f\n", word, a, b, b / a }'
+    awk -v what="$1" -v a="$(cost "$2" "$3" "$4")" -v b="$(cost "$2" "$3" "$5")" \
+        'BEGIN { printf "%s: %d ms and %d ms, ratio %.2f\n", what, a, b, b / a }'
 }
 
-compare run appends 10000 20000
-compare run digits 250 2500
-compare decode trace 950 9500
+compare "run of 10,000 and 20,000 lines" run appends 10000 20000
+compare "run of 1 MB and 10 MB" run digits 250 2500
+compare "decode of 1 MB and 10 MB" decode trace 950 9500

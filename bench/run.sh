@@ -16,6 +16,8 @@ count() {
         awk '/Collected/ { print $4 }'
 }
 
+[ -n "$(count drill 1 1 < /dev/null)" ] || exit 1
+
 # fifteen lines `append 0 tur` and a `settle`, so many lines in all
 appends() {
     echo "begin 1 ready"
@@ -42,18 +44,20 @@ notes=$(wc -l < "$work/out")
 awk -v a="$all" -v n="$notes" 'BEGIN { printf "10,000 lines: %d instructions, %d notes, %d a note\n", a, n, a / n }'
 
 few=$(count drill 1 1000 < /dev/null) many=$(count drill 1 10000 < /dev/null)
-awk -v a="$few" -v b="$many" 'BEGIN { printf "drill 1 1000: %d, drill 1 10000: %d, ratio %.2f\n", a, b, b / a }'
+awk -v a="$few" -v b="$many" 'BEGIN { printf "drills of 1,000 and 10,000 commands: %d and %d instructions, ratio %.2f\n", a, b, b / a }'
 
 early=$(($(appends 3200 | count run) - $(appends 1600 | count run)))
 late=$(($(appends 64000 | count run) - $(appends 62400 | count run)))
-awk -v a="$early" -v b="$late" 'BEGIN { printf "a line: %d at the beginning, %d behind 62,400 lines, ratio %.2f\n", a / 1600, b / 1600, b / a }'
+awk -v a="$early" -v b="$late" 'BEGIN { printf "a line: %d instructions at the beginning, %d behind 62,400 lines, ratio %.2f\n", a / 1600, b / 1600, b / a }'
 
-request=FFC00140FFC1FFFFF0000400 response=FFC00120FFC1000000000000
-for packet in $request $response; do
-    few=$(($(flights $packet 10 2000 | count run) - $(flights $packet 10 1000 | count run)))
-    many=$(($(flights $packet 60000 2000 | count run) - $(flights $packet 60000 1000 | count run)))
-    awk -v p=$packet -v a="$few" -v b="$many" 'BEGIN { printf "two lines (%s): %d beside 10 packets in flight, %d beside 60,000, ratio %.2f\n", p, a / 1000, b / 1000, b / a }'
-done
+# what two lines cost that inject a packet, named so, and lose it
+pair() {
+    local few=$(($(flights "$2" 10 2000 | count run) - $(flights "$2" 10 1000 | count run)))
+    local many=$(($(flights "$2" 60000 2000 | count run) - $(flights "$2" 60000 1000 | count run)))
+    awk -v name="$1" -v a="$few" -v b="$many" 'BEGIN { printf "two lines (%s, injected and lost): %d instructions beside 10 packets in flight, %d beside 60,000, ratio %.2f\n", name, a / 1000, b / 1000, b / a }'
+}
+pair "a request" FFC00140FFC1FFFFF0000400
+pair "a response of one transaction" FFC00120FFC1000000000000
 
 writes > "$work/writes"
 valgrind --tool=massif --massif-out-file="$work/massif" "$program" run < "$work/writes" > "$work/out" 2> "$work/log"

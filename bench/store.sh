@@ -7,11 +7,9 @@ set -e
 cd "$(dirname "$0")/.."
 work=$(mktemp -d)
 trap 'rm -r "$work"' EXIT
+git archive HEAD crates crates.txt HANDLES | tar x -C "$work"
 mkdir -p "$work/crates/store_bench/src"
-cp -r crates/sbp_base crates/async_packet crates/packet_store "$work/crates"
 cp bench/store/main.txt "$work/crates/store_bench/src/main.rt"
-cp HANDLES "$work"
-grep -E '^(sbp_base|async_packet|packet_store):' crates.txt > "$work/crates.txt"
 echo 'store_bench: sbp_base packet_store' >> "$work/crates.txt"
 (cd "$work/crates/store_bench" && rt run -- 1 1 > "$work/log" 2>&1) || { tail -5 "$work/log"; exit 1; }
 
@@ -26,8 +24,8 @@ ratio() {
 }
 
 few=$(cost 1000 200000)
-ratio "packets in flight" "$few" "$(($(cost 100000 200000) - $(cost 100000 1)))"
-ratio turns "$few" "$(cost 1000 400000)"
+ratio "200,000 turns beside 1,000 and 100,000 packets in flight" "$few" "$(($(cost 100000 200000) - $(cost 100000 1)))"
+ratio "200,000 and 400,000 turns" "$few" "$(cost 1000 400000)"
 
 # the instructions of a run
 count() {

@@ -7,15 +7,10 @@ set -e
 cd "$(dirname "$0")/.."
 work=$(mktemp -d)
 trap 'rm -r "$work"' EXIT
-below='sbp_base rbc_command orb_layout rbc_disk async_packet label_table config_rom login_table mgmt_agent page_table command_agent media_bay line_text sbp_journal sbp_target'
+git archive HEAD crates crates.txt HANDLES | tar x -C "$work"
 mkdir -p "$work/crates/target_bench/src"
-for crate in $below; do
-    cp -r "crates/$crate" "$work/crates"
-    grep -E "^$crate:" crates.txt >> "$work/crates.txt"
-done
 cp bench/target/main.txt "$work/crates/target_bench/src/main.rt"
-cp HANDLES "$work"
-echo "target_bench: $below" >> "$work/crates.txt"
+echo 'target_bench: sbp_base async_packet rbc_disk sbp_journal sbp_target' >> "$work/crates.txt"
 (cd "$work/crates/target_bench" && rt run -- 1 1 > "$work/log" 2>&1) || { tail -5 "$work/log"; exit 1; }
 
 # the instructions of a run
