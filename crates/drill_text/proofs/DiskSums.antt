@@ -4,7 +4,7 @@ use Rattle.std.specs.Prelude.{IfSome}
 use Rattle.std.proofs.lemmas.List.{length-take-le, take_all}
 use Rattle.std.proofs.Math.Seq.{take-add}
 use Rattle.config_rom.specs.Sum.{quad_bits, register_after, sum_of}
-use Rattle.rbc_disk.specs.Disk.{Disk, IsSound, Gives}
+use Rattle.rbc_disk.specs.Disk.{Disk, IsSound}
 use Rattle.drill_text.specs.Sums.{quads_of, sum_of_bytes}
 use Rattle.drill_text.proofs.Quads.{quads-append, sum-goes-on}
 
@@ -52,12 +52,3 @@ summed_all disk lba sum sound e s =
     by_bytes : (bytes : Option (List ℕ)) → IfSome bytes (λ bs. length bs ≡ 512 * disk.blocks) → SummedTo bytes lba sum → IfSome bytes (λ bytes. sum ≡ sum_of_bytes bytes)
     by_bytes None w s = tt
     by_bytes (Some bytes) w s = s ∙ ap sum_of_bytes (take_all (512 * lba) bytes (omega arith))
-
--- a piece that was read is what the disk gives
-pub piece_given : (disk : Disk) (lba sum next : ℕ) (piece : List ℕ) (len : ℕ) → len ≡ length piece → Gives disk lba piece → next ≡ register_after sum (quad_bits (quads_of piece)) → GoesOver disk.bytes lba len sum next
-piece_given disk lba sum next piece len l g e =
-    by_bytes disk.bytes g
-  where
-    by_bytes : (bytes : Option (List ℕ)) → IfSome bytes (λ bytes. piece ≡ take (length piece) (drop (512 * lba) bytes)) → GoesOver bytes lba len sum next
-    by_bytes None g = tt
-    by_bytes (Some bytes) g = e ∙ ap (λ xs. register_after sum (quad_bits (quads_of xs))) (g ∙ ap (λ k. take k (drop (512 * lba) bytes)) (sym l))

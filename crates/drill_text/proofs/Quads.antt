@@ -14,19 +14,6 @@ quads-next s (a ∷ b ∷ []) h = absurd (omega arith)
 quads-next s (a ∷ b ∷ c ∷ []) h = absurd (omega arith)
 quads-next s (a ∷ b ∷ c ∷ d ∷ xs) h = sym (register-append s (low_bits 32 (quadlet a b c d)) (quad_bits (quads_of xs)))
 
--- the last bytes, which are fewer
-pub quads-last : (s : ℕ) (xs : List ℕ) → 1 ≤ length xs → length xs ≤ 3
-    → register_after s (low_bits 32 (quadlet (get_or xs 0 0) (get_or xs 1 0) (get_or xs 2 0) 0)) ≡ register_after s (quad_bits (quads_of xs))
-quads-last s [] h k = absurd (omega arith)
-quads-last s (a ∷ []) h k = sym (register-append s (low_bits 32 (quadlet a 0 0 0)) [])
-quads-last s (a ∷ b ∷ []) h k = sym (register-append s (low_bits 32 (quadlet a b 0 0)) [])
-quads-last s (a ∷ b ∷ c ∷ []) h k = sym (register-append s (low_bits 32 (quadlet a b c 0)) [])
-quads-last s (a ∷ b ∷ c ∷ d ∷ xs) h k = absurd (omega arith)
-
-pub quads-none : (s : ℕ) (xs : List ℕ) → length xs ≡ 0 → s ≡ register_after s (quad_bits (quads_of xs))
-quads-none s [] h = refl
-quads-none s (a ∷ xs) h = absurd (omega arith)
-
 -- ---- whole quadlets
 
 pub quad_bits-append : (xs ys : List ℕ) → quad_bits (xs ++ ys) ≡ quad_bits xs ++ quad_bits ys

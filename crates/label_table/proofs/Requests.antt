@@ -41,6 +41,3 @@ label_fits bytes = omega arith
 
 pub label_spelled : (bytes : List ℕ) (p : Packet) → IsRequestOf bytes p → (header_in p).label < 2 ^ 6
 label_spelled bytes p r = rw (header_spelled bytes p r.spelled) (label_fits bytes)
-
-pub request_of : (bytes : List ℕ) (p : Packet) → IsRequestOf bytes p → IsRequest bytes
-request_of bytes p r = record { packet = p; spelled = r.spelled; asks = r.asks }

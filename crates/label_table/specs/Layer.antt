@@ -138,10 +138,6 @@ module _ {P : Type 0} where
   judged_by by_request layer bytes (Ok p) = (of_request p, layer)
   judged_by _ layer bytes (Err fault) = (of_grammar, layer)
 
-  -- a packet of the node's generation
-  abbrev pub judged_packet : Layer P → List ℕ → Packet → Finding P × Layer P
-  judged_packet layer bytes p = judged_by (row_of (facts_in layer layer.generation bytes (Ok p))) layer bytes (Ok p)
-
   unfoldable pub judging_step : Layer P → ℕ → List ℕ → Finding P × Layer P
   judging_step layer generation bytes =
       judged_by (row_of (facts_of layer generation bytes)) layer bytes (reading bytes)

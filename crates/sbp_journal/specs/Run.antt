@@ -15,10 +15,6 @@ pub record Run : Type 0 where
   pub start : List Disk
   pub entries : List Entry
 
--- the run before any line
-abbrev pub empty_run : List Disk → Run
-empty_run start = record { start = start; entries = [] }
-
 -- the run with one more entry
 abbrev pub with_entry : Run → ℕ → Event → List Note → Run
 with_entry run line event notes = record run { entries = record { line = line; event = event; notes = notes } ∷ run.entries }
