@@ -4,8 +4,7 @@ use Rattle.sbp_laws.specs.Journals as journals
 use Rattle.sbp_laws.specs.Tried.{CauseTried}
 use Rattle.sbp_laws.specs.CauseLaw.{CauseLaw}
 use Rattle.sbp_journal.specs.Run.{said}
-use Rattle.sbp_laws.specs.Turns.{EachTurn, turn}
-use Rattle.sbp_laws.specs.Aborts.{AbortsStand}
+use Rattle.sbp_laws.specs.Turns.{turn}
 use Rattle.sbp_laws.specs.Targets.{target_at}
 use Rattle.sbp_laws.specs.Deaths.{illegal_in, DeathsHaveRows, FailuresHaveRows, IllegalsHaveCodes}
 use Rattle.async_packet.specs.Reading.{reading}
@@ -38,7 +37,7 @@ use Rattle.orb_layout.specs.declared.ask.FailCause.TheVariants as causes
 use Rattle.sbp_journal.specs.declared.cause.CutCause.TheVariants as cuts
 use Rattle.sbp_journal.specs.declared.operation.FunctionWord.TheVariants as functions
 use Rattle.sbp_journal.specs.declared.note.Note.TheVariants as notes
-use Rattle.std.specs.Prelude.{true, false, Some, None, List, ℕ}
+use Rattle.std.specs.Prelude.{Some, None, List, ℕ}
 use Rattle.orb_layout.specs.Pointers.{quad_bytes}
 use Rattle.sbp_journal.specs.declared.note.Note.{Note}
 use Rattle.orb_layout.specs.declared.status.StatusKind.{StatusKind}

@@ -1,5 +1,5 @@
 -- The journals that the sentences in the subject's own words were tried on, each by itself.
-use Rattle.std.proofs.Common.{◌≡◌, ℕ, List, [], ◌∷◌, ◌++◌, refl, ap, arith}
+use Rattle.std.proofs.Common.{◌≡◌, ℕ, List, [], ◌∷◌, refl, ap, arith}
 use Rattle.std.specs.Prelude.{true, false, Some, None, slice_index}
 use Rattle.orb_layout.specs.declared.ask.FailCause.TheVariants as causes
 use Rattle.orb_layout.specs.declared.status.StatusKind.TheVariants as kinds
@@ -36,7 +36,6 @@ use Rattle.rbc_disk.specs.Disk.{blank_bytes}
 use Rattle.orb_layout.specs.StatusBlocks.{command_kind}
 use Rattle.page_table.specs.Elements.{elements_from}
 use Rattle.config_rom.specs.Make.{made}
-use Rattle.config_rom.specs.Sum.{sum_of, low_bits}
 use Rattle.media_bay.specs.Unsolicited.{block_head}
 use Rattle.mgmt_agent.specs.Decisions.{decide, reads_eui, live_login, response_bytes}
 use Rattle.mgmt_agent.specs.Machine.{start_step, reply_step as reply_step_of_manager, decide_step}
