@@ -1,5 +1,4 @@
 -- Deliveries one after the other are determined: each by the lowest packet in flight, and how many there are.
-use Rattle.std.proofs.Math.Option.{some-injective}
 use Rattle.std.proofs.Common.{◌≡◌, ◌∙◌, ℕ, suc, ◌+◌, ◌≤◌, ◌⊎◌, Bool, List, [], ◌∷◌, Some, None, true≢false, refl, sym, ap, subst, inl, inr, arith}
 use Rattle.rbc_disk.specs.Disk.{Disk}
 use Rattle.sbp_journal.specs.Run.{Moment, said}
@@ -21,9 +20,9 @@ first_note disks past serial = (verdict_of disks (turn past (said notes.Tick) []
 
 pub is_first : (telling : Telling) (disks : List Disk) (past : List Moment) (note : Note) (rest : List Note) (serial : ℕ) → delivered_by note ≡ Some serial → Holds telling disks (turn past (said note) rest) → note ≡ first_note disks past serial
 is_first telling disks past (notes.Got other) rest serial e h =
-    sym h.judges ∙ ap (λ v. v.note) (same_verdict disks past (said (notes.Got other)) (said notes.Tick) rest [] other) ∙ ap (first_note disks past) (some-injective other serial e)
+    sym h.judges ∙ ap (λ v. v.note) (same_verdict disks past (said (notes.Got other)) (said notes.Tick) rest [] other) ∙ ap (first_note disks past) (let same : other ≡ serial = cc e in same)
 is_first telling disks past (notes.Ignored other cause) rest serial e h =
-    sym h.judges.0 ∙ ap (λ v. v.note) (same_verdict disks past (said (notes.Ignored other cause)) (said notes.Tick) rest [] other) ∙ ap (first_note disks past) (some-injective other serial e)
+    sym h.judges.0 ∙ ap (λ v. v.note) (same_verdict disks past (said (notes.Ignored other cause)) (said notes.Tick) rest [] other) ∙ ap (first_note disks past) (let same : other ≡ serial = cc e in same)
 is_first telling disks past note rest serial e h = absurd (let no : None ≡ Some serial = e in cc)
 
 -- this note begins a turn
@@ -144,7 +143,7 @@ module _ (wild : ℕ → Bool) (telling : Telling) (disks : List Disk) where
             ∙ ap (λ n. n ∷ next.rest) same ∙ sym next.is
           where
             serials : next.serial ≡ serial
-            serials = some-injective next.serial serial (sym next.flies ∙ here.flies)
+            serials = cc (sym next.flies ∙ here.flies)
 
             same : first ≡ next.first
             same =

@@ -1,5 +1,5 @@
 -- The journals that the sentences in the subject's own words were tried on, each by itself.
-use Rattle.std.proofs.Common.{◌≡◌, ℕ, List, [], ◌∷◌, ◌++◌, refl, ap, arith}
+use Rattle.std.proofs.Common.{◌≡◌, ℕ, List, [], ◌∷◌, refl, ap, arith}
 use Rattle.std.specs.Prelude.{true, false, Some, None, slice_index}
 use Rattle.orb_layout.specs.declared.ask.FailCause.TheVariants as causes
 use Rattle.orb_layout.specs.declared.status.StatusKind.TheVariants as kinds
@@ -12,7 +12,7 @@ use Rattle.sbp_laws.specs.Targets.{Agent, agent_at, over, target_at}
 use Rattle.sbp_laws.specs.Aborts.{AbortsStand}
 use Rattle.sbp_laws.specs.Decided.{DecisionStands}
 use Rattle.sbp_laws.specs.SentLaw.{IsAtRest}
-use Rattle.sbp_laws.specs.SentWrites.{DecisionsAreSent, NodeWrite, StatusesAreSent}
+use Rattle.sbp_laws.specs.SentWrites.{DecisionsAreSent, NodeWrite, StatusesAreSent, ends_silently}
 use Rattle.sbp_laws.specs.Unasked.{NoneUnasked}
 use Rattle.sbp_laws.specs.Journals as journals
 use Rattle.sbp_laws.specs.RareRuns as rare
@@ -36,7 +36,6 @@ use Rattle.rbc_disk.specs.Disk.{blank_bytes}
 use Rattle.orb_layout.specs.StatusBlocks.{command_kind}
 use Rattle.page_table.specs.Elements.{elements_from}
 use Rattle.config_rom.specs.Make.{made}
-use Rattle.config_rom.specs.Sum.{sum_of, low_bits}
 use Rattle.media_bay.specs.Unsolicited.{block_head}
 use Rattle.mgmt_agent.specs.Decisions.{decide, reads_eui, live_login, response_bytes}
 use Rattle.mgmt_agent.specs.Machine.{start_step, reply_step as reply_step_of_manager, decide_step}
@@ -159,5 +158,13 @@ status_unannounced : EachMoment (NoneUnasked journals.empty_bay) refused.tells_u
 unfolding reading fault_of tcode_of header_of offset_of rcode_of value_of length_of extended_of three four part_of is_to is_same asked_by begun_by belongs start_at lowest_from label_for free_from count_flying lowest_flying label_of with_label is_write kind_of slot_of window_at is_fifo point_step doorbell_step reset_step abort_step reply_step lost_step refusal verdict request_of check_of blank_bytes command_kind elements_from made block_head decide reads_eui live_login response_bytes start_step reply_step_of_manager decide_step fresh_id left_for enter_step back_step leave_step
 status_unannounced = λ law. let bad : false ≡ true = law.0 in cc bad
 
+ends_without_death : ends_silently journals.one_disk (turn rare.last_label_gone (said (notes.TimedOut 66)) refused.fails_alone) ≡ false → ⊥
+unfolding reading fault_of tcode_of header_of offset_of rcode_of value_of length_of extended_of three four part_of is_to is_same asked_by begun_by belongs start_at lowest_from label_for free_from count_flying lowest_flying label_of with_label is_write kind_of slot_of window_at is_fifo point_step doorbell_step reset_step abort_step reply_step lost_step refusal verdict request_of check_of blank_bytes command_kind elements_from made block_head decide reads_eui live_login response_bytes start_step reply_step_of_manager decide_step fresh_id left_for enter_step back_step leave_step
+ends_without_death = λ law. let bad : true ≡ false = law in cc bad
+
+ends_behind_death : ends_silently journals.one_disk (turn rare.last_label_gone (said (notes.TimedOut 66)) (rare.dies_of causes.Timeout kinds.Failed)) ≡ false
+unfolding reading fault_of tcode_of header_of offset_of rcode_of value_of length_of extended_of three four part_of is_to is_same asked_by begun_by belongs start_at lowest_from label_for free_from count_flying lowest_flying label_of with_label is_write kind_of slot_of window_at is_fifo point_step doorbell_step reset_step abort_step reply_step lost_step refusal verdict request_of check_of blank_bytes command_kind elements_from made block_head decide reads_eui live_login response_bytes start_step reply_step_of_manager decide_step fresh_id left_for enter_step back_step leave_step
+ends_behind_death = refl
+
 pub tried : OwnTried
-tried = record { abort_out_of_nothing = abort_out_of_nothing; abort_passed_over = abort_passed_over; cut_left_out = cut_left_out; cleared_left_out = cleared_left_out; left_left_out = left_left_out; end_without_status = end_without_status; failure_told = failure_told; failure_untold = failure_untold; failure_told_as_linked = failure_told_as_linked; status_finds_no_label = status_finds_no_label; last_told_as_linked = last_told_as_linked; linked_told = linked_told; linked_told_as_last = linked_told_as_last; status_to_other_fifo = status_to_other_fifo; status_of_other_slot = status_of_other_slot; response_left_out = response_left_out; response_otherwise = response_otherwise; query_answered = query_answered; query_answered_otherwise = query_answered_otherwise; block_of_other_orb = block_of_other_orb; block_left_out = block_left_out; rests = rests; rests_rung = rests_rung; rests_unanswered = rests_unanswered; rests_linked = rests_linked; reads_unasked = reads_unasked; status_unannounced = status_unannounced }
+tried = record { ends_without_death = ends_without_death; ends_behind_death = ends_behind_death; abort_out_of_nothing = abort_out_of_nothing; abort_passed_over = abort_passed_over; cut_left_out = cut_left_out; cleared_left_out = cleared_left_out; left_left_out = left_left_out; end_without_status = end_without_status; failure_told = failure_told; failure_untold = failure_untold; failure_told_as_linked = failure_told_as_linked; status_finds_no_label = status_finds_no_label; last_told_as_linked = last_told_as_linked; linked_told = linked_told; linked_told_as_last = linked_told_as_last; status_to_other_fifo = status_to_other_fifo; status_of_other_slot = status_of_other_slot; response_left_out = response_left_out; response_otherwise = response_otherwise; query_answered = query_answered; query_answered_otherwise = query_answered_otherwise; block_of_other_orb = block_of_other_orb; block_left_out = block_left_out; rests = rests; rests_rung = rests_rung; rests_unanswered = rests_unanswered; rests_linked = rests_linked; reads_unasked = reads_unasked; status_unannounced = status_unannounced }

@@ -1,6 +1,6 @@
 -- The journals that the sent law was tried on.
 use Rattle.std.proofs.Common.{◌≡◌, ℕ, List, [], ◌∷◌, ◌++◌, refl, ap, arith}
-use Rattle.std.specs.Prelude.{true, false, Some, None, slice_index}
+use Rattle.std.specs.Prelude.{Some, None, slice_index}
 use Rattle.orb_layout.specs.Pointers.{quad_bytes}
 use Rattle.async_packet.specs.Packet.{write_block, write_response, read_block, read_block_response}
 use Rattle.sbp_journal.specs.Run.{said}
@@ -16,7 +16,6 @@ use Rattle.sbp_laws.specs.SentRequests.{RequestsLaw}
 use Rattle.sbp_laws.specs.SentWrites.{DecisionsAreSent, StatusesAreSent}
 use Rattle.sbp_laws.specs.Unasked.{NoneUnasked}
 use Rattle.sbp_laws.specs.Turns.{turn}
-use Rattle.orb_layout.specs.declared.ask.FailCause.TheVariants as causes
 use Rattle.orb_layout.specs.declared.status.StatusKind.TheVariants as kinds
 use Rattle.async_packet.specs.Reading.{reading}
 use Rattle.async_packet.specs.Faults.{fault_of}

@@ -20,6 +20,7 @@ use Rattle.sbp_laws.specs.Management.{cuts_due, cleared_due, failures_due}
 use Rattle.sbp_laws.specs.Operations.{operation_notes}
 use Rattle.sbp_laws.specs.Aborts.{AbortsStand}
 use Rattle.sbp_laws.specs.Decided.{DecisionStands}
+use Rattle.sbp_laws.specs.SentWrites.{ends_silently}
 use Rattle.sbp_laws.specs.NoteKinds.{is_cut_note, is_cleared_note, is_failure_note, is_end_note, is_operation_note, of_kind}
 use Rattle.sbp_laws.specs.Deaths.{dies_again, ends_due, illegal_in, DeathsHaveRows, DiesUnserved, FailuresHaveRows, FaultsFollowDeaths, IllegalsHaveCodes}
 
@@ -38,6 +39,7 @@ pub record HasCauses (disks : List Disk) (t : Turn) : Type 0 where
   pub once : dies_again disks t ≡ false
   pub aborts : AbortsStand disks t
   pub decided : DecisionStands disks t
+  pub silent : ends_silently disks t ≡ false
 
 -- ---- aborted ORBs
 -- An `mgmt I abort` with 00 came for this very ORB, which had neither run nor ended then: the management ORB that the target got for it has

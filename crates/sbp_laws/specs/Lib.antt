@@ -21,6 +21,8 @@ pub mod Deaths
 pub mod Aborts
 pub mod LoginLaw
 pub mod Decided
+pub mod Progress
+pub mod SentWrites
 pub mod CauseLaw
 pub mod MediaLaw
 pub mod Served
@@ -28,8 +30,6 @@ pub mod Actions
 pub mod SentPackets
 pub mod SentAnswers
 pub mod SentRequests
-pub mod Progress
-pub mod SentWrites
 pub mod Unasked
 pub mod SentLaw
 pub mod Budget

@@ -443,6 +443,9 @@ fetch_expires = told (till_pointer ++ (points_agent ++ asked 4 (events.Timeout 3
 abbrev pub fails_with : List Note → List Note
 fails_with more = rare.dies_of causes.Timeout kinds.Failed ++ more
 
+abbrev pub fails_alone : List Note
+fails_alone = notes.Ended 0 (Some 0) (Some 0) kinds.Failed ∷ []
+
 abbrev pub failed_status : (src : ℕ) → Note
 failed_status src = notes.Sent 4 0 0 1 (canon (write_block (to_first 1) 0x13000000 (status_bytes (record { src = src; kind = kinds.Failed; orb = 0x10000000 }))))
 

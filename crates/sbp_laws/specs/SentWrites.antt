@@ -2,8 +2,8 @@
 -- sends one write to its initiator: the status of that end, with the address of the ORB's slot, to the FIFO of the login, with src 0 exactly
 -- where the next pointer last got of the ORB is not null. Behind each decision it sends one write: the response, cut to the length that the
 -- management ORB allows, to the address that this names, or, where it has no byte, the status block to its FIFO; and that block behind the
--- answer to the response. A write that finds no label is not sent.
-use Rattle.std.specs.Prelude.{◌≡◌, ℕ, zero, suc, ◌+◌, ◌*◌, ◌==◌, Bool, true, false, if◌then◌else◌, List, [], ◌∷◌, ◌++◌, length, take, Option, Some, None}
+-- answer to the response. A write that finds no label is not sent; where that is the status of an end, the turn has a `dead`.
+use Rattle.std.specs.Prelude.{◌≡◌, ℕ, zero, suc, ◌==◌, ◌&&◌, Bool, true, false, if◌then◌else◌, List, [], ◌∷◌, ◌++◌, take, Option, Some, None}
 use Rattle.orb_layout.specs.declared.management.ManagementOrb.{ManagementOrb}
 use Rattle.orb_layout.specs.declared.pointer.OrbPointer.{OrbPointer}
 use Rattle.orb_layout.specs.declared.pointer.OrbPointer.TheVariants.{Null, At}
@@ -30,6 +30,7 @@ use Rattle.sbp_laws.specs.Packets.{access_at, access_in_bytes, finds_label}
 use Rattle.sbp_laws.specs.Lists.{slot_at}
 use Rattle.sbp_laws.specs.Targets.{Target, Decided, agent_at, login_at, target_at}
 use Rattle.sbp_laws.specs.Agents.{Event, replies, writes, nothing, agent_event, fifo_in, target_before, wire_after}
+use Rattle.sbp_laws.specs.Deaths.{deaths_in}
 use Rattle.sbp_laws.specs.Management.{Call, answers, began_with, call_of, operator_of}
 use Rattle.sbp_laws.specs.Progress.{progress}
 use Rattle.sbp_laws.specs.Decided.{Decision, decision_in, response_due}
@@ -110,6 +111,18 @@ statuses_due disks t (Some end) = served t (status_of disks t (place_in (agent_e
 -- Behind an end its initiator is sent its status, where the write finds a label, and no other write.
 abbrev pub StatusesAreSent : List Disk → Turn → Type 0
 StatusesAreSent disks t = end_writes t (end_in t.rest) ≡ statuses_due disks t (end_in t.rest)
+
+-- an end whose status finds no label, and no `dead` beside it
+abbrev pub is_unsent : List NodeWrite → Bool
+is_unsent [] = true
+is_unsent (write ∷ more) = false
+
+abbrev pub lacks_death : List Disk → Turn → Option End → Bool
+lacks_death disks t None = false
+lacks_death disks t (Some end) = is_unsent (statuses_due disks t (Some end)) && (deaths_in t == 0)
+
+abbrev pub ends_silently : List Disk → Turn → Bool
+ends_silently disks t = lacks_death disks t (end_in t.rest)
 
 -- ---- the response and the status block of a decision
 -- the address of the management ORB: the one that the write of MANAGEMENT_AGENT named

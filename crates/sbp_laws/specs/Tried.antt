@@ -8,7 +8,7 @@ use Rattle.sbp_laws.specs.Turns.{EachMoment, EachTurn, turn}
 use Rattle.sbp_laws.specs.Targets.{Agent, agent_at, over, target_at}
 use Rattle.sbp_laws.specs.Aborts.{AbortsStand}
 use Rattle.sbp_laws.specs.Decided.{DecisionStands}
-use Rattle.sbp_laws.specs.SentWrites.{DecisionsAreSent, StatusesAreSent}
+use Rattle.sbp_laws.specs.SentWrites.{DecisionsAreSent, StatusesAreSent, ends_silently}
 use Rattle.sbp_laws.specs.Unasked.{NoneUnasked}
 use Rattle.sbp_laws.specs.Deaths.{illegal_in, DeathsHaveRows, FailuresHaveRows, IllegalsHaveCodes}
 use Rattle.sbp_laws.specs.Lawful.{nobody, LawfulForOthers, Lawful}
@@ -417,6 +417,8 @@ pub record OwnTried : Type 0 where
   pub failure_untold : StatusesAreSent journals.one_disk (turn refused.fetch_expires (said (notes.TimedOut 3)) (refused.fails_with [])) → ⊥
   pub failure_told_as_linked : StatusesAreSent journals.one_disk (turn refused.fetch_expires (said (notes.TimedOut 3)) (refused.fails_with (refused.failed_status 0 ∷ []))) → ⊥
   pub status_finds_no_label : StatusesAreSent journals.one_disk (turn rare.last_label_gone (said (notes.TimedOut 66)) (rare.dies_of causes.Timeout kinds.Failed))
+  pub ends_without_death : ends_silently journals.one_disk (turn rare.last_label_gone (said (notes.TimedOut 66)) refused.fails_alone) ≡ false → ⊥
+  pub ends_behind_death : ends_silently journals.one_disk (turn rare.last_label_gone (said (notes.TimedOut 66)) (rare.dies_of causes.Timeout kinds.Failed)) ≡ false
   pub last_told_as_linked : EachTurn (StatusesAreSent journals.one_disk) journals.status_src_0 → ⊥
   pub linked_told : StatusesAreSent journals.one_disk (turn refused.linked_comes (said (notes.Got 5)) (refused.ends_linked 0x01000000))
   pub linked_told_as_last : StatusesAreSent journals.one_disk (turn refused.linked_comes (said (notes.Got 5)) (refused.ends_linked 0x41000000)) → ⊥
