@@ -42,8 +42,7 @@ impl Packets {
     pub(crate) fn get(&self, serial: u64) -> Option<&Kept>
         ensures { option_copied result ≡ holds self.now serial }
     {
-        let key = self.key_of(serial)?;
-        self.slab.get(key)
+        self.slab.get(self.key_of(serial)?)
     }
 
     /// The key of the packet of a serial.

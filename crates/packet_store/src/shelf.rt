@@ -15,7 +15,7 @@ use std::alloc::Global;
 use std::marker::Model;
 
 /// Packets, with the serial of the last one that was put there, how many there are, and what is in
-/// flight of them. The bytes of packets that were taken out are set aside: their room serves for others.
+/// flight of them. The bytes of four packets that were taken out, at most, are set aside for others.
 #[derive(Drop)]
 pub(crate) struct Shelf {
     packets: Packets,
@@ -26,7 +26,7 @@ pub(crate) struct Shelf {
 }
 
 impl Model for Shelf {
-    ghost use Rattle.std.specs.Prelude.{List};
+    ghost use Rattle.std.specs.Prelude.{◌≤◌, List, length};
     ghost use Rattle.packet_store.specs.declared.sent.Kept.{Kept};
     ghost use Rattle.packet_store.specs.Packets.{holds};
     ghost use Rattle.packet_store.specs.Shelves.{listed, IsShelf};
@@ -36,7 +36,7 @@ impl Model for Shelf {
 
     ghost view = { λ a. listed (holds a.packets) a.last };
 
-    ghost invariant = { λ a. IsShelf a.packets a.last a.count × AreFlights a.packets a.last a.flights };
+    ghost invariant = { λ a. IsShelf a.packets a.last a.count × AreFlights a.packets a.last a.flights × (length a.spares.items ≤ 4) };
 }
 
 impl Shelf {

@@ -77,8 +77,7 @@ impl Store {
     pub fn get(&self, serial: u64) -> Option<&Sent>
         ensures { option_copied result ≡ found_sent serial self.now.kept }
     {
-        let kept = self.tables.shelf.get(serial)?;
-        Some(&kept.sent)
+        Some(&self.tables.shelf.get(serial)?.sent)
     }
 
     /// Whether a serial is in flight.

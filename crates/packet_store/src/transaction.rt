@@ -18,7 +18,6 @@ pub struct Transaction {
     pub label: u8,
 }
 
-/// By one write, as a map is asked for each packet.
 impl Hash for Transaction {
     ghost hash_input = { λ t. fed.u64 (number_of t) };
 

@@ -1,4 +1,4 @@
-use Rattle.std.proofs.Common.{◌≡◌, ◌∙◌, refl, sym, None, Some}
+use Rattle.std.proofs.Common.{◌≡◌, ◌∙◌, refl, sym, None, Some, arith}
 use Rattle.packet_store.proofs.shelf.Shelf.new.Goals as goal
 
 pub invariant_of-result : goal.invariant_of-result
@@ -12,4 +12,5 @@ invariant_of-result c =
         counted = refl;
       },
       record { lowest = λ q. rw (none q) refl; counted = refl },
+      omega arith,
     )

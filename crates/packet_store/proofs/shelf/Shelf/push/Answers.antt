@@ -36,6 +36,7 @@ invariant_of-self-2 c =
     let b = subst (AreBelow k.serial) (sym c.self.view_is) c.requires.above in (
       pushed_shelf s.packets c.put.new.self k s.last s.count c.self.invariant.0 c.put.ensures.exact c.in_ok-put.ensures.put c.requires.counted b,
       pushed_flights s.packets c.put.new.self k s.last s.count s.flights c.take_off.new.self c.self.invariant.0 c.self.invariant.1 c.in_ok-put.ensures.put c.requires.counted b refl c.take_off.ensures.lowest c.take_off.ensures.count,
+      c.self.invariant.2,
     )
 
 pub returns-clause-pushed : goal.returns-clause-pushed
