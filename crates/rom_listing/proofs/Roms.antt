@@ -8,8 +8,8 @@ use Rattle.line_session.specs.Meaning.{Serves}
 use Rattle.line_session.specs.declared.serve.LineError.{LineError}
 use Rattle.line_session.specs.declared.serve.LineError.TheVariants.{Fault, NoMemory}
 use Rattle.line_text.specs.Digits.{spelled}
-use Rattle.rom_listing.specs.RomListing.{onto_rom, rom_from, with_line, with_spelled, rom_listing}
-use Rattle.rom_listing.specs.Meaning.{GatheredSo, ListedSo, RefusedSo, rom_meaning, Gathers}
+use Rattle.rom_listing.specs.RomListing.{onto_rom, rom_from, with_line, with_spelled}
+use Rattle.rom_listing.specs.Meaning.{GatheredSo, RefusedSo, rom_meaning, Gathers}
 
 onto-behind : (n : ℕ) (read : Result (List ℕ) ℕ) (rest : List ℕ → Result (List ℕ) (ℕ × ℕ)) (quads : List ℕ) → onto_rom n read rest ≡ Ok quads → (before : List ℕ) × (read ≡ Ok before) × (rest before ≡ Ok quads)
 onto-behind n (Ok before) rest quads h = (before, refl, h)
@@ -52,12 +52,3 @@ gathers (Ok done) number line out old new start media served front few short t k
 gathers (Err (Fault fault)) number line out old new start media served front few short t kept e h =
     (λ quads read. ap (λ q. with_line (1 + length served) q line) (same_quads quads old _ read h.read) ∙ within (1 + length served) old line (omega arith) short ∙ t, (old, h))
 gathers (Err NoMemory) number line out old new start media served front few short t kept e h = refl
-
-empty_text : (front out listing : List ℕ) → front ++ out ≡ [] → front ++ (out ++ listing) ≡ listing
-empty_text [] [] listing e = refl
-empty_text (x ∷ front) out listing e = cc e
-empty_text [] (x ∷ out) listing e = cc e
-
--- the quadlets are listed at the end
-pub closes : (out new quads : List ℕ) (start media : Held) (served : List (List ℕ)) (front : List ℕ) → new ≡ out ++ rom_listing quads → GatheredSo start served (front ++ out) quads media → ListedSo served (front ++ new) start media
-closes out new quads start media served front e h = record { quads = quads; read = h.read; text_is = ap (λ x. front ++ x) e ∙ empty_text front out (rom_listing quads) h.silent; kept = h.kept }
