@@ -48,7 +48,7 @@ no : false ≡ true → ⊥
 no e = cc
 
 -- ---- the initiator of an ID by the terms: no other has it
-finds : (more k i : ℕ) (t : Terms) (id : ℕ) → ((m : ℕ) → id_for t 0 (m + 1) ≡ id → m ≡ i) → id_for t 0 (i + 1) ≡ id → k ≤ i → i < k + more → initiator_from more k t id ≡ i
+pub finds : (more k i : ℕ) (t : Terms) (id : ℕ) → ((m : ℕ) → id_for t 0 (m + 1) ≡ id → m ≡ i) → id_for t 0 (i + 1) ≡ id → k ≤ i → i < k + more → initiator_from more k t id ≡ i
 finds zero k i t id alone is l m = absurd (omega (arith, l, m))
 finds (suc more) k i t id alone is l m = by (nat_eq (id_for t 0 (k + 1)) id) refl (λ d. finds more (k + 1) i t id alone is (omega (arith, l, d)) (omega (arith, m)))
   where

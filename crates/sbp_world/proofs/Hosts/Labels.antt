@@ -78,7 +78,7 @@ at_first label n test rest false e l t lower h = h (above (nat_eq label n) refl)
     above true f = let i : label ≡ n = grind arith in untrue (sym e ∙ ap test i ∙ t)
     above false f = grind arith
 
-first_found : (tries label n : ℕ) (test : ℕ → Bool) → label ≤ n → n < label + tries → test n ≡ true → ((m : ℕ) → m < n → test m ≡ false) → lowest_from tries test label ≡ Some n
+pub first_found : (tries label n : ℕ) (test : ℕ → Bool) → label ≤ n → n < label + tries → test n ≡ true → ((m : ℕ) → m < n → test m ≡ false) → lowest_from tries test label ≡ Some n
 unfolding lowest_from
 first_found zero label n test l m t lower = absurd (omega arith)
 first_found (suc tries) label n test l m t lower =
@@ -101,7 +101,7 @@ free_same free = refl
 free_same (waits kind serial) = refl
 free_same rests = refl
 
-serves_same : (t : Terms) (node peer : ℕ) (bytes : List ℕ) (m : ℕ) → 12 ≤ length bytes → serves t node peer bytes m ≡ sent.serves t (transaction (t.generation node) node peer m) (with_label m bytes)
+pub serves_same : (t : Terms) (node peer : ℕ) (bytes : List ℕ) (m : ℕ) → 12 ≤ length bytes → serves t node peer bytes m ≡ sent.serves t (transaction (t.generation node) node peer m) (with_label m bytes)
 serves_same t node peer bytes m least =
     let u = transaction (t.generation node) node peer m in
     ap (λ b. b && (not (is_write bytes) || not (is_last (t.last u) (with_label m bytes)))) (free_same (t.held u))

@@ -84,7 +84,7 @@ module _ (units ready : ℕ) (start : List Disk) where
           subst (λ y. Awaits (terms (hist later last)) x.node.layer y (office_in start later last).manages) (sym (ap (λ (y : Machine). source_in y.operation) m ∙ ap source_in operation))
           (ap (λ (o : Office). o.manages) same ∙ r.manages ∙ manages)
 
-seen_test : (l g t : ℕ) → l ≤ g → t ≡ l → not (nat_eq g t) ≡ nat_lt l g
+pub seen_test : (l g t : ℕ) → l ≤ g → t ≡ l → not (nat_eq g t) ≡ nat_lt l g
 seen_test l g t a e = by_case (nat_lt l g) refl
   where
     by_case : (b : Bool) → nat_lt l g ≡ b → not (nat_eq g t) ≡ nat_lt l g
@@ -191,11 +191,11 @@ module _ (units ready : ℕ) (has : 0 < units) (start : List Disk) where
     abbrev own_id : ℕ
     own_id = id_of w.generations.latest 0
 
-    record Ages : Type 0 where
-      below : w.target.layer.generation ≤ now
-      same : t.generation 0 ≡ w.target.layer.generation
+    pub record Ages : Type 0 where
+      pub below : w.target.layer.generation ≤ now
+      pub same : t.generation 0 ≡ w.target.layer.generation
 
-    ages : Ages
+    pub ages : Ages
     ages =
         let there : 0 ≤ length w.initiators = omega arith in
         let layer_is : (stands.wire.layer 0).generation ≡ w.target.layer.generation = ap (λ (l : Node). l.generation) (stands.is.layers_are 0 there) in

@@ -1,0 +1,99 @@
+-- What a law of turns has to show, one case for each kind of call of a node: that it holds of the turn of that call, whose first note, whose other notes, and whose places before
+-- and behind it are given. So it knows of no line, of no run and of nothing that a world does.
+use Rattle.std.specs.Prelude.{◌≡◌, ℕ, suc, ◌+◌, ◌<◌, ◌==◌, Bool, true, false, List, [], ◌∷◌, length, Option, Some, None, Result, Ok, Err}
+use Rattle.bus_transactions.specs.Judging.{AreJudged}
+use Rattle.label_table.specs.declared.reply.Stale.{Stale}
+use Rattle.packet_store.specs.declared.sent.Sent.{Sent}
+use Rattle.packet_store.specs.Kept.{found_sent}
+use Rattle.rbc_disk.specs.Disk.{Disk}
+use Rattle.rbc_disk.specs.Runs.{Told}
+use Rattle.sbp_bus.specs.declared.requests.Request.{Request}
+use Rattle.sbp_bus.specs.Generations.{id_of, reset_step}
+use Rattle.sbp_bus.specs.Packets.{end_note, judged_note}
+use Rattle.sbp_bus.specs.Requests.{find}
+use Rattle.sbp_initiator.specs.Acting.{act_step}
+use Rattle.sbp_initiator.specs.declared.state.InitiatorState.{InitiatorState}
+use Rattle.sbp_initiator.specs.Receiving.{expire_step, receive_step}
+use Rattle.sbp_initiator.specs.Seeing.{see_step}
+use Rattle.sbp_journal.specs.Outgoings.{OutboxState, empty_outbox}
+use Rattle.sbp_journal.specs.Run.{Moment, asked, said}
+use Rattle.sbp_journal.specs.declared.event.Action.{Action}
+use Rattle.sbp_journal.specs.declared.event.Event.{Event}
+use Rattle.sbp_journal.specs.declared.event.Event.TheVariants as events
+use Rattle.sbp_journal.specs.declared.note.Note.{Note}
+use Rattle.sbp_journal.specs.declared.note.Note.TheVariants as notes
+use Rattle.sbp_laws.specs.Turns.{Turn, turn}
+use Rattle.sbp_target.specs.Nodes as target
+use Rattle.sbp_target.specs.Receiving.{expired, received, seen, ticked}
+use Rattle.sbp_world.specs.Delivering.{MayTell, faults_after, marked, whole_of}
+use Rattle.sbp_world.specs.Handing.{handed_out}
+use Rattle.sbp_world.specs.Lines.{weight_in}
+use Rattle.sbp_world.specs.Making.{notes_begin}
+use Rattle.sbp_world.specs.Nodes.{told_seen, with_seen}
+use Rattle.sbp_world.specs.Settling.{settled_from}
+use Rattle.sbp_world.specs.Worlds.{Scene, WorldState, initiator_at, scene, with_initiator, with_note, with_target, without_notes}
+use Rattle.sbp_world.proofs.Agents.Management.Still.{hist}
+use Rattle.sbp_world.proofs.Agents.Management.Owned.{AreOwn}
+use Rattle.sbp_world.specs.Hosts.Handing.{AreOthers}
+use Rattle.turn_laws.proofs.Handed.{handed, onto}
+use Rattle.turn_laws.proofs.Places.{Place}
+
+-- the line calls nodes: notes that begin turns of their own tell of it
+abbrev pub calls_nodes : Event → Bool
+calls_nodes (events.See node) = true
+calls_nodes (events.Deliver serial) = true
+calls_nodes (events.Repeat serial) = true
+calls_nodes (events.Timeout serial) = true
+calls_nodes (events.Step count) = true
+calls_nodes events.Settle = true
+calls_nodes events.Tick = true
+calls_nodes event = false
+
+-- the notes of a line itself, but of an action that is done: none where it calls nodes
+pub data Brings (line : ℕ) (s : Scene) : Event → List Note → Type 0 where
+  calls : (event : Event) → calls_nodes event ≡ true → Brings line s event []
+  refuses : (event : Event) (number : ℕ) → Brings line s event (notes.Refused line number ∷ [])
+  refuses_action : (i : ℕ) (action : Action) (number : ℕ) → (act_step action empty_outbox (initiator_at s.world i)).0 ≡ Some number → Brings line s (events.Act i action) (notes.Refused line number ∷ [])
+  resets : (physical : List ℕ) (generation : ℕ) → generation ≡ (reset_step physical s.world.generations).latest.generation → Brings line s (events.Reset physical) (notes.Reset generation ∷ [])
+  loses : (serial : ℕ) → Brings line s (events.Lose serial) (notes.Lost serial ∷ [])
+  sets_key : (unit : ℕ) (key : List ℕ) → Brings line s (events.Key unit key) (notes.Key unit ∷ [])
+  injects : (i : ℕ) (bytes : List ℕ) (serial generation from to : ℕ) → Brings line s (events.Inject i bytes) (notes.Injected serial ∷ notes.Sent serial generation from to bytes ∷ [])
+
+-- the scene behind a call, of a node that leaves the media alone
+abbrev pub in_scene : WorldState → Scene → Scene
+in_scene w s = record s { world = w }
+
+module _ (units ready : ℕ) (start : List Disk) (L : Turn → Type 0) where
+  abbrev At : List Moment → Scene → Type 0
+  At past s = Place units ready start past s
+
+  -- a call of a node behind the first note of its turn: what it handed out, from a world with this note
+  abbrev pub Turned : List Moment → Scene → Note → (node : ℕ) → OutboxState → WorldState → Scene → Type 0
+  Turned past s note node outbox w behind =
+      At past s → At past behind → AreJudged (said note ∷ hist past s.world) → L (turn (hist past s.world) (said note) (handed node 0 outbox w))
+
+  -- the target tells no note of an initiator, and an initiator nothing else
+  abbrev pub ByTarget : List Moment → Scene → Note → OutboxState → WorldState → Scene → Type 0
+  ByTarget past s note outbox w behind = AreOthers outbox.sides → Turned past s note 0 outbox w behind
+
+  abbrev pub ByOwn : List Moment → Scene → Note → (i : ℕ) → OutboxState → WorldState → Scene → Type 0
+  ByOwn past s note i outbox w behind = AreOwn outbox.sides → Turned past s note (suc i) outbox w behind
+
+  pub record Cases : Type 0 where
+    -- a packet comes to the target, or to an initiator
+    pub heard : (past : List Moment) (s : Scene) (serial : ℕ) (again : Bool) (run : Option Told) (one : Sent) → found_sent serial s.world.store.kept ≡ Some one → one.to ≡ 0 → MayTell run one s.world.target s.media → (let x = received run one.generation one.bytes (whole_of s.world.target s.media) in let w = with_note (judged_note serial x.0) (marked serial again (with_target x.1.node s.world)) in ByTarget past s (judged_note serial x.0) x.1.outbox w (scene (handed_out 0 0 x.1.outbox w) x.1.disks (faults_after run one s.world.target s.media)))
+    pub heard_own : (past : List Moment) (s : Scene) (serial : ℕ) (again : Bool) (one : Sent) (i : ℕ) → found_sent serial s.world.store.kept ≡ Some one → one.to ≡ suc i → i < length s.world.initiators → (let x = receive_step one.generation one.bytes empty_outbox (initiator_at s.world i) in let w = with_note (judged_note serial x.0) (marked serial again (with_initiator i x.1.1 s.world)) in ByOwn past s (judged_note serial x.0) i x.1.0 w (in_scene (handed_out (suc i) 0 x.1.0 w) s))
+    -- a transaction of the target times out, or one of an initiator
+    pub late : (past : List Moment) (s : Scene) (serial : ℕ) (request : Request) (done : Unit {0}) (t : target.Scene) → find s.world.requests serial ≡ Some request → request.node ≡ 0 → expired request.peer request.label (target.scene s.world.target empty_outbox) ≡ (Ok done, t) → (let w = with_note (notes.TimedOut serial) (with_target t.node s.world) in ByTarget past s (notes.TimedOut serial) t.outbox w (in_scene (handed_out 0 0 t.outbox w) s))
+    pub late_own : (past : List Moment) (s : Scene) (serial : ℕ) (request : Request) (i : ℕ) (outbox : OutboxState) (state : InitiatorState) → find s.world.requests serial ≡ Some request → request.node ≡ suc i → i < length s.world.initiators → expire_step request.label empty_outbox (initiator_at s.world i) ≡ (true, (outbox, state)) → (let w = with_note (notes.TimedOut serial) (with_initiator i state s.world) in ByOwn past s (notes.TimedOut serial) i outbox w (in_scene (handed_out (suc i) 0 outbox w) s))
+    -- the target sees a reset, or an initiator does
+    pub sees : (past : List Moment) (s : Scene) → (let g = s.world.generations.latest in let x = (seen g.generation (id_of g 0) (target.scene s.world.target empty_outbox)).1 in let w = with_target x.node (with_seen 0 (told_seen 0 s.world)) in ByTarget past s (notes.Seen 0 g.generation) x.outbox w (in_scene (handed_out 0 0 x.outbox w) s))
+    pub sees_own : (past : List Moment) (s : Scene) (i : ℕ) → i < length s.world.initiators → (let g = s.world.generations.latest in let x = see_step g.generation (id_of g (suc i)) (id_of g 0) empty_outbox (initiator_at s.world i) in let w = with_initiator i x.1 (with_seen (suc i) (told_seen (suc i) s.world)) in ByOwn past s (notes.Seen (suc i) g.generation) i x.0 w (in_scene (handed_out (suc i) 0 x.0 w) s))
+    -- a second passes
+    pub ticks : (past : List Moment) (s : Scene) → (let x = ticked (target.scene s.world.target empty_outbox) in let w = with_target x.node (with_note notes.Tick s.world) in ByTarget past s notes.Tick x.outbox w (in_scene (handed_out 0 0 x.outbox w) s))
+    -- a line that settles ends
+    pub ends : (past : List Moment) (s : Scene) (done : Bool) → At past s → At past (settled_from done s) → L (turn (hist past s.world) (said (end_note done)) [])
+    -- an initiator acts, behind the line's place; every other line; and the line that begins a run
+    pub acts : (past : List Moment) (s : Scene) (line i : ℕ) (action : Action) (outbox : OutboxState) (state : InitiatorState) → i < length s.world.initiators → act_step action empty_outbox (initiator_at s.world i) ≡ (None, (outbox, state)) → (let w = with_initiator i state (without_notes s.world) in AreOwn outbox.sides → At past s → At (asked line (events.Act i action) ∷ hist past s.world) (in_scene (handed_out (i + 1) (weight_in action) outbox w) s) → L (turn (hist past s.world) (asked line (events.Act i action)) (handed (i + 1) (weight_in action) outbox w)))
+    pub lines : (past : List Moment) (s : Scene) (line : ℕ) (event : Event) (rest : List Note) (behind : Scene) → Brings line s event rest → behind.world.fresh ≡ onto rest [] → At past s → At (asked line event ∷ hist past s.world) behind → L (turn (hist past s.world) (asked line event) rest)
+    pub begins : (line initiators : ℕ) (is_ready : Bool) → L (turn [] (asked line (events.Begin initiators is_ready)) (notes_begin initiators is_ready ∷ []))

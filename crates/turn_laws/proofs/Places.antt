@@ -1,0 +1,160 @@
+-- The places of a run between two turns, and what is known at each: as some of its lines ended, as a line begins, and between two deliveries of a line. At each the terms of
+-- the history are the states of both ends.
+use Rattle.std.proofs.Common.{arith, ◌≡◌, ◌∙◌, refl, sym, ap, subst, ℕ, ◌+◌, ◌^◌, ◌<◌, ◌≤◌, Bool, true, false, List, [], ◌∷◌, ◌++◌, map, length, Option, Some, None}
+use Rattle.bus_transactions.specs.May.{is_reset}
+use Rattle.rbc_disk.specs.Disk.{Disk}
+use Rattle.rbc_disk.specs.Runs.{Told}
+use Rattle.sbp_journal.specs.Run.{Moment, asked, said}
+use Rattle.sbp_journal.specs.declared.event.Event.{Event}
+use Rattle.sbp_journal.specs.declared.event.Event.TheVariants as events
+use Rattle.sbp_laws.specs.Hosts.{host_at}
+use Rattle.sbp_laws.specs.Targets.{target_at}
+use Rattle.sbp_world.specs.Agents.Agents.{AreAgentsAt}
+use Rattle.sbp_world.specs.Agents.Enabled.{AreLive, AreTermsOf}
+use Rattle.sbp_world.specs.Agents.Holders.{AreHeldAt}
+use Rattle.sbp_world.specs.Agents.Units.{AreUnitsAt}
+use Rattle.sbp_world.specs.Histories.{history_of, moments_behind}
+use Rattle.sbp_world.specs.Hosts.Core.{host_core, own_core}
+use Rattle.sbp_world.specs.Hosts.Runs.{IsRun, more_deliveries}
+use Rattle.sbp_world.specs.Hosts.Worlds.{IsHost}
+use Rattle.sbp_world.specs.Making.{ready_logins}
+use Rattle.sbp_world.specs.Runs.{AreEntries, Entry, Run, after, beginning}
+use Rattle.sbp_world.specs.Settling.{MayAll, after_all}
+use Rattle.sbp_world.specs.Wire.Lines.{AreLines}
+use Rattle.sbp_world.specs.Worlds.{Scene, WorldState, begun, initiator_at, without_notes}
+use Rattle.sbp_world.proofs.Agents.CrewRuns.{agents_between_law, agents_run_law, lines_same, moments_same}
+use Rattle.sbp_world.proofs.Agents.Enabling.{enabled_between_law, enabled_law}
+use Rattle.sbp_world.proofs.Agents.Holders.{are_held, holders_between_law, holders_law, seats_after}
+use Rattle.sbp_world.proofs.Agents.Management.Holding.{Holding}
+use Rattle.sbp_world.proofs.Agents.Management.Lines.{all_heard, opens}
+use Rattle.sbp_world.proofs.Agents.Management.Runs.{are_told, no_repeats, not_reset}
+use Rattle.sbp_world.proofs.Agents.Management.Still.{hist}
+use Rattle.sbp_world.proofs.Agents.Registering.{enabled_terms_between_law, enabled_terms_law}
+use Rattle.sbp_world.proofs.Agents.Seating.{opened as seats_opened}
+use Rattle.sbp_world.proofs.Agents.Units.{units_between_law, units_law}
+use Rattle.sbp_world.proofs.Hosts.Hosted.{host_law}
+use Rattle.sbp_world.proofs.Hosts.Runs.{count_after, count_between, run_law}
+use Rattle.sbp_world.proofs.Hosts.StepLaws.{step_law}
+use Rattle.sbp_world.proofs.Lists.Courses.{more_than_one}
+
+-- What is known at a place: its history goes on from `past` by the notes of the world.
+pub record Place (units ready : ℕ) (start : List Disk) (past : List Moment) (s : Scene) : Type 0 where
+  pub lines : ℕ
+  -- the wire, the nodes, and the management of the target
+  pub holds : Holding units ready start past lines s.world
+  -- the target's agents, who has its logins, its units and its registers
+  pub agents : AreAgentsAt start (hist past s.world) s.world
+  pub held : AreHeldAt start (hist past s.world) s.world
+  pub units_are : AreUnitsAt start (hist past s.world) s.world.target s.media.disks
+  pub enabled : AreTermsOf (target_at start (hist past s.world)).enabled s.world.target
+  pub live : AreLive s.world.target
+  -- each initiator's lists and slots, and its session
+  pub hosts : (i : ℕ) → i < length s.world.initiators → IsHost (hist past s.world) i (initiator_at s.world i)
+  pub cores : (i : ℕ) → i < length s.world.initiators → host_core (host_at (hist past s.world) i) ≡ own_core (initiator_at s.world i)
+
+module _ (line : ℕ) (run : Run) (few : run.initiators ≤ 4) (has : 0 < run.units) (small : run.units ≤ 4) (size : length run.start.disks ≡ run.units) where
+  abbrev logins : ℕ
+  logins = ready_logins run.initiators run.ready
+
+  abbrev start : List Disk
+  start = run.start.disks
+
+  abbrev pub PlaceOf : List Moment → Scene → Type 0
+  PlaceOf past s = Place run.units logins start past s
+
+  abbrev pub Held : List Moment → ℕ → WorldState → Type 0
+  Held past lines w = Holding run.units logins start past lines w
+
+  -- behind some of its lines
+  module _ (entries : List Entry) (short : length entries + 2 < 2 ^ 32) (every : AreEntries (beginning run) entries) (fit : AreLines run entries) (past : List Moment) (h : Held past (length entries) (after (beginning run) entries).world) (is : hist past (after (beginning run) entries).world ≡ moments_behind line run entries) where
+    abbrev here : Scene
+    here = after (beginning run) entries
+
+    abbrev front : Run
+    front = record run { entries = entries }
+
+    is_run : IsRun front
+    is_run = record { few = few; short = short; entries = every; lines = lines_same run entries entries fit }
+
+    same : history_of line front ≡ hist past here.world
+    same = moments_same line run entries entries ∙ sym is
+
+    inside : (i : ℕ) → i < length here.world.initiators → i < run.initiators
+    inside i b = subst (λ n. i < n) (count_after front entries) b
+
+    -- as they ended
+    pub ended_place : PlaceOf past here
+    ended_place = record {
+      lines = length entries;
+      holds = h;
+      agents = subst (λ ms. AreAgentsAt start ms here.world) same (agents_run_law line front few has small size short every (lines_same run entries entries fit));
+      held = subst (λ ms. AreHeldAt start ms here.world) same (holders_law line front few has small size short every (lines_same run entries entries fit));
+      units_are = subst (λ ms. AreUnitsAt start ms here.world.target here.media.disks) same (units_law line front few has small size short every (lines_same run entries entries fit));
+      enabled = subst (λ ms. AreTermsOf (target_at start ms).enabled here.world.target) same (enabled_terms_law line front few has small size short every (lines_same run entries entries fit));
+      live = enabled_law front few has small size short every (lines_same run entries entries fit);
+      hosts = λ i b. subst (λ ms. IsHost ms i (initiator_at here.world i)) same (run_law.rows line front is_run i (inside i b));
+      cores = λ i b. subst (λ ms. host_core (host_at ms i) ≡ own_core (initiator_at here.world i)) same (host_law.core line front is_run i (inside i b));
+    }
+
+    -- between deliveries of a line that follows
+    module _ (next : ℕ) (most : Option ℕ) where
+      abbrev now : List Moment
+      now = asked next (more_deliveries most) ∷ hist past here.world
+
+      abbrev at : List (Option Told) → Scene
+      at told = after_all told (begun here)
+
+      opened_holds : Held now (length entries + 1) (begun here).world
+      opened_holds = opens run.units logins has start next (more_deliveries most) here.world (not_reset (more_deliveries most) (more_than_one most)) h
+
+      pub between_holds : (told : List (Option Told)) → MayAll told (begun here) → Held now (length entries + 1) (at told).world
+      between_holds told m =
+          all_heard run.units logins has start told (are_told told here m) (begun here) opened_holds (no_repeats (more_deliveries most) (hist past here.world) next (more_than_one most))
+
+      module _ (told : List (Option Told)) (m : MayAll told (begun here)) where
+        abbrev w : WorldState
+        w = (at told).world
+
+        abbrev Behind : (List Moment → Type 0) → Type 0
+        Behind P = P (map said w.fresh ++ asked next (more_deliveries most) ∷ history_of line front) → P (hist now w)
+
+        moved : (P : List Moment → Type 0) → Behind P
+        moved P x = subst (λ ms. P (map said w.fresh ++ asked next (more_deliveries most) ∷ ms)) same x
+
+        inside_there : (i : ℕ) → i < length w.initiators → i < run.initiators
+        inside_there i b = inside i (subst (λ n. i < n) (count_between told here) b)
+
+        pub between_place : PlaceOf now (at told)
+        between_place =
+            let d = more_than_one most in
+            let f = lines_same run entries entries fit in
+            record {
+              lines = length entries + 1;
+              holds = between_holds told m;
+              agents = moved (λ ms. AreAgentsAt start ms w) (agents_between_law line front few has small size short every f next (more_deliveries most) d told m);
+              held = moved (λ ms. AreHeldAt start ms w) (holders_between_law line front few has small size short every f next (more_deliveries most) d told m);
+              units_are = moved (λ ms. AreUnitsAt start ms w.target (at told).media.disks) (units_between_law line front few has small size short every f next (more_deliveries most) d told m);
+              enabled = moved (λ ms. AreTermsOf (target_at start ms).enabled w.target) (enabled_terms_between_law line front few has small size short every f next (more_deliveries most) d told m);
+              live = enabled_between_law front few has small size short every f next (more_deliveries most) d told m;
+              hosts = λ i b. moved (λ ms. IsHost ms i (initiator_at w i)) (run_law.between line front is_run next most told m i (inside_there i b));
+              cores = λ i b. moved (λ ms. host_core (host_at ms i) ≡ own_core (initiator_at w i)) (host_law.between line front is_run next most told m i (inside_there i b));
+            }
+
+    -- as a line begins in which a node is called
+    module _ (next : ℕ) (event : Event) (e : is_reset event ≡ false) where
+      pub begun_place : PlaceOf (asked next event ∷ hist past here.world) (begun here)
+      begun_place =
+          let settling = between_place next None [] tt in
+          let begins = opens run.units logins has start next event here.world e h in
+          let p = ended_place in
+          record {
+            lines = length entries + 1;
+            holds = begins;
+            agents = record { requests = settling.agents.requests; are = settling.agents.are; known = settling.agents.known };
+            held = are_held run.units logins has start (without_notes here.world) begins (seats_opened run.units logins has start here.world (seats_after line run entries few has small size short every fit));
+            units_are = record { count = settling.units_are.count; each = settling.units_are.each };
+            enabled = settling.enabled;
+            live = settling.live;
+            hosts = λ i b. record { number = (p.hosts i b).number; rows = step_law.asked next event (hist past here.world) i (initiator_at here.world i).lists.slots (p.hosts i b).rows; pin = (p.hosts i b).pin };
+            cores = λ i b. p.cores i b;
+          }

@@ -1,0 +1,6 @@
+pub mod Runs
+pub mod Cleared
+pub mod Logins
+pub mod Decisions
+pub mod Login
+pub mod Packets

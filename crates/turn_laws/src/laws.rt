@@ -1,0 +1,43 @@
+//! The laws of turns, each of every run of the machine of up to four initiators with one to four units.
+ghost use Rattle.turn_laws.specs.Cleared.{ClearedLaw};
+ghost use Rattle.turn_laws.specs.Decisions.{DecisionNotesLaw};
+ghost use Rattle.turn_laws.specs.Login.{LoginRunLaw};
+ghost use Rattle.turn_laws.specs.Logins.{LoginNotesLaw};
+ghost use Rattle.turn_laws.specs.Packets.{PacketsLaw};
+
+/// In each turn of every run exactly the units are cleared that the decision of the turn resets, whatever
+/// anybody injected: `cleared` of the cause law.
+#[tactic(auto, using(crate::proofs::Cleared::cleared_law))]
+pub fn units_are_cleared_where_due()
+    ensures { ClearedLaw }
+{}
+
+/// In each turn of every run `held`, `expired`, `back` and `left` stand exactly where a reset that the
+/// target sees, a second or a decision has them, whatever anybody injected: `logins` of the login law.
+#[tactic(auto, using(crate::proofs::Logins::login_notes_law))]
+pub fn logins_are_told_where_due()
+    ensures { LoginNotesLaw }
+{}
+
+/// In each turn of every run a decision is told exactly where the operation of the terms decides, as it
+/// decides, whatever anybody injected: `decisions` of the login law.
+#[tactic(auto, using(crate::proofs::DecisionNotes::decision_notes_law))]
+pub fn decisions_are_told_where_due()
+    ensures { DecisionNotesLaw }
+{}
+
+/// The login law holds of every run, whatever anybody injected: in each turn the decisions stand that are
+/// due, each with the status of the first row that holds, and `held`, `expired`, `back` and `left` exactly
+/// where a reset that the target sees, a second or a decision has them.
+#[tactic(auto, using(crate::proofs::LoginRuns::login_run_law))]
+pub fn logins_are_lawful()
+    ensures { LoginRunLaw }
+{}
+
+/// In every run, whatever anybody injected, serials count from 1, and each packet that was not injected is
+/// canonical, from its sender's ID to its receiver's in its sender's generation; a request has the lowest
+/// label that serves it: `packets` of the sent law.
+#[tactic(auto, using(crate::proofs::SentPackets::packets_run_law))]
+pub fn packets_are_lawful()
+    ensures { PacketsLaw }
+{}
