@@ -1,6 +1,8 @@
 -- Which transaction a packet belongs to, and which it begins (IEEE 1394-1995, transaction layer): a
 -- transaction is told apart by its generation, its requester, its responder and its label.
-use Rattle.std.specs.Prelude.{ℕ, ◌+◌, ◌*◌, ◌==◌, ◌&&◌, Bool, false, if◌then◌else◌, Option, Some, None}
+use Rattle.std.specs.Prelude.{◌≡◌, ℕ, ◌+◌, ◌*◌, ◌==◌, ◌&&◌, Bool, true, false, if◌then◌else◌, Option, Some, None}
+use Rattle.std.specs.Hash as fed
+use Rattle.std.proofs.lemmas.Bool.{and_parts, eqb-true}
 use Rattle.packet_store.specs.declared.sent.Sent.{Sent}
 use Rattle.packet_store.specs.declared.transaction.Transaction.{Transaction}
 use Rattle.packet_store.specs.declared.role.Role.{Role}
@@ -37,6 +39,18 @@ number_of t = t.generation * 16777216 + (t.requester * 65536 + t.responder * 256
 abbrev pub is_same : Transaction → Transaction → Bool
 is_same t u =
     (t.generation == u.generation) && ((t.requester == u.requester) && ((t.responder == u.responder) && (t.label == u.label)))
+
+-- the same transactions are hashed alike
+pub hashed_alike : (t u : Transaction) → is_same t u ≡ true → fed.u64 (number_of t) ≡ fed.u64 (number_of u)
+hashed_alike t u e =
+    let a = and_parts (t.generation == u.generation) _ e in
+    let b = and_parts (t.requester == u.requester) _ a.1 in
+    let c = and_parts (t.responder == u.responder) (t.label == u.label) b.1 in
+    let generation = eqb-true t.generation u.generation a.0 in
+    let requester = eqb-true t.requester u.requester b.0 in
+    let responder = eqb-true t.responder u.responder c.0 in
+    let label = eqb-true t.label u.label c.1 in
+    λ i. fed.u64 (generation i * 16777216 + (requester i * 65536 + responder i * 256) + label i)
 
 -- a transaction is the one of a packet
 abbrev pub is_that : Transaction → Option Transaction → Bool

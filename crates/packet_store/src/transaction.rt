@@ -1,8 +1,6 @@
 ghost use Rattle.std.specs.Prelude.{◌≡◌};
 ghost use Rattle.std.specs.Hash as fed;
-ghost use Rattle.std.specs.Cmp.Rules.{hashing};
-ghost use Rattle.std.proofs.Common.{rules};
-ghost use Rattle.packet_store.specs.Transactions.{transaction_by, begun_as, number_of};
+ghost use Rattle.packet_store.specs.Transactions.{transaction_by, begun_as, number_of, hashed_alike};
 
 use crate::role::Role;
 use crate::sent::Sent;
@@ -21,7 +19,7 @@ pub struct Transaction {
 impl Hash for Transaction {
     ghost hash_input = { λ t. fed.u64 (number_of t) };
 
-    ghost respects_eq = { Prim.search (hashing, rules) };
+    ghost respects_eq = { hashed_alike };
 
     fn hash<H: Hasher>(&self, state: &mut H) {
         let nodes = u64::from(self.requester) * 65_536 + u64::from(self.responder) * 256;
