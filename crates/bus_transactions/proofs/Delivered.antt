@@ -21,9 +21,6 @@ use Rattle.bus_transactions.proofs.FactsJudged.{news_at, facts_news, judged_at, 
 use Rattle.bus_transactions.proofs.NodeRows.{IsNode, node_judged}
 use Rattle.bus_transactions.proofs.Stands.{On, node_case}
 
-nothing : {A : Type 0} {x : A} → None ≡ Some x → ⊥
-nothing e = cc
-
 differ : true ≡ false → ⊥
 differ e = cc
 

@@ -11,7 +11,6 @@ use Rattle.packet_store.specs.Calls as calls
 use Rattle.packet_store.specs.Laws.{shown}
 use Rattle.packet_store.specs.Transactions as stored
 use Rattle.packet_store.proofs.Calls.{serial_law, keeps_law, flight_is}
-use Rattle.packet_store.specs.Kept.{in_air}
 use Rattle.sbp_journal.specs.Transactions.{Transaction, Sending, begun_by, belongs}
 use Rattle.sbp_journal.specs.Wire.{Flight, unsent, in_flight, delivered, lost, withdrawn, withdraw, belongs_to, by_bus_rule}
 use Rattle.bus_transactions.specs.Wire.{as_sent}
@@ -148,14 +147,3 @@ shown_kept a s (Some q) withdrawn k e = cc
 
 pub found_kept : {count : ℕ} {sent : ℕ → Option Sending} {flight : ℕ → Flight} {store : Stored} → Follows count sent flight store → (s : ℕ) (k : Kept) → found s store.kept ≡ Some k → IsKept (sent s) (flight s) k s
 found_kept {count} {sent} {flight} f s k e = shown_kept (count - 1024) s (sent s) (flight s) k (sym (kept_is f s) ∙ e)
-
--- one in flight is kept
-in_air_some : (o : Option Kept) → in_air o ≡ true → (k : Kept) × (o ≡ Some k)
-in_air_some None e = cc
-in_air_some (Some k) e = (k, refl)
-
-pub flying_kept : {count : ℕ} {sent : ℕ → Option Sending} {flight : ℕ → Flight} {store : Stored} → Follows count sent flight store → (s : ℕ) → is_flying s store.kept ≡ true → (k : Kept) × IsKept (sent s) (flight s) k s
-flying_kept {store = store} f s e =
-    let flies : is_flying s (after f.calls).kept ≡ true = subst (λ (st : Stored). is_flying s st.kept ≡ true) f.store_is e in
-    let o = in_air_some (found s (after f.calls).kept) (sym (flight_is f.calls s) ∙ flies) in
-    (o.0, found_kept f s o.0 (ap (λ (st : Stored). found s st.kept) f.store_is ∙ o.1))

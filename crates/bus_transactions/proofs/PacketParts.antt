@@ -166,13 +166,6 @@ request_read bytes l k e = ⊎_elim (λ n. absurd (apart (sym n ∙ e))) (λ i. 
     apart : {l : ℕ} {k : Kind} → no_packet ≡ request l k → ⊥
     apart e = cc
 
-pub response_read : (bytes : List ℕ) (l : ℕ) (k : Kind) → part_of bytes ≡ response l k → Is bytes (response l k)
-unfolding part_of
-response_read bytes l k e = ⊎_elim (λ n. absurd (apart (sym n ∙ e))) (λ i. i) (packet_of bytes (response l k) (reading bytes) refl e)
-  where
-    apart : {l : ℕ} {k : Kind} → no_packet ≡ response l k → ⊥
-    apart e = cc
-
 -- a request's kind, its label, and that it is none of a response
 pub record Asking (bytes : List ℕ) (p : Packet) (l : ℕ) (k : Kind) : Type 0 where
   pub kind : kind_of bytes ≡ kind_as k

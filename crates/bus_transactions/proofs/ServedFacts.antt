@@ -56,10 +56,6 @@ module _ {t : Terms} (f : Facts t) (z : Served t None) (u : Transaction) (kind :
   old_write : (v : Transaction) → is_same v u ≡ false → IsWrite B v → IsWrite t v
   old_write v d w = record { fairly = w.fairly; bytes = w.bytes; last = ap (λ b. cond b (Some q.bytes) (t.last v)) (sym d) ∙ w.last; writes = w.writes }
 
-  old_current : (v : Transaction) (b : Bool) → is_same v u ≡ b → b ≡ false → cond b (t.count + 1) (t.current v) ≡ t.current v
-  old_current v false e n = refl
-  old_current v true e n = cc
-
   begun_fresh : (v : Transaction) (b : Bool) → is_same v u ≡ b → IsWrite B v → t.judged (cond b (t.count + 1) (t.current v)) ≡ 0 → t.served (cond b (t.count + 1) (t.current v)) ≡ 0
   begun_fresh v true e w j = z.unserved (t.count + 1) (omega arith)
   begun_fresh v false e w j = z.fresh v (old_write v e w) j
