@@ -25,7 +25,7 @@ use Rattle.packet_store.specs.declared.sent.Sent.{Sent}
 use Rattle.packet_store.specs.Kept.{found_sent, is_flying}
 use Rattle.rbc_disk.specs.Disk.{Disk}
 use Rattle.rbc_disk.specs.Runs.{Told}
-use Rattle.sbp_bus.specs.Generations.{GenerationsState, id_of, node_of, topology_at}
+use Rattle.sbp_bus.specs.Generations.{GenerationsState, id_of}
 use Rattle.sbp_bus.specs.Packets.{end_note, judged_note}
 use Rattle.sbp_bus.specs.Telling.{initiator_by, managed_note}
 use Rattle.sbp_bus.specs.Telling as bus
@@ -49,7 +49,7 @@ use Rattle.sbp_laws.specs.LoginLaw.{is_decision_note}
 use Rattle.sbp_laws.specs.Management.{Call, answer_to, answers, call_by, decided_in, decided_note, login_if, manager_turn, no_call, operator, operator_for, start_in, start_of, started, starts, word_by}
 use Rattle.sbp_laws.specs.NoteKinds.{of_kind}
 use Rattle.sbp_laws.specs.Packets.{id_for, sender_in}
-use Rattle.sbp_laws.specs.Targets.{Purpose as TermPurpose, Target, for_agent, for_manager, for_nobody, is_serial, manager_step, over, purpose_of, target_at}
+use Rattle.sbp_laws.specs.Targets.{Purpose as TermPurpose, Target, for_agent, for_manager, for_nobody, is_serial, over, purpose_of, target_at}
 use Rattle.sbp_laws.specs.Turns.{turn}
 use Rattle.sbp_target.specs.declared.purpose.Purpose.{Purpose}
 use Rattle.sbp_target.specs.declared.purpose.Purpose.TheVariants as purposes
@@ -70,14 +70,13 @@ use Rattle.sbp_world.proofs.Agents.Management.Holding.{good_of, known_id, same_i
 use Rattle.sbp_world.proofs.Agents.Management.Owned.{IsNoRun}
 use Rattle.sbp_world.proofs.Agents.Management.Still.{hist}
 use Rattle.sbp_world.proofs.Wire.Found.{node_found}
-use Rattle.turn_laws.specs.Decisions.{DecidesWhereDue, DecisionNotesLaw}
+use Rattle.turn_laws.specs.Decisions.{DecidesWhereDue}
 use Rattle.turn_laws.proofs.Calls.{Brings, Cases, calls, injects, loses, refuses, refuses_action, resets, sets_key}
 use Rattle.turn_laws.proofs.Effects.{step_same}
 use Rattle.turn_laws.proofs.Gots.{agent_calls, manager_calls, no_kind, nobody_calls, own_calls_nothing, request_calls, unsolicited_calls}
 use Rattle.turn_laws.proofs.Handed.{handed, note_of, notes_told}
 use Rattle.turn_laws.proofs.KindNotes.{IsToldKind, kind_handed, own_handed}
 use Rattle.turn_laws.proofs.ManagedSides.{decision_side, delivery_manages, found_side, lapse_manages, managed, managed_of, reply_side, second_manages, sight_manages}
-use Rattle.turn_laws.proofs.Pass.{of_every_run}
 use Rattle.turn_laws.proofs.Places.{Place}
 
 -- ---- among the notes: those of the decisions that are told, as the target knows the nodes
@@ -363,6 +362,3 @@ module _ (units ready : ℕ) (has : 0 < units) (start : List Disk) where
     lines = λ past s line event rest behind brings fresh here there. line_decides line s (hist past s.world) event rest brings;
     begins = λ line initiators is_ready. refl;
   }
-
-pub decision_notes_law : DecisionNotesLaw
-decision_notes_law = of_every_run DecidesWhereDue (λ units ready start has. decision_cases units ready has start)

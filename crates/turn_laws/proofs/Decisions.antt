@@ -1,5 +1,5 @@
 -- A law of which each note stands for a decision's effect: what a packet that comes to the target brings of them is what the effect of its call on the management operation has.
-use Rattle.std.proofs.Common.{[], Bool, List, None, Ok, Option, Some, ap, false, is_some, refl, subst, suc, sym, true, ℕ, ◌<◌, ◌∙◌, ◌∷◌, ◌≡◌}
+use Rattle.std.proofs.Common.{[], Bool, List, None, Ok, Option, Some, ap, is_some, refl, subst, suc, sym, true, ℕ, ◌<◌, ◌∙◌, ◌∷◌, ◌≡◌}
 use Rattle.async_packet.specs.Labels.{LabelParts}
 use Rattle.async_packet.specs.Packet.{Packet}
 use Rattle.async_packet.specs.Reading.{reading}
@@ -42,7 +42,6 @@ use Rattle.sbp_target.proofs.Histories.Told.{side_law}
 use Rattle.sbp_world.proofs.Agents.CrewFirsts.{agrees}
 use Rattle.sbp_world.proofs.Agents.Management.Holding.{good_of}
 use Rattle.sbp_world.proofs.Agents.Management.Still.{hist}
-use Rattle.turn_laws.proofs.Calls.{calls}
 use Rattle.turn_laws.proofs.Effects.{EffectOf, idle_effect, start_effect, step_same, timed_out_effect}
 use Rattle.turn_laws.proofs.Gots.{agent_calls, manager_calls, no_kind, nobody_calls, own_calls_nothing, request_calls, unsolicited_calls}
 use Rattle.turn_laws.proofs.KeptNotes.{IsKept, agent_none, first_sides, kept_in, request_none}
