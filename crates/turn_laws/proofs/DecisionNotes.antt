@@ -298,22 +298,25 @@ module _ (units ready : ℕ) (has : 0 < units) (start : List Disk) where
               ∙ sym (ap (DueBy wire T) (manager_calls units ready has start past s here serial one found zero_to judged p read some label layer (Some purposes.Management) e refl))
           response (Some (purposes.Agent place)) e = sym (ap (DueBy wire T) (agent_calls units ready has start past s here serial one found zero_to judged p read some label layer (Some (purposes.Agent place)) e place refl))
 
-        by_finding : (f : Finding Purpose) (layer : Layer Purpose) → judging_step node.layer one.generation one.bytes ≡ (f, layer) → IsFound f node.layer layer one.bytes → (judged : Judged) → judged ≡ (received_as run one.bytes f (with_layer layer (whole_of node s.media))).0 → AreJudged (said (judged_note serial judged) ∷ ms) → decision_notes w.generations (found_side node good f) ≡ DueBy wire T (Called judged)
-        by_finding of_generation layer e f judged is j = subst (λ x. [] ≡ DueBy wire T (Called x)) (sym is) refl
-        by_finding of_grammar layer e f judged is j = subst (λ x. [] ≡ DueBy wire T (Called x)) (sym is) refl
-        by_finding of_label layer e f judged is j = subst (λ x. [] ≡ DueBy wire T (Called x)) (sym is) refl
-        by_finding (of_again p rcode) layer e f judged is j = subst (λ x. [] ≡ DueBy wire T (Called x)) (sym is) refl
-        by_finding (of_response p label purpose) layer e f judged is j =
-            subst (λ x. decision_notes w.generations (found_side node good (of_response p label purpose)) ≡ DueBy wire T (Called x)) (sym is)
-            (response (subst (λ x. AreJudged (said (judged_note serial x) ∷ ms)) is j) p f.read f.kind label layer purpose e)
-        by_finding (of_request p) layer e f judged is j = request p f.1.read (no_kind (reply_kind p) f.1.kind) judged
+        abbrev Finds : Finding Purpose → Layer Purpose → Judged → Type 0
+        Finds f layer judged = (judging_step node.layer one.generation one.bytes ≡ (f, layer)) × (judged ≡ (received_as run one.bytes f (with_layer layer (whole_of node s.media))).0)
+
+        by_finding : (f : Finding Purpose) (layer : Layer Purpose) (judged : Judged) → Finds f layer judged → IsFound f node.layer layer one.bytes → AreJudged (said (judged_note serial judged) ∷ ms) → decision_notes w.generations (found_side node good f) ≡ DueBy wire T (Called judged)
+        by_finding of_generation layer judged e f j = subst (λ x. [] ≡ DueBy wire T (Called x)) (sym e.1) refl
+        by_finding of_grammar layer judged e f j = subst (λ x. [] ≡ DueBy wire T (Called x)) (sym e.1) refl
+        by_finding of_label layer judged e f j = subst (λ x. [] ≡ DueBy wire T (Called x)) (sym e.1) refl
+        by_finding (of_again p rcode) layer judged e f j = subst (λ x. [] ≡ DueBy wire T (Called x)) (sym e.1) refl
+        by_finding (of_response p label purpose) layer judged e f j =
+            subst (λ x. decision_notes w.generations (found_side node good (of_response p label purpose)) ≡ DueBy wire T (Called x)) (sym e.1)
+            (response (subst (λ x. AreJudged (said (judged_note serial x) ∷ ms)) e.1 j) p f.read f.kind label layer purpose e.0)
+        by_finding (of_request p) layer judged e f j = request p f.1.read (no_kind (reply_kind p) f.1.kind) judged
 
         target_due : (let x = received run one.generation one.bytes (whole_of node s.media) in AreJudged (said (judged_note serial x.0) ∷ ms) → decision_notes w.generations (managed x.1.outbox.sides) ≡ DueBy wire T (Called x.0))
         unfolding received
         target_due j =
             let f = judging_step node.layer one.generation one.bytes in
             let x = received run one.generation one.bytes (whole_of node s.media) in
-            ap (decision_notes w.generations) (delivery_manages node good run s.media.disks one.generation one.bytes) ∙ by_finding f.0 f.1 refl (found_as node.layer one.generation one.bytes) x.0 refl j
+            ap (decision_notes w.generations) (delivery_manages node good run s.media.disks one.generation one.bytes) ∙ by_finding f.0 f.1 x.0 (refl, refl) (found_as node.layer one.generation one.bytes) j
 
     lapse_none : (peer : ℕ) (label : LabelParts) (done : Unit {0}) (t : target_nodes.Scene) → expired peer label (target_scene node empty_outbox) ≡ (Ok done, t) → managed t.outbox.sides ≡ []
     lapse_none peer label done t e = subst (λ (x : Result (Unit {0}) Stale × target_nodes.Scene). managed x.1.outbox.sides ≡ []) e (lapse_manages node good peer label)

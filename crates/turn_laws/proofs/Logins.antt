@@ -133,11 +133,7 @@ seconds_due : (ids : List ℕ) → Kept (map (λ login. sides.Expired login) ids
 seconds_due [] = refl
 seconds_due (id ∷ ids) = ap (λ ns. notes.Expired id ∷ ns) (seconds_due ids)
 
--- the live logins of the places from one on
-ids_then : Option ℕ → List ℕ → List ℕ
-ids_then None ids = ids
-ids_then (Some id) ids = id ∷ ids
-
+-- one place more
 held_one : (login : Option Login) (rest : List (Option Login)) → Kept (held_login login) ++ held_notes (live_ids rest) ≡ held_notes (live_ids (login ∷ rest))
 held_one None rest = refl
 held_one (Some login) rest = by (is_live login) refl
