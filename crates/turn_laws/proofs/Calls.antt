@@ -1,8 +1,7 @@
 -- What a law of turns has to show, one case for each kind of call of a node: that it holds of the turn of that call, whose first note, whose other notes, and whose places before
 -- and behind it are given. So it knows of no line, of no run and of nothing that a world does.
-use Rattle.std.specs.Prelude.{◌≡◌, ℕ, suc, ◌+◌, ◌<◌, ◌==◌, Bool, true, false, List, [], ◌∷◌, length, Option, Some, None, Result, Ok, Err}
+use Rattle.std.specs.Prelude.{◌≡◌, ℕ, suc, ◌+◌, ◌<◌, Bool, true, false, List, [], ◌∷◌, length, Option, Some, None, Ok}
 use Rattle.bus_transactions.specs.Judging.{AreJudged}
-use Rattle.label_table.specs.declared.reply.Stale.{Stale}
 use Rattle.packet_store.specs.declared.sent.Sent.{Sent}
 use Rattle.packet_store.specs.Kept.{found_sent}
 use Rattle.rbc_disk.specs.Disk.{Disk}
@@ -79,21 +78,74 @@ module _ (units ready : ℕ) (start : List Disk) (L : Turn → Type 0) where
   abbrev pub ByOwn : List Moment → Scene → Note → (i : ℕ) → OutboxState → WorldState → Scene → Type 0
   ByOwn past s note i outbox w behind = AreOwn outbox.sides → Turned past s note (suc i) outbox w behind
 
+  -- ---- the turn of each call
+  -- a packet comes to the target, which may have run a command that told this; and to an initiator
+  abbrev pub Heard : List Moment → Scene → (serial : ℕ) (again : Bool) → Option Told → Sent → Type 0
+  Heard past s serial again run one =
+      let x = received run one.generation one.bytes (whole_of s.world.target s.media) in
+      let w = with_note (judged_note serial x.0) (marked serial again (with_target x.1.node s.world)) in
+      let behind = scene (handed_out 0 0 x.1.outbox w) x.1.disks (faults_after run one s.world.target s.media) in ByTarget past s (judged_note serial x.0) x.1.outbox w behind
+
+  abbrev pub HeardOwn : List Moment → Scene → (serial : ℕ) (again : Bool) → Sent → (i : ℕ) → Type 0
+  HeardOwn past s serial again one i =
+      let x = receive_step one.generation one.bytes empty_outbox (initiator_at s.world i) in
+      let w = with_note (judged_note serial x.0) (marked serial again (with_initiator i x.1.1 s.world)) in ByOwn past s (judged_note serial x.0) i x.1.0 w (in_scene (handed_out (suc i) 0 x.1.0 w) s)
+
+  -- a transaction of the target times out, which leaves it so; and one of an initiator
+  abbrev pub Late : List Moment → Scene → (serial : ℕ) → target.Scene → Type 0
+  Late past s serial t = let w = with_note (notes.TimedOut serial) (with_target t.node s.world) in ByTarget past s (notes.TimedOut serial) t.outbox w (in_scene (handed_out 0 0 t.outbox w) s)
+
+  abbrev pub LateOwn : List Moment → Scene → (serial i : ℕ) → OutboxState → InitiatorState → Type 0
+  LateOwn past s serial i outbox state =
+      let w = with_note (notes.TimedOut serial) (with_initiator i state s.world) in ByOwn past s (notes.TimedOut serial) i outbox w (in_scene (handed_out (suc i) 0 outbox w) s)
+
+  -- a transaction is under way at the target, which it then leaves so; and at an initiator
+  abbrev pub Expires : Scene → Request → Unit {0} → target.Scene → Type 0
+  Expires s request done t = expired request.peer request.label (target.scene s.world.target empty_outbox) ≡ (Ok done, t)
+
+  abbrev pub ExpiresOwn : Scene → Request → (i : ℕ) → OutboxState → InitiatorState → Type 0
+  ExpiresOwn s request i outbox state = expire_step request.label empty_outbox (initiator_at s.world i) ≡ (true, (outbox, state))
+
+  -- the target sees the latest generation; and an initiator does
+  abbrev pub Sees : List Moment → Scene → Type 0
+  Sees past s =
+      let g = s.world.generations.latest in
+      let x = (seen g.generation (id_of g 0) (target.scene s.world.target empty_outbox)).1 in
+      let w = with_target x.node (with_seen 0 (told_seen 0 s.world)) in ByTarget past s (notes.Seen 0 g.generation) x.outbox w (in_scene (handed_out 0 0 x.outbox w) s)
+
+  abbrev pub SeesOwn : List Moment → Scene → (i : ℕ) → Type 0
+  SeesOwn past s i =
+      let g = s.world.generations.latest in
+      let x = see_step g.generation (id_of g (suc i)) (id_of g 0) empty_outbox (initiator_at s.world i) in
+      let w = with_initiator i x.1 (with_seen (suc i) (told_seen (suc i) s.world)) in ByOwn past s (notes.Seen (suc i) g.generation) i x.0 w (in_scene (handed_out (suc i) 0 x.0 w) s)
+
+  -- a second passes
+  abbrev pub Ticks : List Moment → Scene → Type 0
+  Ticks past s =
+      let x = ticked (target.scene s.world.target empty_outbox) in
+      let w = with_target x.node (with_note notes.Tick s.world) in ByTarget past s notes.Tick x.outbox w (in_scene (handed_out 0 0 x.outbox w) s)
+
+  -- an initiator acts: its line has no first note
+  abbrev pub Acts : List Moment → Scene → (line i : ℕ) → Action → OutboxState → InitiatorState → Type 0
+  Acts past s line i action outbox state =
+      let w = with_initiator i state (without_notes s.world) in
+      let asks = asked line (events.Act i action) in
+      AreOwn outbox.sides → At past s → At (asks ∷ hist past s.world) (in_scene (handed_out (i + 1) (weight_in action) outbox w) s) → L (turn (hist past s.world) asks (handed (i + 1) (weight_in action) outbox w))
+
+  abbrev pub ActsSo : Scene → (i : ℕ) → Action → OutboxState → InitiatorState → Type 0
+  ActsSo s i action outbox state = act_step action empty_outbox (initiator_at s.world i) ≡ (None, (outbox, state))
+
   pub record Cases : Type 0 where
-    -- a packet comes to the target, or to an initiator
-    pub heard : (past : List Moment) (s : Scene) (serial : ℕ) (again : Bool) (run : Option Told) (one : Sent) → found_sent serial s.world.store.kept ≡ Some one → one.to ≡ 0 → MayTell run one s.world.target s.media → (let x = received run one.generation one.bytes (whole_of s.world.target s.media) in let w = with_note (judged_note serial x.0) (marked serial again (with_target x.1.node s.world)) in ByTarget past s (judged_note serial x.0) x.1.outbox w (scene (handed_out 0 0 x.1.outbox w) x.1.disks (faults_after run one s.world.target s.media)))
-    pub heard_own : (past : List Moment) (s : Scene) (serial : ℕ) (again : Bool) (one : Sent) (i : ℕ) → found_sent serial s.world.store.kept ≡ Some one → one.to ≡ suc i → i < length s.world.initiators → (let x = receive_step one.generation one.bytes empty_outbox (initiator_at s.world i) in let w = with_note (judged_note serial x.0) (marked serial again (with_initiator i x.1.1 s.world)) in ByOwn past s (judged_note serial x.0) i x.1.0 w (in_scene (handed_out (suc i) 0 x.1.0 w) s))
-    -- a transaction of the target times out, or one of an initiator
-    pub late : (past : List Moment) (s : Scene) (serial : ℕ) (request : Request) (done : Unit {0}) (t : target.Scene) → find s.world.requests serial ≡ Some request → request.node ≡ 0 → expired request.peer request.label (target.scene s.world.target empty_outbox) ≡ (Ok done, t) → (let w = with_note (notes.TimedOut serial) (with_target t.node s.world) in ByTarget past s (notes.TimedOut serial) t.outbox w (in_scene (handed_out 0 0 t.outbox w) s))
-    pub late_own : (past : List Moment) (s : Scene) (serial : ℕ) (request : Request) (i : ℕ) (outbox : OutboxState) (state : InitiatorState) → find s.world.requests serial ≡ Some request → request.node ≡ suc i → i < length s.world.initiators → expire_step request.label empty_outbox (initiator_at s.world i) ≡ (true, (outbox, state)) → (let w = with_note (notes.TimedOut serial) (with_initiator i state s.world) in ByOwn past s (notes.TimedOut serial) i outbox w (in_scene (handed_out (suc i) 0 outbox w) s))
-    -- the target sees a reset, or an initiator does
-    pub sees : (past : List Moment) (s : Scene) → (let g = s.world.generations.latest in let x = (seen g.generation (id_of g 0) (target.scene s.world.target empty_outbox)).1 in let w = with_target x.node (with_seen 0 (told_seen 0 s.world)) in ByTarget past s (notes.Seen 0 g.generation) x.outbox w (in_scene (handed_out 0 0 x.outbox w) s))
-    pub sees_own : (past : List Moment) (s : Scene) (i : ℕ) → i < length s.world.initiators → (let g = s.world.generations.latest in let x = see_step g.generation (id_of g (suc i)) (id_of g 0) empty_outbox (initiator_at s.world i) in let w = with_initiator i x.1 (with_seen (suc i) (told_seen (suc i) s.world)) in ByOwn past s (notes.Seen (suc i) g.generation) i x.0 w (in_scene (handed_out (suc i) 0 x.0 w) s))
-    -- a second passes
-    pub ticks : (past : List Moment) (s : Scene) → (let x = ticked (target.scene s.world.target empty_outbox) in let w = with_target x.node (with_note notes.Tick s.world) in ByTarget past s notes.Tick x.outbox w (in_scene (handed_out 0 0 x.outbox w) s))
+    pub heard : (past : List Moment) (s : Scene) (serial : ℕ) (again : Bool) (run : Option Told) (one : Sent) → found_sent serial s.world.store.kept ≡ Some one → one.to ≡ 0 → MayTell run one s.world.target s.media → Heard past s serial again run one
+    pub heard_own : (past : List Moment) (s : Scene) (serial : ℕ) (again : Bool) (one : Sent) (i : ℕ) → found_sent serial s.world.store.kept ≡ Some one → one.to ≡ suc i → i < length s.world.initiators → HeardOwn past s serial again one i
+    pub late : (past : List Moment) (s : Scene) (serial : ℕ) (request : Request) (done : Unit {0}) (t : target.Scene) → find s.world.requests serial ≡ Some request → request.node ≡ 0 → Expires s request done t → Late past s serial t
+    pub late_own : (past : List Moment) (s : Scene) (serial : ℕ) (request : Request) (i : ℕ) (outbox : OutboxState) (state : InitiatorState) → find s.world.requests serial ≡ Some request → request.node ≡ suc i → i < length s.world.initiators → ExpiresOwn s request i outbox state → LateOwn past s serial i outbox state
+    pub sees : (past : List Moment) (s : Scene) → Sees past s
+    pub sees_own : (past : List Moment) (s : Scene) (i : ℕ) → i < length s.world.initiators → SeesOwn past s i
+    pub ticks : (past : List Moment) (s : Scene) → Ticks past s
     -- a line that settles ends
     pub ends : (past : List Moment) (s : Scene) (done : Bool) → At past s → At past (settled_from done s) → L (turn (hist past s.world) (said (end_note done)) [])
-    -- an initiator acts, behind the line's place; every other line; and the line that begins a run
-    pub acts : (past : List Moment) (s : Scene) (line i : ℕ) (action : Action) (outbox : OutboxState) (state : InitiatorState) → i < length s.world.initiators → act_step action empty_outbox (initiator_at s.world i) ≡ (None, (outbox, state)) → (let w = with_initiator i state (without_notes s.world) in AreOwn outbox.sides → At past s → At (asked line (events.Act i action) ∷ hist past s.world) (in_scene (handed_out (i + 1) (weight_in action) outbox w) s) → L (turn (hist past s.world) (asked line (events.Act i action)) (handed (i + 1) (weight_in action) outbox w)))
+    pub acts : (past : List Moment) (s : Scene) (line i : ℕ) (action : Action) (outbox : OutboxState) (state : InitiatorState) → i < length s.world.initiators → ActsSo s i action outbox state → Acts past s line i action outbox state
+    -- every other line; and the line that begins a run
     pub lines : (past : List Moment) (s : Scene) (line : ℕ) (event : Event) (rest : List Note) (behind : Scene) → Brings line s event rest → behind.world.fresh ≡ onto rest [] → At past s → At (asked line event ∷ hist past s.world) behind → L (turn (hist past s.world) (asked line event) rest)
     pub begins : (line initiators : ℕ) (is_ready : Bool) → L (turn [] (asked line (events.Begin initiators is_ready)) (notes_begin initiators is_ready ∷ []))

@@ -25,7 +25,7 @@ use Rattle.packet_store.specs.declared.sent.Sent.{Sent}
 use Rattle.packet_store.specs.Kept.{found_sent, is_flying}
 use Rattle.rbc_disk.specs.Disk.{Disk}
 use Rattle.rbc_disk.specs.Runs.{Told}
-use Rattle.sbp_bus.specs.Generations.{GenerationsState, id_of, node_of, topology_at}
+use Rattle.sbp_bus.specs.Generations.{GenerationsState, id_of}
 use Rattle.sbp_bus.specs.Packets.{end_note, judged_note}
 use Rattle.sbp_bus.specs.Telling.{initiator_by, managed_note}
 use Rattle.sbp_bus.specs.Telling as bus
@@ -49,7 +49,7 @@ use Rattle.sbp_laws.specs.LoginLaw.{is_decision_note}
 use Rattle.sbp_laws.specs.Management.{Call, answer_to, answers, call_by, decided_in, decided_note, login_if, manager_turn, no_call, operator, operator_for, start_in, start_of, started, starts, word_by}
 use Rattle.sbp_laws.specs.NoteKinds.{of_kind}
 use Rattle.sbp_laws.specs.Packets.{id_for, sender_in}
-use Rattle.sbp_laws.specs.Targets.{Purpose as TermPurpose, Target, for_agent, for_manager, for_nobody, is_serial, manager_step, over, purpose_of, target_at}
+use Rattle.sbp_laws.specs.Targets.{Purpose as TermPurpose, Target, for_agent, for_manager, for_nobody, is_serial, over, purpose_of, target_at}
 use Rattle.sbp_laws.specs.Turns.{turn}
 use Rattle.sbp_target.specs.declared.purpose.Purpose.{Purpose}
 use Rattle.sbp_target.specs.declared.purpose.Purpose.TheVariants as purposes
@@ -70,14 +70,13 @@ use Rattle.sbp_world.proofs.Agents.Management.Holding.{good_of, known_id, same_i
 use Rattle.sbp_world.proofs.Agents.Management.Owned.{IsNoRun}
 use Rattle.sbp_world.proofs.Agents.Management.Still.{hist}
 use Rattle.sbp_world.proofs.Wire.Found.{node_found}
-use Rattle.turn_laws.specs.Decisions.{DecidesWhereDue, DecisionNotesLaw}
+use Rattle.turn_laws.specs.Decisions.{DecidesWhereDue}
 use Rattle.turn_laws.proofs.Calls.{Brings, Cases, calls, injects, loses, refuses, refuses_action, resets, sets_key}
 use Rattle.turn_laws.proofs.Effects.{step_same}
 use Rattle.turn_laws.proofs.Gots.{agent_calls, manager_calls, no_kind, nobody_calls, own_calls_nothing, request_calls, unsolicited_calls}
 use Rattle.turn_laws.proofs.Handed.{handed, note_of, notes_told}
 use Rattle.turn_laws.proofs.KindNotes.{IsToldKind, kind_handed, own_handed}
 use Rattle.turn_laws.proofs.ManagedSides.{decision_side, delivery_manages, found_side, lapse_manages, managed, managed_of, reply_side, second_manages, sight_manages}
-use Rattle.turn_laws.proofs.Pass.{of_every_run}
 use Rattle.turn_laws.proofs.Places.{Place}
 
 -- ---- among the notes: those of the decisions that are told, as the target knows the nodes
@@ -299,22 +298,25 @@ module _ (units ready : ℕ) (has : 0 < units) (start : List Disk) where
               ∙ sym (ap (DueBy wire T) (manager_calls units ready has start past s here serial one found zero_to judged p read some label layer (Some purposes.Management) e refl))
           response (Some (purposes.Agent place)) e = sym (ap (DueBy wire T) (agent_calls units ready has start past s here serial one found zero_to judged p read some label layer (Some (purposes.Agent place)) e place refl))
 
-        by_finding : (f : Finding Purpose) (layer : Layer Purpose) → judging_step node.layer one.generation one.bytes ≡ (f, layer) → IsFound f node.layer layer one.bytes → (judged : Judged) → judged ≡ (received_as run one.bytes f (with_layer layer (whole_of node s.media))).0 → AreJudged (said (judged_note serial judged) ∷ ms) → decision_notes w.generations (found_side node good f) ≡ DueBy wire T (Called judged)
-        by_finding of_generation layer e f judged is j = subst (λ x. [] ≡ DueBy wire T (Called x)) (sym is) refl
-        by_finding of_grammar layer e f judged is j = subst (λ x. [] ≡ DueBy wire T (Called x)) (sym is) refl
-        by_finding of_label layer e f judged is j = subst (λ x. [] ≡ DueBy wire T (Called x)) (sym is) refl
-        by_finding (of_again p rcode) layer e f judged is j = subst (λ x. [] ≡ DueBy wire T (Called x)) (sym is) refl
-        by_finding (of_response p label purpose) layer e f judged is j =
-            subst (λ x. decision_notes w.generations (found_side node good (of_response p label purpose)) ≡ DueBy wire T (Called x)) (sym is)
-            (response (subst (λ x. AreJudged (said (judged_note serial x) ∷ ms)) is j) p f.read f.kind label layer purpose e)
-        by_finding (of_request p) layer e f judged is j = request p f.1.read (no_kind (reply_kind p) f.1.kind) judged
+        abbrev Finds : Finding Purpose → Layer Purpose → Judged → Type 0
+        Finds f layer judged = (judging_step node.layer one.generation one.bytes ≡ (f, layer)) × (judged ≡ (received_as run one.bytes f (with_layer layer (whole_of node s.media))).0)
+
+        by_finding : (f : Finding Purpose) (layer : Layer Purpose) (judged : Judged) → Finds f layer judged → IsFound f node.layer layer one.bytes → AreJudged (said (judged_note serial judged) ∷ ms) → decision_notes w.generations (found_side node good f) ≡ DueBy wire T (Called judged)
+        by_finding of_generation layer judged e f j = subst (λ x. [] ≡ DueBy wire T (Called x)) (sym e.1) refl
+        by_finding of_grammar layer judged e f j = subst (λ x. [] ≡ DueBy wire T (Called x)) (sym e.1) refl
+        by_finding of_label layer judged e f j = subst (λ x. [] ≡ DueBy wire T (Called x)) (sym e.1) refl
+        by_finding (of_again p rcode) layer judged e f j = subst (λ x. [] ≡ DueBy wire T (Called x)) (sym e.1) refl
+        by_finding (of_response p label purpose) layer judged e f j =
+            subst (λ x. decision_notes w.generations (found_side node good (of_response p label purpose)) ≡ DueBy wire T (Called x)) (sym e.1)
+            (response (subst (λ x. AreJudged (said (judged_note serial x) ∷ ms)) e.1 j) p f.read f.kind label layer purpose e.0)
+        by_finding (of_request p) layer judged e f j = request p f.1.read (no_kind (reply_kind p) f.1.kind) judged
 
         target_due : (let x = received run one.generation one.bytes (whole_of node s.media) in AreJudged (said (judged_note serial x.0) ∷ ms) → decision_notes w.generations (managed x.1.outbox.sides) ≡ DueBy wire T (Called x.0))
         unfolding received
         target_due j =
             let f = judging_step node.layer one.generation one.bytes in
             let x = received run one.generation one.bytes (whole_of node s.media) in
-            ap (decision_notes w.generations) (delivery_manages node good run s.media.disks one.generation one.bytes) ∙ by_finding f.0 f.1 refl (found_as node.layer one.generation one.bytes) x.0 refl j
+            ap (decision_notes w.generations) (delivery_manages node good run s.media.disks one.generation one.bytes) ∙ by_finding f.0 f.1 x.0 (refl, refl) (found_as node.layer one.generation one.bytes) j
 
     lapse_none : (peer : ℕ) (label : LabelParts) (done : Unit {0}) (t : target_nodes.Scene) → expired peer label (target_scene node empty_outbox) ≡ (Ok done, t) → managed t.outbox.sides ≡ []
     lapse_none peer label done t e = subst (λ (x : Result (Unit {0}) Stale × target_nodes.Scene). managed x.1.outbox.sides ≡ []) e (lapse_manages node good peer label)
@@ -363,6 +365,3 @@ module _ (units ready : ℕ) (has : 0 < units) (start : List Disk) where
     lines = λ past s line event rest behind brings fresh here there. line_decides line s (hist past s.world) event rest brings;
     begins = λ line initiators is_ready. refl;
   }
-
-pub decision_notes_law : DecisionNotesLaw
-decision_notes_law = of_every_run DecidesWhereDue (λ units ready start has. decision_cases units ready has start)

@@ -1,5 +1,5 @@
 -- A law of which each note stands for a decision's effect: what a packet that comes to the target brings of them is what the effect of its call on the management operation has.
-use Rattle.std.proofs.Common.{[], Bool, List, None, Ok, Option, Some, ap, false, is_some, refl, subst, suc, sym, true, ℕ, ◌<◌, ◌∙◌, ◌∷◌, ◌≡◌}
+use Rattle.std.proofs.Common.{[], Bool, List, None, Ok, Option, Some, ap, is_some, refl, subst, suc, sym, true, ℕ, ◌<◌, ◌∙◌, ◌∷◌, ◌≡◌}
 use Rattle.async_packet.specs.Labels.{LabelParts}
 use Rattle.async_packet.specs.Packet.{Packet}
 use Rattle.async_packet.specs.Reading.{reading}
@@ -42,7 +42,6 @@ use Rattle.sbp_target.proofs.Histories.Told.{side_law}
 use Rattle.sbp_world.proofs.Agents.CrewFirsts.{agrees}
 use Rattle.sbp_world.proofs.Agents.Management.Holding.{good_of}
 use Rattle.sbp_world.proofs.Agents.Management.Still.{hist}
-use Rattle.turn_laws.proofs.Calls.{calls}
 use Rattle.turn_laws.proofs.Effects.{EffectOf, idle_effect, start_effect, step_same, timed_out_effect}
 use Rattle.turn_laws.proofs.Gots.{agent_calls, manager_calls, no_kind, nobody_calls, own_calls_nothing, request_calls, unsolicited_calls}
 use Rattle.turn_laws.proofs.KeptNotes.{IsKept, agent_none, first_sides, kept_in, request_none}
@@ -129,15 +128,21 @@ module _ (kind : Note → Bool) (kept : Side → List Note) (k : IsKept kind kep
             (agent_none kind kept k (served_login node place) place node first disks left outbox tells)
 
       -- whatever it is found to be
-      by_finding : (f : Finding Purpose) (layer : Layer Purpose) → judging_step node.layer one.generation one.bytes ≡ (f, layer) → IsFound f node.layer layer one.bytes → (judged : Judged) → judged ≡ (received_as run one.bytes f (with_layer layer (whole_of node s.media))).0 → AreJudged (said (judged_note serial judged) ∷ ms) → (first : List (wire.Call Purpose)) (disks left : List Disk) (outbox : OutboxState) → delivery_tells f node first disks left outbox → Due judged outbox.sides
-      by_finding of_generation layer e f judged is j first disks left outbox tells = subst (λ x. Due x outbox.sides) (sym is) (ignored causes.Generation outbox.sides (ap Keeps tells))
-      by_finding of_grammar layer e f judged is j first disks left outbox tells = subst (λ x. Due x outbox.sides) (sym is) (ignored causes.Grammar outbox.sides (ap Keeps tells))
-      by_finding of_label layer e f judged is j first disks left outbox tells = subst (λ x. Due x outbox.sides) (sym is) (ignored causes.Label outbox.sides (ap Keeps tells))
-      by_finding (of_again p rcode) layer e f judged is j first disks left outbox tells = subst (λ x. Due x outbox.sides) (sym is) (ignored causes.Again outbox.sides (ap Keeps tells))
-      by_finding (of_response p label purpose) layer e f judged is j first disks left outbox tells =
-          subst (λ x. Due x outbox.sides) (sym is)
-          (response (subst (λ x. AreJudged (said (judged_note serial x) ∷ ms)) is j) p f.read f.kind label layer purpose e first disks left outbox tells)
-      by_finding (of_request p) layer e f judged is j first disks left outbox tells =
+      abbrev Finds : Finding Purpose → Layer Purpose → Judged → Type 0
+      Finds f layer judged = (judging_step node.layer one.generation one.bytes ≡ (f, layer)) × (judged ≡ (received_as run one.bytes f (with_layer layer (whole_of node s.media))).0)
+
+      abbrev Tells : Finding Purpose → Judged → OutboxState → Type 0
+      Tells f judged outbox = (first : List (wire.Call Purpose)) (disks left : List Disk) → delivery_tells f node first disks left outbox → Due judged outbox.sides
+
+      by_finding : (f : Finding Purpose) (layer : Layer Purpose) (judged : Judged) (outbox : OutboxState) → Finds f layer judged → IsFound f node.layer layer one.bytes → AreJudged (said (judged_note serial judged) ∷ ms) → Tells f judged outbox
+      by_finding of_generation layer judged outbox e f j first disks left tells = subst (λ x. Due x outbox.sides) (sym e.1) (ignored causes.Generation outbox.sides (ap Keeps tells))
+      by_finding of_grammar layer judged outbox e f j first disks left tells = subst (λ x. Due x outbox.sides) (sym e.1) (ignored causes.Grammar outbox.sides (ap Keeps tells))
+      by_finding of_label layer judged outbox e f j first disks left tells = subst (λ x. Due x outbox.sides) (sym e.1) (ignored causes.Label outbox.sides (ap Keeps tells))
+      by_finding (of_again p rcode) layer judged outbox e f j first disks left tells = subst (λ x. Due x outbox.sides) (sym e.1) (ignored causes.Again outbox.sides (ap Keeps tells))
+      by_finding (of_response p label purpose) layer judged outbox e f j first disks left tells =
+          subst (λ x. Due x outbox.sides) (sym e.1)
+          (response (subst (λ x. AreJudged (said (judged_note serial x) ∷ ms)) e.1 j) p f.read f.kind label layer purpose e.0 first disks left outbox tells)
+      by_finding (of_request p) layer judged outbox e f j first disks left tells =
           request p f.1.read (no_kind (reply_kind p) f.1.kind) judged outbox.sides (first_sides kind kept k _ outbox.sides tells ∙ request_none kind kept k _ p node)
 
       pub target_due : (let x = received run one.generation one.bytes (whole_of node s.media) in AreJudged (said (judged_note serial x.0) ∷ ms) → Due x.0 x.1.outbox.sides)
@@ -145,7 +150,7 @@ module _ (kind : Note → Bool) (kept : Side → List Note) (k : IsKept kind kep
       target_due j =
           let f = judging_step node.layer one.generation one.bytes in
           let x = received run one.generation one.bytes (whole_of node s.media) in
-          by_finding f.0 f.1 refl (found_as node.layer one.generation one.bytes) x.0 refl j (first_of (receives run s.media.disks one.generation one.bytes)) s.media.disks x.1.disks x.1.outbox (side_law.deliveries run s.media.disks one.generation one.bytes node)
+          by_finding f.0 f.1 x.0 x.1.outbox (refl, refl) (found_as node.layer one.generation one.bytes) j (first_of (receives run s.media.disks one.generation one.bytes)) s.media.disks x.1.disks (side_law.deliveries run s.media.disks one.generation one.bytes node)
 
   -- a time-out has none
   pub late_due : (target : Target) (terms_before : Terms) (serial : ℕ) → DueBy target (call_by (said (notes.TimedOut serial)) target terms_before) ≡ []

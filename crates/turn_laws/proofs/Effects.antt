@@ -1,6 +1,6 @@
 -- The effect of what a turn calls on the management operation: a write of its register and a time-out have none, nor has a reply where none is under way; else it is that of the
 -- target's own step.
-use Rattle.std.proofs.Common.{◌≡◌, ◌∙◌, refl, sym, ap, ℕ, ◌<◌, Bool, true, false, cond, List, Option, Some, None, Result, Ok, Err}
+use Rattle.std.proofs.Common.{◌≡◌, ◌∙◌, refl, ap, ℕ, Bool, true, false, cond, List, Option, Some, None, Result, Ok, Err}
 use Rattle.login_table.specs.Table.{Table}
 use Rattle.mgmt_agent.specs.Machine.{Machine, reply_in, reply_step, reply_to, source_in, start_step}
 use Rattle.mgmt_agent.specs.declared.decision.Effect.{Effect}
@@ -12,10 +12,10 @@ use Rattle.mgmt_agent.specs.declared.operation.Phase.TheVariants as phases
 use Rattle.orb_layout.specs.declared.ask.Ask.{Ask}
 use Rattle.orb_layout.specs.Replies.{Answer, Expired}
 use Rattle.sbp_journal.specs.Addresses.{Access, Start, management_agent, start_at, start_serves}
-use Rattle.sbp_journal.specs.Run.{Moment, said}
+use Rattle.sbp_journal.specs.Run.{said}
 use Rattle.sbp_journal.specs.Wire.{Terms}
 use Rattle.sbp_journal.specs.declared.note.Note.TheVariants as notes
-use Rattle.sbp_laws.specs.Management.{Call, answer_to, answers, call_by, effect_in, manager_turn, no_call, start_in, start_of, started, starts}
+use Rattle.sbp_laws.specs.Management.{Call, answer_to, call_by, effect_in, manager_turn, no_call, start_in, start_of, started, starts}
 use Rattle.sbp_laws.specs.Packets.{sender_in}
 use Rattle.sbp_laws.specs.Targets.{Purpose, Target, for_agent, for_manager, for_nobody, is_serial, manager_step, purpose_of}
 use Rattle.sbp_target.specs.Nodes.{NodeState}

@@ -2,7 +2,7 @@
 use Rattle.std.proofs.Common.{◌≡◌, ◌∙◌, refl, sym, ap, subst, ℕ, ◌+◌, ◌*◌, ◌^◌, ◌==◌, Bool, true, false, cond, List, [], ◌∷◌, length, Option, Some, None, Result, Ok, Err}
 use Rattle.login_table.specs.Table.{Table}
 use Rattle.mgmt_agent.specs.Decisions.{decide, reads_eui, told}
-use Rattle.mgmt_agent.specs.Machine.{Machine, beside, decide_step, decided_as, eui_step, fail_step, high_eui_at, high_got, low_got, orb_got, orb_read, reply_in, reply_step, reply_to, response_written, start_step, status_written}
+use Rattle.mgmt_agent.specs.Machine.{Machine, beside, decide_step, decided_as, eui_step, fail_step, high_eui_at, high_got, low_got, orb_got, orb_read, reply_in, reply_step, reply_to, response_written, status_written}
 use Rattle.mgmt_agent.specs.Rows.{all_rows, first_row}
 use Rattle.mgmt_agent.specs.Statuses.{number_of}
 use Rattle.mgmt_agent.specs.declared.decision.Decision.{Decision}
@@ -10,7 +10,6 @@ use Rattle.mgmt_agent.specs.declared.decision.Effect.{Effect}
 use Rattle.mgmt_agent.specs.declared.decision.Effect.TheVariants as effects
 use Rattle.mgmt_agent.specs.declared.decision.ManagerStep.{ManagerStep}
 use Rattle.mgmt_agent.specs.declared.decision.Outcome.{Outcome}
-use Rattle.mgmt_agent.specs.declared.operation.Busy.{Busy}
 use Rattle.mgmt_agent.specs.declared.operation.Operation.{Operation}
 use Rattle.mgmt_agent.specs.declared.operation.Phase.{Phase}
 use Rattle.mgmt_agent.specs.declared.operation.Phase.TheVariants as phases
@@ -27,7 +26,7 @@ use Rattle.sbp_journal.specs.Wire.{Terms, terms}
 use Rattle.sbp_journal.specs.declared.note.Note.{Note}
 use Rattle.sbp_journal.specs.declared.note.Note.TheVariants as notes
 use Rattle.sbp_laws.specs.LoginLaw.{ByRows, IsFirstRow, is_decision_note}
-use Rattle.sbp_laws.specs.Management.{Call, answer_to, answers, call_by, decided_in, decided_note, decisions_due, got_call, manager_turn, no_call, operator_for, source_node, start_in}
+use Rattle.sbp_laws.specs.Management.{answer_to, decided_in, decided_note, decisions_due, got_call, manager_turn, no_call, operator_for, source_node}
 use Rattle.sbp_laws.specs.NoteKinds.{of_kind}
 use Rattle.sbp_laws.specs.Packets.{access_at, answer_in, answered_at, id_for, packet_at, receiver_in, sender_in}
 use Rattle.sbp_laws.specs.Targets as laws

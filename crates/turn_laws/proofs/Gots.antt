@@ -1,5 +1,5 @@
 -- What a packet that comes to the target is for, by the terms of its place: a call of the management operation.
-use Rattle.std.proofs.Common.{arith, ◌≡◌, ◌∙◌, refl, sym, ap, subst, ℕ, suc, ◌<◌, nat_eq, is_some, Bool, true, false, cond, List, ◌∷◌, Option, Some, None, Result, Ok, Err}
+use Rattle.std.proofs.Common.{arith, ◌≡◌, ◌∙◌, refl, ap, ℕ, suc, ◌<◌, nat_eq, is_some, Bool, true, false, cond, List, ◌∷◌, Option, Some, None, Ok}
 use Rattle.std.proofs.lemmas.Bool.Decides.{nat_tests}
 use Rattle.async_packet.specs.Labels.{LabelParts}
 use Rattle.async_packet.specs.Packet.{Packet, header_in}
@@ -19,7 +19,7 @@ use Rattle.sbp_journal.specs.Wire.{Terms, terms}
 use Rattle.sbp_journal.specs.declared.cause.Judged.{Judged}
 use Rattle.sbp_journal.specs.declared.cause.Judged.TheVariants as judgements
 use Rattle.sbp_journal.specs.declared.note.Note.TheVariants as notes
-use Rattle.sbp_laws.specs.Management.{Call, answer_to, answers as call_answers, call_by, got_call, no_call, source_node, start_in}
+use Rattle.sbp_laws.specs.Management.{answer_to, answers as call_answers, call_by, got_call, no_call, source_node, start_in}
 use Rattle.sbp_laws.specs.Packets.{access_at, answer_in as term_answer, answered_at, id_for, packet_at, receiver_in, sender_in}
 use Rattle.sbp_laws.specs.Targets.{Purpose as TermPurpose, Target, for_agent, for_manager, for_nobody, is_serial, over, purpose_of, target_at}
 use Rattle.sbp_target.specs.declared.purpose.Purpose.{Purpose}
@@ -29,7 +29,7 @@ use Rattle.sbp_world.specs.Agents.Serials.{IsHanded}
 use Rattle.sbp_world.specs.Worlds.{Scene, WorldState}
 use Rattle.sbp_world.proofs.Agents.CrewFirsts.{answer_same, asks_part, for_it, handed}
 use Rattle.sbp_world.proofs.Agents.Management.Hearing.{IsAnswer, answers, answers_none}
-use Rattle.sbp_world.proofs.Agents.Management.Holding.{Holding, was_sent}
+use Rattle.sbp_world.proofs.Agents.Management.Holding.{was_sent}
 use Rattle.sbp_world.proofs.Agents.Management.Still.{hist}
 use Rattle.turn_laws.proofs.Places.{Place}
 

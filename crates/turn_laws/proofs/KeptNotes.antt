@@ -26,7 +26,7 @@ use Rattle.sbp_target.specs.declared.desk.Desk.{Desk}
 use Rattle.sbp_target.specs.declared.purpose.Purpose.{Purpose}
 use Rattle.sbp_world.specs.Hosts.Handing.{AreOthers, IsOther}
 use Rattle.sbp_world.specs.Telling.{told as told_one}
-use Rattle.sbp_world.specs.Worlds.{Scene, WorldState}
+use Rattle.sbp_world.specs.Worlds.{WorldState}
 use Rattle.target_base.specs.Addresses.{demand_of}
 use Rattle.target_base.specs.declared.address.Demand.{Demand}
 use Rattle.sbp_target.proofs.Histories.Told.{side_law}

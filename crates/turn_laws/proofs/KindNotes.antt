@@ -13,7 +13,7 @@ use Rattle.sbp_world.specs.Sending.{sent}
 use Rattle.sbp_world.specs.Telling.{told, told_all}
 use Rattle.sbp_world.specs.Worlds.{WorldState}
 use Rattle.sbp_world.proofs.Agents.Management.Owned.{AreOwn, IsNoRun}
-use Rattle.turn_laws.proofs.Handed.{handed, note_of, notes_sent, notes_told, packet_note}
+use Rattle.turn_laws.proofs.Handed.{handed, notes_sent, notes_told, packet_note}
 
 -- nothing behind a list
 pub none_behind : {A : Type 0} (xs : List A) → xs ++ [] ≡ xs

@@ -38,12 +38,11 @@ use Rattle.sbp_world.proofs.Agents.Management.Holding.{good_of}
 use Rattle.sbp_world.proofs.Agents.Management.Owned.{AreOwn, IsNoRun}
 use Rattle.sbp_world.proofs.Agents.Management.Sights.{ages, seen_test}
 use Rattle.sbp_world.proofs.Agents.Management.Still.{hist}
-use Rattle.turn_laws.specs.Logins.{LoginNotesLaw, LoginsWhereDue}
+use Rattle.turn_laws.specs.Logins.{LoginsWhereDue}
 use Rattle.turn_laws.proofs.Calls.{Brings, Cases, calls, injects, loses, refuses, refuses_action, resets, sets_key}
 use Rattle.turn_laws.proofs.Decisions.{HasEffects, late_due, own_due, target_due}
 use Rattle.turn_laws.proofs.Handed.{handed, note_of}
 use Rattle.turn_laws.proofs.KeptNotes.{IsKept, both, cuts_none, first_none, kept_in, lapse_none, none_from, own_keeps, place_none, target_keeps, unit_cuts_none}
-use Rattle.turn_laws.proofs.Pass.{of_every_run}
 use Rattle.turn_laws.proofs.Places.{Place}
 use Rattle.turn_laws.proofs.Subjects.{Names, reply_named}
 use Rattle.mgmt_agent.specs.declared.decision.Effect.TheVariants as effects
@@ -134,11 +133,7 @@ seconds_due : (ids : List ℕ) → Kept (map (λ login. sides.Expired login) ids
 seconds_due [] = refl
 seconds_due (id ∷ ids) = ap (λ ns. notes.Expired id ∷ ns) (seconds_due ids)
 
--- the live logins of the places from one on
-ids_then : Option ℕ → List ℕ → List ℕ
-ids_then None ids = ids
-ids_then (Some id) ids = id ∷ ids
-
+-- one place more
 held_one : (login : Option Login) (rest : List (Option Login)) → Kept (held_login login) ++ held_notes (live_ids rest) ≡ held_notes (live_ids (login ∷ rest))
 held_one None rest = refl
 held_one (Some login) rest = by (is_live login) refl
@@ -245,6 +240,3 @@ module _ (units ready : ℕ) (has : 0 < units) (start : List Disk) where
     where
       away : (i : ℕ) (b : Bool) (xs : List Note) → cond (nat_eq (suc i) 0 && b) xs [] ≡ []
       away i b xs = let other : nat_eq (suc i) 0 ≡ false = grind (arith, nat_tests) in ap (λ x. cond (x && b) xs []) other
-
-pub login_notes_law : LoginNotesLaw
-login_notes_law = of_every_run LoginsWhereDue (λ units ready start has. login_cases units ready has start)

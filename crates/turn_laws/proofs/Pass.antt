@@ -2,7 +2,6 @@
 -- opened for such laws.
 use Rattle.std.proofs.Common.{arith, ◌≡◌, ◌∙◌, refl, sym, ap, subst, ℕ, zero, suc, ◌+◌, ◌-◌, ◌==◌, ◌^◌, ◌<◌, ◌≤◌, nat_lt, Bool, true, false, cond, List, [], ◌∷◌, ◌++◌, map, length, Option, Some, None, Result, Ok, Err}
 use Rattle.std.proofs.lemmas.Bool.Decides.{nat_tests}
-use Rattle.std.specs.Prelude.{slice_set}
 use Rattle.bus_transactions.specs.Judging.{AreJudged}
 use Rattle.bus_transactions.specs.May.{is_reset}
 use Rattle.label_table.specs.declared.reply.Stale.{Stale}
@@ -13,11 +12,10 @@ use Rattle.rbc_disk.specs.Held.{Held}
 use Rattle.rbc_disk.specs.Runs.{Told}
 use Rattle.sbp_bus.specs.declared.requests.Request.{Request}
 use Rattle.sbp_bus.specs.Generations.{id_of, topology_at}
-use Rattle.sbp_bus.specs.Packets.{end_note, judged_note, no_node, no_packet}
+use Rattle.sbp_bus.specs.Packets.{judged_note, no_node, no_packet}
 use Rattle.sbp_bus.specs.Requests.{find}
 use Rattle.sbp_initiator.specs.Acting.{act_step}
 use Rattle.sbp_initiator.specs.Effects.{Turn as Called}
-use Rattle.sbp_initiator.specs.declared.state.InitiatorState.{InitiatorState}
 use Rattle.sbp_initiator.specs.Receiving.{expire_step, receive_step}
 use Rattle.sbp_initiator.specs.Seeing.{see_step}
 use Rattle.sbp_journal.specs.Outgoings.{OutboxState, empty_outbox}
@@ -27,16 +25,14 @@ use Rattle.sbp_journal.specs.declared.event.Event.{Event}
 use Rattle.sbp_journal.specs.declared.event.Event.TheVariants as events
 use Rattle.sbp_journal.specs.declared.note.Note.{Note}
 use Rattle.sbp_journal.specs.declared.note.Note.TheVariants as notes
-use Rattle.sbp_laws.specs.Turns.{EachTurn, EachTurnBefore, Turn, turn}
+use Rattle.sbp_laws.specs.Turns.{EachTurn, Turn, turn}
 use Rattle.sbp_target.specs.Nodes.{NodeState}
 use Rattle.sbp_target.specs.Nodes as target
 use Rattle.sbp_target.specs.Receiving.{expired, received, seen, ticked, with_key}
-use Rattle.sbp_target.specs.Replies.{Whole}
-use Rattle.sbp_world.specs.declared.parts.delivering.Arrival.{Arrival}
-use Rattle.sbp_world.specs.Delivering.{MayAt as MayCome, MayReceive, MayTold, arrived, at_target, delivered, delivered_by, faults_after, initiator_received, initiators_received, marked, received_by, received_step, target_received, whole_of, with_initiators}
+use Rattle.sbp_world.specs.Delivering.{MayAt as MayCome, MayReceive, MayTold, arrived, at_target, delivered, delivered_by, faults_after, initiator_received, initiators_received, marked, received_by, received_step, target_received, whole_of}
 use Rattle.sbp_world.specs.Handing.{handed_out}
-use Rattle.sbp_world.specs.Histories.{history_of, moments_behind}
-use Rattle.sbp_world.specs.Hosts.Runs.{IsRun, more_deliveries}
+use Rattle.sbp_world.specs.Histories.{moments_behind}
+use Rattle.sbp_world.specs.Hosts.Runs.{more_deliveries}
 use Rattle.sbp_world.specs.Lines.{MayHappen, acted, acted_by, happens, keyed, no_unit, weight_in}
 use Rattle.sbp_world.specs.Making.{new_world, ready_logins}
 use Rattle.sbp_world.specs.Nodes.{handed_all, initiator_learns, reset_line, see_line, target_learns, target_sees, target_ticks, tick_line, told_seen, with_seen}

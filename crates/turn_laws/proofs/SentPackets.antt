@@ -1,5 +1,5 @@
 -- What the wire says of packets is what the sent law says of them.
-use Rattle.std.proofs.Common.{arith, ◌≡◌, ◌∙◌, refl, sym, ap, subst, ℕ, ◌+◌, ◌^◌, ◌<◌, ◌≤◌, ◌&&◌, ◌||◌, not, Bool, true, false, List, [], ◌∷◌, length, Option, Some, None, Result, Ok}
+use Rattle.std.proofs.Common.{arith, ◌≡◌, ◌∙◌, refl, sym, ap, subst, ℕ, ◌<◌, ◌≤◌, List, [], ◌∷◌, length, Some, Ok}
 use Rattle.async_packet.specs.Canon.{IsValid, canon}
 use Rattle.async_packet.specs.Packet.{Packet, header_in, lock, lock_response, read_block, read_block_response, read_quadlet, read_quadlet_response, write_block, write_quadlet, write_response}
 use Rattle.async_packet.specs.Reading.{reading}
@@ -11,16 +11,15 @@ use Rattle.bus_transactions.specs.Wire.{transaction}
 use Rattle.async_packet.proofs.Spelled.{reading_spelled}
 use Rattle.bus_transactions.proofs.PacketParts.{part_read}
 use Rattle.label_table.specs.Laws.{relabelled}
-use Rattle.label_table.specs.Requests.{is_last, is_write, with_label}
+use Rattle.label_table.specs.Requests.{with_label}
 use Rattle.label_table.proofs.Requests.{least_spelled}
 use Rattle.label_table.proofs.Rewritten.{writes_labels}
 use Rattle.sbp_journal.specs.Run.{Moment, asked, said}
 use Rattle.sbp_journal.specs.Transactions.{Kind, Part, locking, no_packet, part_in, part_of, reading_block, reading_quadlet, request, response, writing}
 use Rattle.sbp_journal.specs.Wire.{Terms, terms}
-use Rattle.sbp_journal.specs.declared.note.Note.{Note}
 use Rattle.sbp_journal.specs.declared.note.Note.TheVariants as notes
 use Rattle.sbp_laws.specs.Packets.{label_for, serves}
-use Rattle.sbp_laws.specs.SentPackets.{HasLabel, IsFromTo, IsOwn, SentAt}
+use Rattle.sbp_laws.specs.SentPackets.{HasLabel, IsOwn, SentAt}
 use Rattle.sbp_laws.specs.Turns.{EachMoment}
 use Rattle.sbp_world.proofs.Agents.Management.Still.{hist}
 use Rattle.sbp_world.proofs.Hosts.Labels.{first_found, serves_same}

@@ -1,5 +1,5 @@
 -- A history whose last turn goes on with some notes has the law of that turn; and the judgements of a history stand in its front.
-use Rattle.std.proofs.Common.{◌≡◌, ℕ, List, [], ◌∷◌, ◌++◌, map}
+use Rattle.std.proofs.Common.{ℕ, List, [], ◌∷◌, ◌++◌, map}
 use Rattle.bus_transactions.specs.Judging.{AreJudged}
 use Rattle.sbp_journal.specs.Run.{Moment, asked, said}
 use Rattle.sbp_journal.specs.declared.event.Event.{Event}

@@ -6,11 +6,7 @@ use Rattle.sbp_laws.specs.Agents.{target_before}
 use Rattle.sbp_laws.specs.LoginLaw.{is_decision_note}
 use Rattle.sbp_laws.specs.Management.{decisions_due}
 use Rattle.sbp_laws.specs.NoteKinds.{of_kind}
-use Rattle.sbp_laws.specs.Turns.{EachTurn, Turn}
-use Rattle.turn_laws.specs.Runs.{OfEveryRun}
+use Rattle.sbp_laws.specs.Turns.{Turn}
 
 abbrev pub DecidesWhereDue : List Disk → Turn → Type 0
 DecidesWhereDue start t = of_kind is_decision_note t.rest ≡ decisions_due (target_before start t) t
-
-abbrev pub DecisionNotesLaw : Type 0
-DecisionNotesLaw = OfEveryRun (λ start past. EachTurn (DecidesWhereDue start) past)

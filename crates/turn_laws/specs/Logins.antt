@@ -6,11 +6,7 @@ use Rattle.sbp_laws.specs.Agents.{target_before, wire_before}
 use Rattle.sbp_laws.specs.LoginLaw.{is_login_note}
 use Rattle.sbp_laws.specs.Management.{effect_of, logins_due}
 use Rattle.sbp_laws.specs.NoteKinds.{of_kind}
-use Rattle.sbp_laws.specs.Turns.{EachTurn, Turn}
-use Rattle.turn_laws.specs.Runs.{OfEveryRun}
+use Rattle.sbp_laws.specs.Turns.{Turn}
 
 abbrev pub LoginsWhereDue : List Disk → Turn → Type 0
 LoginsWhereDue start t = of_kind is_login_note t.rest ≡ logins_due t.start (wire_before t) (target_before start t) (effect_of (target_before start t) t)
-
-abbrev pub LoginNotesLaw : Type 0
-LoginNotesLaw = OfEveryRun (λ start past. EachTurn (LoginsWhereDue start) past)

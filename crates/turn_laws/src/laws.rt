@@ -1,8 +1,6 @@
 //! The laws of turns, each of every run of the machine of up to four initiators with one to four units.
 ghost use Rattle.turn_laws.specs.Cleared.{ClearedLaw};
-ghost use Rattle.turn_laws.specs.Decisions.{DecisionNotesLaw};
 ghost use Rattle.turn_laws.specs.Login.{LoginRunLaw};
-ghost use Rattle.turn_laws.specs.Logins.{LoginNotesLaw};
 ghost use Rattle.turn_laws.specs.Packets.{PacketsLaw};
 
 /// In each turn of every run exactly the units are cleared that the decision of the turn resets, whatever
@@ -10,20 +8,6 @@ ghost use Rattle.turn_laws.specs.Packets.{PacketsLaw};
 #[tactic(auto, using(crate::proofs::Cleared::cleared_law))]
 pub fn units_are_cleared_where_due()
     ensures { ClearedLaw }
-{}
-
-/// In each turn of every run `held`, `expired`, `back` and `left` stand exactly where a reset that the
-/// target sees, a second or a decision has them, whatever anybody injected: `logins` of the login law.
-#[tactic(auto, using(crate::proofs::Logins::login_notes_law))]
-pub fn logins_are_told_where_due()
-    ensures { LoginNotesLaw }
-{}
-
-/// In each turn of every run a decision is told exactly where the operation of the terms decides, as it
-/// decides, whatever anybody injected: `decisions` of the login law.
-#[tactic(auto, using(crate::proofs::DecisionNotes::decision_notes_law))]
-pub fn decisions_are_told_where_due()
-    ensures { DecisionNotesLaw }
 {}
 
 /// The login law holds of every run, whatever anybody injected: in each turn the decisions stand that are

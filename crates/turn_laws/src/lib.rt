@@ -3,7 +3,4 @@
 
 mod laws;
 
-pub use laws::{
-    decisions_are_told_where_due, logins_are_lawful, logins_are_told_where_due, packets_are_lawful,
-    units_are_cleared_where_due,
-};
+pub use laws::{logins_are_lawful, packets_are_lawful, units_are_cleared_where_due};
