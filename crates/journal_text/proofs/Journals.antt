@@ -7,6 +7,7 @@ use Rattle.sbp_journal.specs.Written.{IsWritten}
 use Rattle.sbp_journal.specs.declared.note.Note.{Note}
 use Rattle.sbp_journal.proofs.Each.{all_append, all_reverse}
 use Rattle.sbp_laws.specs.Lawful.{FormAt, LawfulBut}
+use Rattle.sbp_laws.specs.OnTheBus.{LawfulOnTheBus}
 use Rattle.sbp_laws.specs.Turns.{EachMoment}
 use Rattle.journal_text.proofs.TextsBack.{texts_determine}
 
@@ -24,3 +25,7 @@ written_entries (entry ∷ before) h =
 pub journals_determined : (wild others : ℕ → Bool) (run other : Run) → LawfulBut wild run → LawfulBut others other → text_of (journal run) ≡ text_of (journal other) → journal run ≡ journal other
 journals_determined wild others run other h k =
     texts_determine (journal run) (journal other) (written_entries run.entries h.moments.form) (written_entries other.entries k.moments.form)
+
+pub bus_journals_determined : (wild others : ℕ → Bool) (run other : Run) → LawfulOnTheBus wild run → LawfulOnTheBus others other → text_of (journal run) ≡ text_of (journal other) → journal run ≡ journal other
+bus_journals_determined wild others run other h k =
+    texts_determine (journal run) (journal other) (written_entries run.entries h.form) (written_entries other.entries k.form)

@@ -3,6 +3,6 @@ mod WordsBack
 mod FieldsBack
 mod CanonicalBack
 mod NotesBack
-mod TextsBack
+pub mod TextsBack
 mod Journals
 pub mod Feeds

@@ -12,6 +12,7 @@ ghost use Rattle.sbp_journal.specs.declared.note.Note as notes;
 ghost use Rattle.sbp_journal.specs.Run as journals;
 ghost use Rattle.sbp_journal.specs.Run.{journal};
 ghost use Rattle.sbp_laws.specs.Lawful.{LawfulBut};
+ghost use Rattle.sbp_laws.specs.OnTheBus.{LawfulOnTheBus};
 
 /// The runs by which the canonical form of bytes goes are the maximal ones: they join to the bytes,
 /// each has a byte, and no two side by side have the same one; and no other list of runs does so.
@@ -26,9 +27,11 @@ pub fn text_determines_notes()
     ensures { (ns ms : List notes.Note) → AllByRecursion IsWritten ns → AllByRecursion IsWritten ms → text_of ns ≡ text_of ms → ns ≡ ms }
 {}
 
-/// So the text of a lawful run determines its journal, whichever initiators its laws leave out.
+/// So the text of a lawful run determines its journal, whichever initiators its laws leave out; the part of the
+/// laws that is of the bus is enough.
 pub fn text_determines_journal()
-    ensures { (wild others : ℕ → Bool) (run other : journals.Run) → LawfulBut wild run → LawfulBut others other → text_of (journal run) ≡ text_of (journal other) → journal run ≡ journal other }
+    ensures lawful { (wild others : ℕ → Bool) (run other : journals.Run) → LawfulBut wild run → LawfulBut others other → text_of (journal run) ≡ text_of (journal other) → journal run ≡ journal other }
+    ensures on_the_bus { (wild others : ℕ → Bool) (run other : journals.Run) → LawfulOnTheBus wild run → LawfulOnTheBus others other → text_of (journal run) ≡ text_of (journal other) → journal run ≡ journal other }
 {}
 
 /// The text of each note of the stated form is one line, with its one line feed at its end. So the sum

@@ -1,6 +1,8 @@
 ghost use Rattle.std.specs.Prelude.{◌≡◌, ◌+◌, ◌-◌, ◌≤◌, ◌∷◌, [], length, IfOk, OnOk};
+ghost use Rattle.std.specs.List.{AllByRecursion};
 ghost use Rattle.packet_store.specs.Kept.{flying, recent};
 ghost use Rattle.sbp_bus.specs.Buses.{new_bus, with_note, without_notes};
+ghost use Rattle.sbp_journal.specs.Written.{IsTyped};
 
 use crate::generations::Generations;
 use crate::loads::Loads;
@@ -84,10 +86,12 @@ impl Bus {
         })
     }
 
-    /// The notes of the line.
+    /// The notes of the line, each inside the types of its fields.
     pub fn fresh(&self) -> &Journal
-        ensures { result.now ≡ self.now.fresh }
+        ensures same { result.now ≡ self.now.fresh }
+        ensures typed { AllByRecursion IsTyped self.now.fresh }
     {
+        self.fresh.each_fits();
         &self.fresh
     }
 

@@ -31,7 +31,7 @@ pub drill_summed : (seed count : ℕ) (start media now : Held) (tally : TallySta
 drill_summed seed count start media now tally disk old output h s n e =
     let d = h.done in
     let lines = numbered_from 1 (generated seed count) in
-    let ran = has_run 1 d.run start media h.world lines d.start_is d.units_are d.some d.most d.few (let entries = d.count in let few = h.few in omega (arith, entries, few)) (sym (append-nil (events_of 1 d.run)) ∙ d.events_are) d.stands d.lines in
+    let ran = has_run 1 d.run start media h.world lines d.start_is d.units_are d.some d.most d.few (let entries = d.count in let few = h.few in omega (arith, entries, few)) (sym (append-nil (events_of 1 d.run)) ∙ d.events_are) d.stands d.lines d.typed in
     record {
       notes = journal d.run;
       media = media;

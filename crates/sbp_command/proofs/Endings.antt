@@ -41,7 +41,7 @@ tells_by start media happened text None few h = record {
 }
 tells_by start media happened text (Some w) few h = record {
   notes = journal h.run;
-  runs = inr (has_run h.line h.run start media w happened h.start_is h.units_are h.some h.most h.few (entries_few h.line h.run happened h.events_are few) h.events_are h.stands h.lines);
+  runs = inr (has_run h.line h.run start media w happened h.start_is h.units_are h.some h.most h.few (entries_few h.line h.run happened h.events_are few) h.events_are h.stands h.lines h.typed);
   text_is = h.text_is;
 }
 

@@ -1,5 +1,6 @@
 -- The history of a run of the machine keeps the laws of the wire, and those of the bus, where its events are those of lines.
 use Rattle.std.proofs.Common.{◌≡◌, ◌∙◌, inr, refl, sym, ap, subst, ℕ, ◌+◌, ◌^◌, ◌<◌, ◌≤◌, Bool, false, List, [], ◌∷◌, length, arith}
+use Rattle.std.specs.List.{AllByRecursion}
 use Rattle.std.proofs.lemmas.List.{length-append}
 use Rattle.sbp_journal.specs.declared.event.Event.{Event}
 use Rattle.sbp_world.specs.Histories.{history_of}
@@ -12,6 +13,10 @@ use Rattle.sbp_laws.specs.CarriedLaw.{CarriedLaw, RunsWhereDue}
 use Rattle.sbp_laws.specs.Lawful.{injectors}
 use Rattle.sbp_laws.specs.OnLists.{LawfulOnLists}
 use Rattle.sbp_laws.specs.OnTheBus.{LawfulOnTheBus}
+use Rattle.journal_text.proofs.TextsBack.{texts_determine}
+use Rattle.sbp_world.specs.Forms.{AreTyped}
+use Rattle.sbp_world.proofs.Wire.Typed.{lawful_where_typed}
+use Rattle.sbp_command.proofs.Forms.{is_written}
 use Rattle.sbp_laws.specs.Turns.{EachMoment, EachTurn}
 use Rattle.sbp_laws.proofs.InTime.{in_time_law}
 use Rattle.sbp_world.proofs.Lists.Clauses.{answers_hold, brought_law, carried_law, lengths_law, lists_law, reads_law}
@@ -75,8 +80,8 @@ module _ (line : ℕ) (run : Run) (few : run.initiators ≤ 4) (count : length r
 
   -- by what the media held at first
   module _ (start : Held) (same : run.start ≡ start) (units : run.units ≡ length start.disks) where
-    run_on_bus : LawfulOnTheBus wild (journal_run line run)
-    run_on_bus = bus_law.lawful line run few (units ∙ ap (λ m. length m.disks) (sym same)) short all lines
+    run_on_bus : AllByRecursion AreTyped run.entries → LawfulOnTheBus wild (journal_run line run)
+    run_on_bus = lawful_where_typed line run few (bus_law.lawful line run few (units ∙ ap (λ m. length m.disks) (sym same)) short all lines)
 
     over : (F : List Disk → Type 0) → F run.start.disks → F start.disks
     over F h = subst F (ap (λ (held : Held). held.disks) same) h
@@ -120,8 +125,8 @@ module _ (line : ℕ) (run : Run) (few : run.initiators ≤ 4) (count : length r
 
 -- it is one over its events, whose notes are its journal
 pub has_run : (line : ℕ) (run : Run) (start media : Held) (world : WorldState) (happened : List (ℕ × Event)) → run.start ≡ start → run.units ≡ length start.disks → 0 < run.units → run.units ≤ 4 → run.initiators ≤ 4 → length run.entries ≤ 65535 → events_of line run ≡ happened
-    → StandsFor run (scene_of world media) → AreLines run run.entries → HasRun start happened (journal run) media
-has_run line run start media world happened same units some most few count events stands lines =
+    → StandsFor run (scene_of world media) → AreLines run run.entries → AllByRecursion AreTyped run.entries → HasRun start happened (journal run) media
+has_run line run start media world happened same units some most few count events stands lines typed =
     let left : media ≡ (after (beginning run) run.entries).media = ap (λ s. s.media) stands.state in
     let lawful = run_on_lists line run few count stands.lines lines start same units some most in
     record {
@@ -136,7 +141,7 @@ has_run line run start media world happened same units some most few count event
       media_fit = run_fits run start media same few stands.lines left;
       leaves = run_leaves line run start media same few stands.lines left;
       of_wire = run_of_wire line run few count stands.lines lines;
-      on_the_bus = run_on_bus line run few count stands.lines lines start same units;
+      on_the_bus = run_on_bus line run few count stands.lines lines start same units typed;
       statuses = run_takes line run few count stands.lines lines;
       due = run_is_due line run few count stands.lines lines start same units some most;
       on_lists = lawful;
@@ -148,4 +153,6 @@ has_run line run start media world happened same units some most few count event
       states = run_states line run few count stands.lines lines start same units some most;
       open_lists = run_open_lists line run few count stands.lines lines start same units some most;
       in_time = in_time_law (injectors (history_of line run)) start.disks (history_of line run) lawful;
+      written = is_written run few stands.lines typed;
+      by_text = λ others w same_text. texts_determine others (journal run) w (is_written run few stands.lines typed) same_text;
     }

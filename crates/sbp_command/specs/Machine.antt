@@ -1,8 +1,11 @@
 -- What a run of the machine over the events of a script is.
 use Rattle.std.specs.Prelude.{◌≡◌, ◌⊎◌, ◌<◌, ℕ, Bool, false, List, [], length, reverse}
+use Rattle.std.specs.List.{AllByRecursion}
 use Rattle.rbc_disk.specs.Held.{Held}
 use Rattle.sbp_journal.specs.declared.event.Event.{Event}
 use Rattle.sbp_journal.specs.declared.note.Note.{Note}
+use Rattle.sbp_journal.specs.Text.{text_of}
+use Rattle.sbp_journal.specs.Written.{IsWritten}
 use Rattle.media_laws.specs.Media.{LeavesMedia, media_after}
 use Rattle.sbp_world.specs.Histories.{history_of}
 use Rattle.sbp_world.specs.Runs.{AreEntries, Run, after, beginning}
@@ -27,7 +30,8 @@ use Rattle.script_runner.specs.Events.{events_of, journal}
 -- keeps the laws of the wire, and its journal the part of the laws that is of the bus; the statuses that it takes are those that are due, and so
 -- are the commands that run; and it keeps the laws of lists, of the initiators that injected no packets, which read so in the order of time, and the carried
 -- law: what they had run, and what ended, was read as it says, and brought by reads, and commands run with what was read; and each answer that they take has its length, is what was written
--- of it, and is the plain disk's. The terms of its journal are the states of the nodes as it ends.
+-- of it, and is the plain disk's. The terms of its journal are the states of the nodes as it ends. Its notes are written so that their text
+-- determines them: no other notes of such a form have it.
 pub record HasRun (start : Held) (happened : List (ℕ × Event)) (notes : List Note) (now : Held) : Type 0 where
   pub line : ℕ
   pub run : Run
@@ -52,6 +56,8 @@ pub record HasRun (start : Held) (happened : List (ℕ × Event)) (notes : List 
   pub states : AreStates start.disks (history_of line run) (after (beginning run) run.entries)
   pub open_lists : AreOpenLists start.disks (history_of line run) (after (beginning run) run.entries).world
   pub in_time : ReadsInTime (injectors (history_of line run)) (history_of line run)
+  pub written : AllByRecursion IsWritten notes
+  pub by_text : (others : List Note) → AllByRecursion IsWritten others → text_of others ≡ text_of notes → others ≡ notes
 
 -- No run begins: there is no event and no note, and the media are as they were.
 pub record HasNone (start : Held) (happened : List (ℕ × Event)) (notes : List Note) (now : Held) : Type 0 where

@@ -60,6 +60,14 @@ impl Journal {
         self.notes.clear();
     }
 
+    /// Each note is inside the types of its fields; nothing is done.
+    #[inline(always)]
+    pub fn each_fits(&self)
+        ensures { AllByRecursion IsTyped self.now }
+    {
+        let _ = &self.notes;
+    }
+
     /// The notes, lent in the order in which they were added.
     pub fn as_slice(&self) -> &[Note]
         ensures { result.now ≡ reverse self.now }

@@ -57,4 +57,5 @@ pub mod OnceHere
 pub mod Brings
 pub mod Entries
 pub mod States
+pub mod Typed
 pub mod Keeping

@@ -1,8 +1,10 @@
--- The notes of a run have the form of a journal's notes, so that its text can be written and read back.
+-- The notes of a run have the form of a journal's notes, so that its text can be written and read back; that they are inside the types of
+-- their fields a world says of each line's.
 use Rattle.std.specs.Prelude.{ℕ, Bool}
 use Rattle.std.specs.List.{AllByRecursion}
 use Rattle.sbp_journal.specs.declared.event.Event.{Event}
 use Rattle.sbp_journal.specs.Form.{HasForm}
+use Rattle.sbp_journal.specs.Written.{IsTyped}
 use Rattle.sbp_world.specs.Lines.{Happens}
 use Rattle.sbp_world.specs.Making.{new_world}
 use Rattle.sbp_world.specs.Runs.{Entry, Run, StandsFor}
@@ -15,6 +17,9 @@ HaveForm w = AllByRecursion HasForm w.fresh
 -- an entry's notes
 abbrev pub AreForms : Entry → Type 0
 AreForms e = AllByRecursion HasForm e.notes
+
+abbrev pub AreTyped : Entry → Type 0
+AreTyped e = AllByRecursion IsTyped e.notes
 
 -- So it is of the line that begins a run, of each line from any scene, and so of every line of a run.
 pub record FormLaw : Type 0 where

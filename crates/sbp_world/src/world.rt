@@ -1,5 +1,7 @@
 ghost use Rattle.std.specs.Prelude.{◌≡◌, ◌+◌, ◌≤◌, length, map, IfOk, OnOk};
+ghost use Rattle.std.specs.List.{AllByRecursion};
 ghost use Rattle.packet_store.specs.Kept.{flying, recent};
+ghost use Rattle.sbp_journal.specs.Written.{IsTyped};
 ghost use Rattle.sbp_target.specs.Faults.{NoneFell};
 ghost use Rattle.sbp_world.specs.Lines.{Happens, IsEvent};
 ghost use Rattle.sbp_world.specs.Making.{new_world};
@@ -31,7 +33,7 @@ impl Model for World {
 
 impl World {
     /// A run begins: with 1 to 4 initiators, each logged in on unit 0 where they are ready, and 1 to 4
-    /// units.
+    /// units. Its note is inside the types of its fields.
     pub fn begin(alloc: Global, initiators: u8, ready: bool, units: u8) -> Result<World, NoMemory>
         requires some { 1 ≤ initiators }
         requires few { initiators ≤ 4 }
@@ -39,15 +41,19 @@ impl World {
         requires units { units ≤ 4 }
         ensures world { IfOk result (λ world. world ≡ new_world initiators ready units) }
         ensures lawful { IfOk result (λ world. BeginsLawfully initiators ready units world) }
+        ensures typed { IfOk result (λ world. AllByRecursion IsTyped world.fresh) }
     {
+        let parts = Parts::new(alloc, initiators, ready, units)?;
+        // Its clause has that the note is inside its types.
+        let _fresh = parts.fresh();
         Ok(World {
-            parts: Parts::new(alloc, initiators, ready, units)?,
+            parts,
             outbox: Outbox::new(alloc),
         })
     }
 
-    /// Runs the event of the line with this number; its notes are then [`World::fresh`]. A refused action
-    /// is a note.
+    /// Runs the event of the line with this number; its notes are then [`World::fresh`], each inside the
+    /// types of its fields. A refused action is a note.
     pub fn step(
         &mut self,
         media: &mut Vec<Box<dyn Medium>>,
@@ -61,11 +67,16 @@ impl World {
         ensures units { length self.new.target.units ≡ length self.old.target.units }
         ensures happens { OnOk result (Happens line event.now (scene self.old (map disk media.old.items) (map media_faults media.old.items)) (scene self.new (map disk media.new.items) (map media_faults media.new.items))) }
         ensures lawful { OnOk result (KeepsLaws line event.now (scene self.old (map disk media.old.items) (map media_faults media.old.items)) (scene self.new (map disk media.new.items) (map media_faults media.new.items))) }
+        ensures typed { OnOk result (AllByRecursion IsTyped self.new.fresh) }
     {
-        self.parts.step(media, &mut self.outbox, line, event)
+        self.parts.step(media, &mut self.outbox, line, event)?;
+        // Its clause has that the notes are inside their types.
+        let _fresh = self.parts.fresh();
+        Ok(())
     }
 
-    /// Runs a `settle`; true exactly where nothing is in flight at the end.
+    /// Runs a `settle`; true exactly where nothing is in flight at the end. Its notes are inside the types
+    /// of their fields.
     pub fn settle(&mut self, media: &mut Vec<Box<dyn Medium>>, line: u32) -> Result<bool, NoMemory>
         requires media { length media.old.items ≡ length self.old.target.units }
         ensures size { length media.new.items ≡ length media.old.items }
@@ -73,14 +84,19 @@ impl World {
         ensures units { length self.new.target.units ≡ length self.old.target.units }
         ensures settles { IfOk result (λ settled. HasSettled settled (scene self.old (map disk media.old.items) (map media_faults media.old.items)) (scene self.new (map disk media.new.items) (map media_faults media.new.items))) }
         ensures lawful { OnOk result (SettlesLawfully line (scene self.old (map disk media.old.items) (map media_faults media.old.items)) (scene self.new (map disk media.new.items) (map media_faults media.new.items))) }
+        ensures typed { OnOk result (AllByRecursion IsTyped self.new.fresh) }
     {
         self.parts.clear();
-        self.parts.settle(media, &mut self.outbox)
+        let settled = self.parts.settle(media, &mut self.outbox)?;
+        // Its clause has that the notes are inside their types.
+        let _fresh = self.parts.fresh();
+        Ok(settled)
     }
 
-    /// The notes of the last line alone; after `begin` that of its line.
+    /// The notes of the last line alone, each inside the types of its fields; after `begin` that of its line.
     pub fn fresh(&self) -> &Journal
-        ensures { result.now ≡ self.now.fresh }
+        ensures same { result.now ≡ self.now.fresh }
+        ensures typed { AllByRecursion IsTyped self.now.fresh }
     {
         self.parts.fresh()
     }

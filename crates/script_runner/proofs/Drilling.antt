@@ -3,6 +3,7 @@ use Rattle.std.proofs.Common.{◌≡◌, ◌∙◌, refl, sym, ap, subst, ℕ, s
 use Rattle.std.specs.List.{AllByRecursion, slice_get}
 use Rattle.rbc_disk.specs.Held.{Held}
 use Rattle.sbp_journal.specs.declared.event.Event.{Event}
+use Rattle.sbp_journal.specs.Written.{IsTyped}
 use Rattle.sbp_journal.specs.declared.note.Note.{Note}
 use Rattle.sbp_world.specs.Lines.{Happens, IsEvent}
 use Rattle.sbp_world.specs.Making.{new_world, notes_begin}
@@ -60,6 +61,7 @@ drill_begins seed count units start tally u one four e = record {
   tally_is = e;
   stands = begins 2 true units start;
   lines = tt;
+  typed = tt;
   count = refl;
 }
 
@@ -73,8 +75,8 @@ drill_begun seed count units start script tally world said s w u one four t n =
 
 -- a line was run
 pub drill_more : (start old media : Held) (all left rest : List Event) (line : ℕ) (event : Event) (before after : TallyState) (w v : WorldState) → left ≡ event ∷ rest → Happens (line + 1) event (scene_of w old) (scene_of v media)
-    → ((notes : List Note) → before ≡ tally_of notes → after ≡ tally_of (notes ++ reverse v.fresh)) → IsLine event (length w.initiators) → InDrill start all line left before w old → InDrill start all (line + 1) rest after v media
-drill_more start old media all left rest line event before after w v l k t i h = record {
+    → ((notes : List Note) → before ≡ tally_of notes → after ≡ tally_of (notes ++ reverse v.fresh)) → AllByRecursion IsTyped v.fresh → IsLine event (length w.initiators) → InDrill start all line left before w old → InDrill start all (line + 1) rest after v media
+drill_more start old media all left rest line event before after w v l k t typed i h = record {
   run = with_entry h.run (entry (line + 1) event k.told v.fresh);
   start_is = h.start_is;
   units_are = h.units_are;
@@ -85,6 +87,7 @@ drill_more start old media all left rest line event before after w v l k t i h =
   tally_is = t (journal h.run) h.tally_is;
   stands = goes_on h.run (line + 1) event (scene_of w old) (scene_of v media) h.stands k;
   lines = more_lines h.run (entry (line + 1) event k.told v.fresh) (scene_of w old) h.stands.state i h.lines;
+  typed = (typed, h.typed);
   count = let before : length h.run.entries + 1 ≡ line = h.count in let now : suc (length h.run.entries) + 1 ≡ line + 1 = omega (arith, before) in now;
 }
 

@@ -1,12 +1,14 @@
 -- A script is run line by line.
 use Rattle.std.proofs.Common.{◌≡◌, ◌∙◌, refl, sym, ap, subst, ℕ, Bool, ◌+◌, ◌<◌, ◌≤◌, List, [], ◌∷◌, ◌++◌, length, map, reverse, Option, Some, None, Result, Ok, Err, append_assoc, append-nil, arith}
 use Rattle.std.specs.Prelude.{OnOk}
+use Rattle.std.specs.List.{AllByRecursion}
 use Rattle.std.specs.Str.Lines.{lines}
 use Rattle.std.proofs.lemmas.List.{length-append, length-map}
 use Rattle.std.proofs.lemmas.List.Concat.{flat_map-append}
 use Rattle.rbc_disk.specs.Disk.{Disk}
 use Rattle.rbc_disk.specs.Held.{Held, held}
 use Rattle.sbp_journal.specs.Text.{text_of, note_text}
+use Rattle.sbp_journal.specs.Written.{IsTyped}
 use Rattle.sbp_journal.specs.declared.event.Event.{Event}
 use Rattle.sbp_journal.specs.declared.event.Event.TheVariants as events
 use Rattle.sbp_journal.specs.declared.note.Note.{Note}
@@ -59,6 +61,7 @@ begun_so initiators units ready start media happened front out next number few u
   most = subst (λ n. n ≤ 4) (sym u) can.few;
   few = few;
   lines = tt;
+  typed = tt;
   events_are = ap (λ es. es ++ (number, events.Begin initiators ready) ∷ []) (sym h.events_are);
   text_is = ap (λ t. front ++ t) e ∙ sym (append_assoc front out _) ∙ ap (λ t. t ++ text_of (notes_begin initiators ready ∷ [])) h.text_is;
   stands = begins initiators ready units media;
@@ -81,9 +84,9 @@ entry_text : (xs ys : List Note) → text_of xs ++ text_of ys ≡ text_of (xs ++
 entry_text xs ys = sym (flat_map-append note_text xs ys)
 
 -- a world goes on
-pub went_on : (start old media : Held) (happened : List (ℕ × Event)) (front out next : List ℕ) (number : ℕ) (event : Event) (w v : WorldState) → Happens number event (scene_of w old) (scene_of v media) → next ≡ out ++ text_of (reverse v.fresh) → IsLine event (length w.initiators)
+pub went_on : (start old media : Held) (happened : List (ℕ × Event)) (front out next : List ℕ) (number : ℕ) (event : Event) (w v : WorldState) → Happens number event (scene_of w old) (scene_of v media) → next ≡ out ++ text_of (reverse v.fresh) → AllByRecursion IsTyped v.fresh → IsLine event (length w.initiators)
     → Stands start happened (front ++ out) (Some w) old → Stands start (happened ++ (number, event) ∷ []) (front ++ next) (Some v) media
-went_on start old media happened front out next number event w v k e l h = record {
+went_on start old media happened front out next number event w v k e t l h = record {
   line = h.line;
   run = with_entry h.run (entry number event k.told v.fresh);
   start_is = h.start_is;
@@ -95,6 +98,7 @@ went_on start old media happened front out next number event w v k e l h = recor
   text_is = ap (λ t. front ++ t) e ∙ sym (append_assoc front out _) ∙ ap (λ t. t ++ text_of (reverse v.fresh)) h.text_is ∙ entry_text (journal h.run) (reverse v.fresh);
   stands = goes_on h.run number event (scene_of w old) (scene_of v media) h.stands k;
   lines = more_lines h.run (entry number event k.told v.fresh) (scene_of w old) h.stands.state l h.lines;
+  typed = (t, h.typed);
 }
 
 pub goes_more : (i number : ℕ) (old media : Held) (event : Event) (w v : WorldState) → Happens number event (scene_of w old) (scene_of v media) → length v.target.units ≡ length w.target.units → length media.disks ≡ length old.disks
@@ -144,6 +148,10 @@ same_initiators i n (events.Key unit key) h = refl
 pub both_ok : {A E : Type 0} (result : Result A E) (P Q R : Type 0) → (P → Q → R) → OnOk result P → OnOk result Q → OnOk result R
 both_ok (Ok a) P Q R f p q = f p q
 both_ok (Err e) P Q R f p q = p
+
+pub all_ok : {A E : Type 0} (result : Result A E) (P Q R S : Type 0) → (P → Q → R → S) → OnOk result P → OnOk result Q → OnOk result R → OnOk result S
+all_ok (Ok a) P Q R S f p q r = f p q r
+all_ok (Err e) P Q R S f p q r = p
 
 -- the world that the runner has
 pub opened_can : (now : RunnerState) (i : ℕ) (o : Option WorldState) (w : WorldState) (media : Held) → record { initiators = i; world = o } ≡ now → o ≡ Some w → CanRun now media → CanRun (running i w) media

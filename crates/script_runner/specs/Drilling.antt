@@ -3,6 +3,7 @@ use Rattle.std.specs.Prelude.{◌≡◌, ℕ, ◌+◌, ◌<◌, ◌≤◌, List,
 use Rattle.std.specs.List.{AllByRecursion}
 use Rattle.rbc_disk.specs.Held.{Held}
 use Rattle.sbp_journal.specs.declared.event.Event.{Event}
+use Rattle.sbp_world.specs.Forms.{AreTyped}
 use Rattle.sbp_world.specs.Lines.{IsEvent}
 use Rattle.sbp_world.specs.Runs.{Run, StandsFor}
 use Rattle.sbp_world.specs.Worlds.{WorldState}
@@ -12,7 +13,7 @@ use Rattle.script_runner.specs.Events.{events_of, journal, numbered_from}
 use Rattle.script_runner.specs.Runner.{scene_of}
 
 -- The world and the media stand for a run of the machine up to a line, behind which these events are left of all; and its journal was
--- tallied. Each line is one of the wire, and there are as many as their number says.
+-- tallied, of notes inside their types. Each line is one of the wire, and there are as many as their number says.
 pub record InDrill (start : Held) (all : List Event) (line : ℕ) (left : List Event) (tally : TallyState) (world : WorldState) (media : Held) : Type 0 where
   pub run : Run
   pub start_is : run.start ≡ start
@@ -24,6 +25,7 @@ pub record InDrill (start : Held) (all : List Event) (line : ℕ) (left : List E
   pub tally_is : tally ≡ tally_of (journal run)
   pub stands : StandsFor run (scene_of world media)
   pub lines : AreLines run run.entries
+  pub typed : AllByRecursion AreTyped run.entries
   pub count : length run.entries + 1 ≡ line
 
 -- The lines that are left are such as a run of two initiators takes, and lines of the wire; with those before they are 20,001 at most.

@@ -1,11 +1,12 @@
 -- What `run` does with lines.
 use Rattle.std.specs.Prelude.{◌≡◌, ℕ, ◌+◌, ◌<◌, ◌≤◌, List, [], ◌∷◌, length, slice_index, refl, Option, Some, None, Err}
-use Rattle.std.specs.List.{All}
+use Rattle.std.specs.List.{All, AllByRecursion}
 use Rattle.std.proofs.Math.Nat.{le_refl}
 use Rattle.rbc_disk.specs.Held.{Held}
 use Rattle.sbp_journal.specs.declared.event.Event.{Event}
 use Rattle.sbp_journal.specs.declared.event.Event.TheVariants as events
 use Rattle.sbp_journal.specs.Text.{text_of}
+use Rattle.sbp_world.specs.Forms.{AreTyped}
 use Rattle.sbp_world.specs.Lines.{IsEvent}
 use Rattle.sbp_world.specs.Runs.{Run, StandsFor}
 use Rattle.sbp_world.specs.Worlds.{Scene, WorldState}
@@ -29,7 +30,8 @@ running initiators world = record { initiators = initiators; world = Some world 
 abbrev pub scene_of : WorldState → Held → Scene
 scene_of world media = record { world = world; media = media }
 
--- The world and the media stand for a run of the machine over these events, of one to four units, whose journal has this text.
+-- The world and the media stand for a run of the machine over these events, of one to four units, whose journal has this text and is of
+-- notes inside their types.
 pub record InRun (start : Held) (happened : List (ℕ × Event)) (text : List ℕ) (world : WorldState) (media : Held) : Type 0 where
   pub line : ℕ
   pub run : Run
@@ -42,6 +44,7 @@ pub record InRun (start : Held) (happened : List (ℕ × Event)) (text : List �
   pub text_is : text ≡ text_of (journal run)
   pub stands : StandsFor run (scene_of world media)
   pub lines : AreLines run run.entries
+  pub typed : AllByRecursion AreTyped run.entries
 
 -- No run has begun.
 pub record IsIdle (start : Held) (happened : List (ℕ × Event)) (text : List ℕ) (media : Held) : Type 0 where

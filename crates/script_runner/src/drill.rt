@@ -1,5 +1,7 @@
 ghost use Rattle.std.specs.Prelude.{◌≡◌, ◌+◌, ◌≤◌, List, [], ◌++◌, drop, length, map, reverse, true, IfOk, OnOk};
+ghost use Rattle.std.specs.List.{AllByRecursion};
 ghost use Rattle.rbc_disk.specs.Held.{Held, held};
+ghost use Rattle.sbp_journal.specs.Written.{IsTyped};
 ghost use Rattle.script_text.specs.Drill.{generated};
 ghost use Rattle.sbp_journal.specs.declared.event.Event as events;
 ghost use Rattle.sbp_journal.specs.declared.note.Note as notes;
@@ -34,6 +36,7 @@ fn run_line(
     ensures units { length world.new.target.units ≡ length world.old.target.units }
     ensures happens { OnOk result (Happens line event.now (scene world.old (map disk media.old.items) (map media_faults media.old.items)) (scene world.new (map disk media.new.items) (map media_faults media.new.items))) }
     ensures tally { (before : List notes.Note) → tally.old ≡ tally_of before → OnOk result (tally.new ≡ tally_of (before ++ reverse world.new.fresh)) }
+    ensures typed { OnOk result (AllByRecursion IsTyped world.new.fresh) }
 {
     world.step(media, line, event)?;
     tally.add_all(alloc, sums, world.fresh().as_slice())

@@ -1,8 +1,10 @@
 ghost use Rattle.std.specs.Prelude.{◌≡◌, ◌+◌, ◌≤◌, ◌∷◌, ◌++◌, [], length, map, reverse, ℕ, List, Some, Ok, IfOk, OnOk};
+ghost use Rattle.std.specs.List.{AllByRecursion};
 ghost use Rattle.line_session.specs.Ends.{Ends};
 ghost use Rattle.line_session.specs.Outside.{outside};
 ghost use Rattle.rbc_disk.specs.Held.{Held, held};
 ghost use Rattle.sbp_journal.specs.Text.{text_of};
+ghost use Rattle.sbp_journal.specs.Written.{IsTyped};
 ghost use Rattle.script_text.specs.Script.{initiators_after};
 ghost use Rattle.sbp_journal.specs.declared.event.Event as events;
 ghost use Rattle.sbp_target.specs.Faults.{NoneFell};
@@ -59,6 +61,7 @@ fn step_world(
     ensures units { length world.new.target.units ≡ length world.old.target.units }
     ensures happens { OnOk result (Happens number event.now (scene world.old (map disk media.old.items) (map media_faults media.old.items)) (scene world.new (map disk media.new.items) (map media_faults media.new.items))) }
     ensures text { OnOk result (out.new ≡ out.old ++ text_of (reverse world.new.fresh)) }
+    ensures typed { OnOk result (AllByRecursion IsTyped world.new.fresh) }
 {
     world.step(media, number, event)?;
     append_notes(alloc, world.fresh().as_slice(), out)

@@ -7,7 +7,7 @@ use Rattle.sbp_journal.specs.Run.{Moment, asked, said}
 use Rattle.sbp_journal.specs.declared.note.Note.{Note}
 use Rattle.sbp_journal.specs.declared.note.Note.TheVariants as notes
 use Rattle.sbp_laws.specs.CarriedLaw.{CarriedAt}
-use Rattle.sbp_laws.specs.Lawful.{injectors}
+use Rattle.sbp_laws.specs.Lawful.{injectors, nobody}
 use Rattle.sbp_laws.specs.Turns.{EachMoment}
 use Rattle.sbp_world.specs.Histories.{history_of}
 use Rattle.sbp_world.specs.Lists.AnswersHold.{AnswerCarriedAt, AnswersHoldLaw}
@@ -67,5 +67,5 @@ carried_run_law feeds reads answers line run r has small size tame =
       carried =
           all_carried (injectors past) run.start.disks past (feeds.after_lines line run r has small size tame) (reads.after_lines line run r has small size tame).1
           (answers line run r has small size tame).carried;
-      due = due_runs_law.after_lines line run r has small size (injectors past);
+      due = due_runs_law.after_lines line run r has small size nobody;
     }

@@ -1,5 +1,6 @@
 -- The runs that a delivery tells are those that are due, in every run, whoever sent the packet.
-use Rattle.std.proofs.Common.{◌≡◌, ◌∙◌, refl, sym, ap, subst, ℕ, zero, suc, ◌<◌, not, is_some, Bool, true, false, if◌then◌else◌, List, [], ◌∷◌, length, Option, Some, None}
+use Rattle.std.proofs.Common.{◌≡◌, ◌∙◌, refl, sym, ap, subst, ℕ, zero, suc, ◌<◌, nat_eq, not, is_some, Bool, true, false, cond, if◌then◌else◌, List, [], ◌∷◌, length, Option, Some, None, arith}
+use Rattle.std.proofs.lemmas.Bool.Decides.{nat_tests}
 use Rattle.async_packet.specs.Labels.{LabelParts}
 use Rattle.async_packet.specs.Packet.{Packet, header_in}
 use Rattle.bus_transactions.specs.Judging.{AreJudged}
@@ -162,14 +163,6 @@ module _ (units ready : ℕ) (has : 0 < units) (start : List Disk) {past : List 
     small : place < 8
     small = inside units ready has start s h site units_are serial judged (ran ∷ more) r.sent r.found r.to p f.read f.kind r.by.label layer (Some (purposes.Agent place)) e place refl
 
-    told_is : told_among (ran ∷ more) plain ≡ Some (told_of (check_of r.outcome) own.1.orb.cdb plain)
-    told_is = ap (λ n. told_among (n ∷ more) plain) r.is ∙ ap (λ c. Some (told_of (check_of r.outcome) c plain)) r.by.cdb_is
-
-    due : runs_due start (turn ms (said (notes.Got serial)) (ran ∷ more)) ≡ one_run ms (initiator_at T wire place) (unit_of T place) own.1.present own.1.orb.cdb own.1.payload
-    due =
-        one_due units ready has start s h site units_are serial judged (ran ∷ more) r.sent r.found r.to p f.read f.kind r.by.label layer (Some (purposes.Agent place)) e place refl login there r.by.which r.by.is_which run r.outcome
-        r.by.ran r.by.told_is r.by.may told_is
-
     -- whose it is
     abbrev G : Good w.target
     G = g units ready has start w h
@@ -195,6 +188,18 @@ module _ (units ready : ℕ) (has : 0 < units) (start : List Disk) {past : List 
     initiator_is =
         ap (λ (x : Table). initiator_with wire (node_in (place_at x.places place))) (ap (λ (o : Office). o.table) (over_keeps (target_at start ms)))
         ∙ (hold.live live).terms_are ∙ sym holder_is
+
+    own_told : (j : ℕ) → j ≡ i → told_among j (ran ∷ more) plain ≡ Some (told_of (check_of r.outcome) own.1.orb.cdb plain)
+    own_told j same =
+        let mine : nat_eq i j ≡ true = grind (arith, nat_tests) in
+        ap (λ n. told_among j (n ∷ more) plain) r.is
+        ∙ ap (λ b. cond b (Some (told_of (check_of r.outcome) r.cdb plain)) (told_among j more plain)) mine
+        ∙ ap (λ c. Some (told_of (check_of r.outcome) c plain)) r.by.cdb_is
+
+    due : runs_due start (turn ms (said (notes.Got serial)) (ran ∷ more)) ≡ one_run ms (initiator_at T wire place) (unit_of T place) own.1.present own.1.orb.cdb own.1.payload
+    due =
+        one_due units ready has start s h site units_are serial judged (ran ∷ more) r.sent r.found r.to p f.read f.kind r.by.label layer (Some (purposes.Agent place)) e place refl login there r.by.which r.by.is_which run r.outcome
+        r.by.ran r.by.told_is r.by.may (own_told (initiator_at T wire place) initiator_is)
 
     unit_is : unit_of T place ≡ (holder w place).unit
     unit_is =

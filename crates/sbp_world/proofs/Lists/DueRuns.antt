@@ -132,8 +132,8 @@ module _ (units ready : ℕ) (has : 0 < units) (start : List Disk) {past : List 
   event_to : (b : Bool) → is_serial (receiver_in (wire.sent serial)) 0 ≡ b → agent_event start t ≡ cond b (got_in (answered_at wire serial) T wire serial) nothing
   event_to b e = ap (λ x. cond x (got_in (answered_at wire serial) T wire serial) nothing) e
 
-  due_as : (event : laws.Event) → agent_event start t ≡ event → runs_due start t ≡ run_by T t (agent_turn event T rest)
-  due_as event e = ap (λ x. run_by T t (agent_turn x T rest)) e
+  due_as : (event : laws.Event) → agent_event start t ≡ event → runs_due start t ≡ run_by T t (agent_turn event T wire rest)
+  due_as event e = ap (λ x. run_by T t (agent_turn x T wire rest)) e
 
   module _ (sent : Sent) (found : found_sent serial w.store.kept ≡ Some sent) where
     abbrev q : Sending
@@ -224,9 +224,9 @@ module _ (units ready : ℕ) (has : 0 < units) (start : List Disk) {past : List 
             abbrev due_by : AgentStep × Machine → List Run
             due_by r = run_of ms (initiator_at T wire place) (unit_of T place) r.1 r.0.ran
 
-            due_is : (told : Option Told) → told_among rest plain ≡ told → runs_due start t ≡ due_by (step_by plain told)
+            due_is : (told : Option Told) → told_among (initiator_at T wire place) rest plain ≡ told → runs_due start t ≡ due_by (step_by plain told)
             due_is told f =
-                due_as (replies reply) event_is ∙ ap (λ x. due_by (step_by x (told_among rest x))) plain_is ∙ ap (λ y. due_by (step_by plain y)) f
+                due_as (replies reply) event_is ∙ ap (λ x. due_by (step_by x (told_among (initiator_at T wire place) rest x))) plain_is ∙ ap (λ y. due_by (step_by plain y)) f
 
             alike : (v : Bool) (told run : Option Told) → TellsAlike v (told_or told) (told_or run) → StepsAlike A.untold v (step_by plain told) (own_step run)
             alike v told run tells = reply_alike A.untold v A.machine (desk_at w.target place).agent place plain told run which answer (site.agents.are.each place inside).machine tells
@@ -235,11 +235,11 @@ module _ (units ready : ℕ) (has : 0 < units) (start : List Disk) {past : List 
             pub none_due : (run : Option Told) → run ≡ None → (own_step run).0.ran ≡ None → AllPlain rest → runs_due start t ≡ []
             none_due run untold own plainly =
                 let tells : TellsAlike false (told_or None) (told_or run) = subst (λ x. TellsAlike false (told_or None) (told_or x)) (sym untold) (record { outcome = refl; size = refl; answer = λ f. refl }) in
-                due_is None (plain_told rest plain plainly)
+                due_is None (plain_told (initiator_at T wire place) rest plain plainly)
                 ∙ none_of ms (initiator_at T wire place) (unit_of T place) (step_by plain None).1 (step_by plain None).0.ran (ap (λ (x : AgentStep). x.ran) (alike false None run tells).step ∙ own)
 
             -- and it runs one
-            pub one_due : (run : Option Told) (outcome : Outcome) → (own_step run).0.ran ≡ Some outcome → run ≡ Some (record { outcome = outcome; answer = (own_step run).1.answer }) → MayRun (own_step run).1 place outcome plain → told_among rest plain ≡ Some (told_of (check_of outcome) (own_step run).1.orb.cdb plain) → runs_due start t ≡ one_run ms (initiator_at T wire place) (unit_of T place) (own_step run).1.present (own_step run).1.orb.cdb (own_step run).1.payload
+            pub one_due : (run : Option Told) (outcome : Outcome) → (own_step run).0.ran ≡ Some outcome → run ≡ Some (record { outcome = outcome; answer = (own_step run).1.answer }) → MayRun (own_step run).1 place outcome plain → told_among (initiator_at T wire place) rest plain ≡ Some (told_of (check_of outcome) (own_step run).1.orb.cdb plain) → runs_due start t ≡ one_run ms (initiator_at T wire place) (unit_of T place) (own_step run).1.present (own_step run).1.orb.cdb (own_step run).1.payload
             one_due run outcome own told may f =
                 let r = own_step run in
                 let x : Told = told_of (check_of outcome) r.1.orb.cdb plain in

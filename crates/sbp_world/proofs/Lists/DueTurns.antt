@@ -35,10 +35,10 @@ plain_runs [] h = refl
 plain_runs (notes.Ran i n k unit cdb bytes check ∷ rest) h = absurd h.0
 plain_runs (note ∷ rest) h = plain_runs rest h.1
 
-pub plain_told : (rest : List Note) (plain : PlainDisk) → AllPlain rest → told_among rest plain ≡ None
-plain_told [] plain h = refl
-plain_told (notes.Ran i n k unit cdb bytes check ∷ rest) plain h = absurd h.0
-plain_told (note ∷ rest) plain h = plain_told rest plain h.1
+pub plain_told : (i : ℕ) (rest : List Note) (plain : PlainDisk) → AllPlain rest → told_among i rest plain ≡ None
+plain_told i [] plain h = refl
+plain_told i (notes.Ran j n k unit cdb bytes check ∷ rest) plain h = absurd h.0
+plain_told i (note ∷ rest) plain h = plain_told i rest plain h.1
 
 -- ---- a transaction that timed out runs no command
 expired_main : (place : ℕ) (plain : PlainDisk) (told : Told) (phase : Phase) (m : Machine) → (served place plain told (advanced phase m Expired).0 (advanced phase m Expired).1).0.ran ≡ None
@@ -68,7 +68,7 @@ none_of past i unit machine x e = ap (run_of past i unit machine) e
 
 module _ (T : Target) (t : Turn) where
   abbrev pub DueBy : Event → Type 0
-  DueBy event = run_by T t (agent_turn event T t.rest) ≡ []
+  DueBy event = run_by T t (agent_turn event T (wire_before t) t.rest) ≡ []
 
   due_if : (b : Bool) (e : Event) → DueBy e → DueBy (cond b e nothing)
   due_if true e d = d
@@ -103,7 +103,7 @@ module _ (T : Target) (t : Turn) where
   expired_due : (p : Purpose) → AllPlain t.rest → DueBy (reply_to p Expired)
   expired_due (for_agent place which) h =
       let plain = plain_for T (record { place = place; which = which; answer = Expired }) in
-      let told = told_among t.rest plain in
+      let told = told_among (initiator_at T (wire_before t) place) t.rest plain in
       let r = reply_step (agent_at T place).machine place plain told which Expired in
       none_of t.past (initiator_at T (wire_before t) place) (unit_of T place) r.1 r.0.ran (expired_none (agent_at T place).machine place plain told which)
   expired_due for_manager h = refl

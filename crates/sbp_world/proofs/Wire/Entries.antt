@@ -23,7 +23,7 @@ use Rattle.sbp_journal.specs.Form.{HasForm}
 use Rattle.sbp_laws.specs.Budget.{count_flying, flies, initiators, most_deliveries, settle_deliveries, shares}
 use Rattle.sbp_laws.specs.Lawful.{injectors}
 use Rattle.sbp_laws.specs.OnceLaw.{OnceLaw, is_wild}
-use Rattle.sbp_laws.specs.OnTheBus.{HasFormAt, LawfulOnTheBus}
+use Rattle.sbp_laws.specs.OnTheBus.{HasFormAt, FormedOnTheBus}
 use Rattle.sbp_laws.specs.Packets.{is_under_way}
 use Rattle.sbp_laws.specs.Turns.{EachMoment}
 use Rattle.sbp_world.proofs.LineForms.{form_law}
@@ -307,7 +307,7 @@ once_behind w h now e =
     let is = h.is.past_is ∙ e in
     subst (λ p. OnceLaw (injectors p) p) is (once_here (injectors h.wire.past) h.wire h.reached (covers h.wire.past h.is.fair))
 
-run_lawful : (line : ℕ) (run : Run) → run.initiators ≤ 4 → run.units ≡ length run.start.disks → length run.entries + 2 < 2 ^ 32 → AreEntries (beginning run) run.entries → AreLines run run.entries → LawfulOnTheBus (injectors (history_of line run)) (journal_run line run)
+run_lawful : (line : ℕ) (run : Run) → run.initiators ≤ 4 → run.units ≡ length run.start.disks → length run.entries + 2 < 2 ^ 32 → AreEntries (beginning run) run.entries → AreLines run run.entries → FormedOnTheBus (injectors (history_of line run)) (journal_run line run)
 run_lawful line run few units most all fit =
     let tie = tie_all line run run.entries in
     let b = sound_after fitting_law own_fitting_law line run run.entries few most all fit in

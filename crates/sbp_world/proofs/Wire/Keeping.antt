@@ -1,5 +1,5 @@
 -- Each line of a world keeps the laws of the runs that it stands for.
-use Rattle.std.specs.Prelude.{◌≡◌, ℕ, Bool, List, [], Result, Ok, Err, IfOk, OnOk}
+use Rattle.std.specs.Prelude.{◌≡◌, ℕ, Bool, List, []}
 use Rattle.std.proofs.Common.{◌∙◌, ap, subst, sym}
 use Rattle.rbc_disk.specs.Disk.{Disk}
 use Rattle.sbp_journal.specs.declared.event.Event.{Event}
@@ -10,6 +10,7 @@ use Rattle.sbp_world.proofs.Lists.Executes.{due_runs_law}
 use Rattle.sbp_world.proofs.Lists.GrantRuns.{few_logins_law}
 use Rattle.sbp_world.proofs.Standing.{begins, goes_on, settles}
 use Rattle.sbp_world.proofs.Wire.Entries.{bus_law}
+use Rattle.sbp_world.proofs.Wire.Typed.{lawful_where_typed}
 use Rattle.sbp_world.proofs.Wire.Runs.{all_runs}
 use Rattle.sbp_world.proofs.Wire.States.{are_open_lists, are_states}
 use Rattle.sbp_world.specs.Histories.{history_of}
@@ -28,6 +29,7 @@ laws_of run are first is =
     record {
       of_wire = (all_runs.runs first run is.few is.count are is.lines).has_laws;
       on_the_bus = bus_law.lawful first run is.few is.media is.count are is.lines;
+      written = lawful_where_typed first run is.few (bus_law.lawful first run is.few is.media is.count are is.lines);
       due = λ some most. due_runs_law.after_lines first run bounds some most (sym is.media);
       few_logins = λ some most. few_logins_law.few first run bounds some most (sym is.media);
       on_lists = λ some most. lists_law.lists first run bounds some most (sym is.media);
@@ -62,10 +64,8 @@ pub settles_lawfully : (line : ℕ) (done : Bool) (old new : Scene) → HasSettl
 settles_lawfully line done old new h run stands = record { told = h.told; keeps = lawfully _ _ (settles run line done old new stands h) }
 
 -- what the calls of a world give, which keep its parts
-pub steps_ok : {A E : Type 0} (result : Result A E) (line : ℕ) (event : Event) (w inside : WorldState) (disks : List Disk) (faults : List ℕ) (new : Scene) → inside ≡ w → OnOk result (Happens line event (scene inside disks faults) new) → OnOk result (KeepsLaws line event (scene w disks faults) new)
-steps_ok (Ok a) line event w inside disks faults new e h = keeps_laws line event (scene w disks faults) new (subst (λ x. Happens line event (scene x disks faults) new) e h)
-steps_ok (Err e) line event w inside disks faults new c h = tt
+pub step_keeps : (line : ℕ) (event : Event) (w inside : WorldState) (disks : List Disk) (faults : List ℕ) (new : Scene) → inside ≡ w → Happens line event (scene inside disks faults) new → KeepsLaws line event (scene w disks faults) new
+step_keeps line event w inside disks faults new e h = keeps_laws line event (scene w disks faults) new (subst (λ x. Happens line event (scene x disks faults) new) e h)
 
-pub settles_ok : {E : Type 0} (result : Result Bool E) (line : ℕ) (w inside cleared : WorldState) (disks : List Disk) (faults : List ℕ) (new : Scene) → inside ≡ w → cleared ≡ without_notes inside → IfOk result (λ done. Settles done (scene cleared disks faults) new) → OnOk result (SettlesLawfully line (scene w disks faults) new)
-settles_ok (Ok done) line w inside cleared disks faults new e f h = settles_lawfully line done (scene w disks faults) new (subst (λ x. Settles done (scene x disks faults) new) (f ∙ ap without_notes e) h)
-settles_ok (Err e) line w inside cleared disks faults new f c h = tt
+pub settle_keeps : (done : Bool) (line : ℕ) (w inside cleared : WorldState) (disks : List Disk) (faults : List ℕ) (new : Scene) → inside ≡ w → cleared ≡ without_notes inside → Settles done (scene cleared disks faults) new → SettlesLawfully line (scene w disks faults) new
+settle_keeps done line w inside cleared disks faults new e f h = settles_lawfully line done (scene w disks faults) new (subst (λ x. Settles done (scene x disks faults) new) (f ∙ ap without_notes e) h)

@@ -1,5 +1,6 @@
 -- What each line of a world keeps: the run that the world stands for has the laws of the wire, those of the lines of the bus, and those of lists.
 use Rattle.std.specs.Prelude.{◌≡◌, ◌≤◌, ◌<◌, ℕ, ◌+◌, ◌^◌, Bool, List, [], length, Option, false}
+use Rattle.std.specs.List.{AllByRecursion}
 use Rattle.rbc_disk.specs.Held.{Held}
 use Rattle.rbc_disk.specs.Runs.{Told}
 use Rattle.sbp_journal.specs.declared.event.Event.{Event}
@@ -8,8 +9,9 @@ use Rattle.sbp_laws.specs.CarriedLaw.{CarriedLaw, RunsWhereDue}
 use Rattle.sbp_laws.specs.InTime.{ReadsInTime}
 use Rattle.sbp_laws.specs.Lawful.{injectors}
 use Rattle.sbp_laws.specs.OnLists.{LawfulOnLists}
-use Rattle.sbp_laws.specs.OnTheBus.{LawfulOnTheBus}
+use Rattle.sbp_laws.specs.OnTheBus.{FormedOnTheBus, LawfulOnTheBus}
 use Rattle.sbp_laws.specs.Turns.{EachMoment, EachTurn}
+use Rattle.sbp_world.specs.Forms.{AreTyped}
 use Rattle.sbp_world.specs.Histories.{history_of}
 use Rattle.sbp_world.specs.Lists.AnswerLengths.{LengthOf}
 use Rattle.sbp_world.specs.Lists.AnswersHold.{AnswersHold}
@@ -31,13 +33,15 @@ pub record IsLikeAScripts (run : Run) : Type 0 where
   pub count : length run.entries + 2 < 2 ^ 32
   pub lines : AreLines run run.entries
 
--- The laws of a run whose first line has this number: its history has those of the wire, its journal those of the lines of the bus; where it
+-- The laws of a run whose first line has this number: its history has those of the wire, its journal those of the lines of the bus, and where
+-- its notes are inside their types, as each line's are, each is determined by its text; where it
 -- has one to four units, commands run in each turn exactly where they are due, those of any initiators; and where then no initiator injected packets or few logins were
 -- given, its history has the laws of lists, which read so in the order of time, and the carried law: what ran and what ended was read as it says, and brought by reads, commands run with what was read,
 -- and each answer that is taken was written so; and each of these has its length, and is the plain disk's. In up to 65,536 lines behind the first, few logins are given.
 pub record HasLaws (first : ℕ) (run : Run) : Type 0 where
   pub of_wire : IsOfWire (history_of first run)
-  pub on_the_bus : LawfulOnTheBus (injectors (history_of first run)) (journal_run first run)
+  pub on_the_bus : FormedOnTheBus (injectors (history_of first run)) (journal_run first run)
+  pub written : AllByRecursion AreTyped run.entries → LawfulOnTheBus (injectors (history_of first run)) (journal_run first run)
   pub due : 0 < run.units → run.units ≤ 4 → (wild : ℕ → Bool) → EachTurn (RunsWhereDue wild run.start.disks) (history_of first run)
   pub few_logins : 0 < run.units → run.units ≤ 4 → length run.entries ≤ 65536 → FewLogins (history_of first run)
   pub on_lists : 0 < run.units → run.units ≤ 4 → IsTameOrFew (history_of first run) → LawfulOnLists (injectors (history_of first run)) run.start.disks (history_of first run)

@@ -15,7 +15,7 @@ use Rattle.sbp_world.specs.Making.{new_world}
 use Rattle.sbp_world.specs.Runs.{AreEntries, Entry, Run, after, beginning}
 use Rattle.sbp_world.specs.Worlds.{WorldState}
 use Rattle.sbp_laws.specs.Lawful.{injectors}
-use Rattle.sbp_laws.specs.OnTheBus.{LawfulOnTheBus}
+use Rattle.sbp_laws.specs.OnTheBus.{FormedOnTheBus}
 use Rattle.sbp_world.specs.Wire.History.{IsOfWire}
 use Rattle.sbp_world.specs.Wire.Journal.{journal_run}
 use Rattle.sbp_world.specs.Wire.Wires.{Stands}
@@ -74,4 +74,4 @@ pub record RunLaw : Type 0 where
 -- of the bus, for the initiators that injected no packets: the form of its notes, the once law, and what each line of the bus brings.
 pub record BusLaw : Type 0 where
   pub tie : (line : ℕ) (run : Run) → history (journal_run line run).entries ≡ history_of line run
-  pub lawful : (line : ℕ) (run : Run) → run.initiators ≤ 4 → run.units ≡ length run.start.disks → length run.entries + 2 < 2 ^ 32 → AreEntries (beginning run) run.entries → AreLines run run.entries → LawfulOnTheBus (injectors (history_of line run)) (journal_run line run)
+  pub lawful : (line : ℕ) (run : Run) → run.initiators ≤ 4 → run.units ≡ length run.start.disks → length run.entries + 2 < 2 ^ 32 → AreEntries (beginning run) run.entries → AreLines run run.entries → FormedOnTheBus (injectors (history_of line run)) (journal_run line run)

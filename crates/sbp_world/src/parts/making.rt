@@ -1,4 +1,6 @@
+ghost use Rattle.std.specs.List.{AllByRecursion};
 ghost use Rattle.packet_store.specs.Kept.{flying, recent};
+ghost use Rattle.sbp_journal.specs.Written.{IsTyped};
 ghost use Rattle.std.specs.Prelude.{◌≡◌, ◌+◌, ◌-◌, ◌≤◌, length, IfOk};
 ghost use Rattle.sbp_world.specs.Making.{new_initiators, new_world, ready_logins};
 
@@ -57,7 +59,8 @@ impl Parts {
 
     /// The notes of the last line.
     pub(crate) fn fresh(&self) -> &Journal
-        ensures { result.now ≡ self.now.fresh }
+        ensures same { result.now ≡ self.now.fresh }
+        ensures typed { AllByRecursion IsTyped self.now.fresh }
     {
         self.bus.fresh()
     }

@@ -18,7 +18,7 @@ lines-preserved g c =
       size = ran.size ∙ inv.size;
       units = ran.size ∙ inv.units ∙ sym ran.units;
       left = left_behind c.lines.line (length c.lines.world.initiators) (length c.run_line.new.world.initiators) c.lines.script c.drill_line.new.drill c.in-Some.event first (happens_keeps _ _ _ _ ran.happens) inv.left;
-      so_far = λ start all h. drill_more start _ _ all c.lines.script c.drill_line.new.drill c.lines.line c.in-Some.event c.lines.tally c.run_line.new.tally c.lines.world c.run_line.new.world first ran.happens ran.tally
+      so_far = λ start all h. drill_more start _ _ all c.lines.script c.drill_line.new.drill c.lines.line c.in-Some.event c.lines.tally c.run_line.new.tally c.lines.world c.run_line.new.world first ran.happens ran.tally ran.typed
           (first_fits c.lines.line (length c.lines.world.initiators) c.lines.script c.drill_line.new.drill c.in-Some.event first inv.left).1 (inv.so_far start all h);
     }
 

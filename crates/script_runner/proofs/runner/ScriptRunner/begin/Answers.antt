@@ -8,9 +8,9 @@ use Rattle.script_runner.proofs.Kept.{world_fresh}
 use Rattle.script_runner.proofs.runner.ScriptRunner.begin.Goals as goal
 
 pub append_notes-requires : goal.append_notes-requires
-append_notes-requires c = rw (c.as_slice.ensures, c.fresh.ensures, c.deref.ensures, c.in_ok-world.ensures) (all_reverse HasForm _ (form_law.begins c.args.initiators c.args.ready c.args.units))
+append_notes-requires c = rw (c.as_slice.ensures, c.fresh.ensures.same, c.deref.ensures, c.in_ok-world.ensures) (all_reverse HasForm _ (form_law.begins c.args.initiators c.args.ready c.args.units))
 
 pub returns-clause-text : goal.returns-clause-text
 returns-clause-text c =
     c.in_ok-append_notes.ensures
-    ∙ ap (λ ns. c.args.out.now ++ text_of ns) (c.as_slice.ensures ∙ ap reverse (c.fresh.ensures ∙ ap (λ w. w.fresh) (c.deref.ensures ∙ c.in_ok-world.ensures) ∙ world_fresh c.args.initiators c.args.ready c.args.units))
+    ∙ ap (λ ns. c.args.out.now ++ text_of ns) (c.as_slice.ensures ∙ ap reverse (c.fresh.ensures.same ∙ ap (λ w. w.fresh) (c.deref.ensures ∙ c.in_ok-world.ensures) ∙ world_fresh c.args.initiators c.args.ready c.args.units))

@@ -3,7 +3,7 @@ use Rattle.std.proofs.Common.{◌∙◌, sym, ap, length, Some}
 use Rattle.std.specs.Option.{option_map}
 use Rattle.std.proofs.lemmas.List.{length-map}
 use Rattle.sbp_world.proofs.Delivered.{on_ok}
-use Rattle.script_runner.proofs.Running.{began_can, began_ran, begins_some, both_ok, opened_can, opened_line, opened_stands, same_length, went_can, went_on, may_leave, may_leave_same}
+use Rattle.script_runner.proofs.Running.{all_ok, began_can, began_ran, begins_some, both_ok, opened_can, opened_line, opened_stands, same_length, went_can, went_on, may_leave, may_leave_same}
 use Rattle.script_runner.proofs.runner.ScriptRunner.run_event.Goals as goal
 
 pub returns-in-Some-clause-can : goal.returns-in-Some-clause-can
@@ -14,10 +14,11 @@ returns-in-Some-clause-can g c =
 
 pub returns-in-Some-clause-ran : goal.returns-in-Some-clause-ran
 returns-in-Some-clause-ran g c =
-    both_ok c.step_world.result _ _ _
-    (λ k e start happened front h. went_on start _ _ happened front _ _ _ _ _ _ k e (opened_line _ _ _ _ _ c.self.view_is (ap (option_map (λ world. world.value)) c.in-Some.is ∙ ap Some (sym c.deref_mut.ensures.value)) c.requires.line) (opened_stands _ _ _ _ start happened _ _ c.self.view_is (ap (option_map (λ world. world.value)) c.in-Some.is ∙ ap Some (sym c.deref_mut.ensures.value)) h))
+    all_ok c.step_world.result _ _ _ _
+    (λ k e t start happened front h. went_on start _ _ happened front _ _ _ _ _ _ k e t (opened_line _ _ _ _ _ c.self.view_is (ap (option_map (λ world. world.value)) c.in-Some.is ∙ ap Some (sym c.deref_mut.ensures.value)) c.requires.line) (opened_stands _ _ _ _ start happened _ _ c.self.view_is (ap (option_map (λ world. world.value)) c.in-Some.is ∙ ap Some (sym c.deref_mut.ensures.value)) h))
     c.step_world.ensures.happens
     c.step_world.ensures.text
+    c.step_world.ensures.typed
 
 pub returns-clause-can : goal.returns-clause-can
 returns-clause-can g c =
