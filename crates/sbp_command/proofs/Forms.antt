@@ -1,5 +1,5 @@
 -- The notes of a run of the machine have the form of a journal's notes, and where they are inside their types each is determined by its text.
-use Rattle.std.proofs.Common.{refl, sym, subst, ℕ, ◌≤◌, ◌<◌, ◌^◌, List, [], ◌∷◌, reverse, arith}
+use Rattle.std.proofs.Common.{refl, subst, ℕ, ◌≤◌, ◌<◌, ◌^◌, List, [], ◌∷◌, reverse, arith}
 use Rattle.std.specs.List.{AllByRecursion}
 use Rattle.rbc_disk.specs.Held.{Held}
 use Rattle.sbp_journal.specs.Form.{HasForm}

@@ -1,7 +1,7 @@
 -- A run whose notes are inside the types of their fields has the part of the laws that is of the bus, with notes that their text determines.
-use Rattle.std.proofs.Common.{◌≡◌, subst, sym, ℕ, ◌≤◌, ◌<◌, ◌^◌, List, [], ◌∷◌, ◌++◌, map, arith}
+use Rattle.std.proofs.Common.{ℕ, ◌≤◌, ◌<◌, ◌^◌, List, [], ◌∷◌, ◌++◌, map, arith}
 use Rattle.std.specs.List.{AllByRecursion}
-use Rattle.sbp_journal.specs.Run.{Moment, asked, said, history}
+use Rattle.sbp_journal.specs.Run.{Moment, said, history}
 use Rattle.sbp_journal.specs.Written.{IsTyped}
 use Rattle.sbp_journal.specs.declared.note.Note.{Note}
 use Rattle.sbp_laws.specs.Lawful.{injectors}
