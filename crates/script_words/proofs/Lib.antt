@@ -1,3 +1,4 @@
 mod Numerals
+pub mod Blocks
 pub mod Lists
 pub mod Tables

@@ -15,6 +15,9 @@ use std::alloc::Global;
 /// The most bytes of a command's data.
 const MOST_DATA: usize = 16384;
 
+/// The bytes of a block of the disk.
+const BLOCK: usize = 512;
+
 /// The most segments of a buffer.
 const MOST_SEGMENTS: usize = 64;
 
@@ -114,14 +117,16 @@ fn push_piece(alloc: Global, bytes: &mut Bytes, piece: &[u8]) -> Result<(), Line
     }
 }
 
-/// Adds a byte so many times.
+/// Adds a byte so many times, a block at a time.
 fn push_repeated(bytes: &mut Bytes, byte: u8, count: u32) -> Result<(), LineFault>
     ensures ok { OnOk result (bytes.new ≡ bytes.old ++ replicate count byte) }
     ensures err { IfErr result (λ fault. fault ≡ LineFault.NoMemory) }
 {
-    for _done in 0..count {
-        bytes.push(byte)?;
+    let block = [byte; BLOCK];
+    for _done in 0..count as usize / BLOCK {
+        bytes.extend_from_slice(&block)?;
     }
+    bytes.extend_from_slice(&block[..count as usize % BLOCK])?;
     Ok(())
 }
 
