@@ -37,6 +37,8 @@ use Rattle.sbp_world.proofs.Wire.States.{are_open_lists, are_states}
 use Rattle.sbp_world.specs.Hosts.Runs.{IsRun}
 use Rattle.sbp_world.specs.Hosts.Statuses.Finished.{TakesStatuses}
 use Rattle.sbp_world.proofs.Hosts.Statuses.Finished.{finished_law, once_taken_law}
+use Rattle.turn_laws.specs.Together.{LawfulInTurns}
+use Rattle.turn_laws.proofs.Together.{turns_law}
 use Rattle.script_runner.specs.Events.{events_in, events_of, journal}
 use Rattle.script_runner.specs.Runner.{scene_of}
 use Rattle.sbp_command.specs.Machine.{HasRun}
@@ -97,6 +99,9 @@ module _ (line : ℕ) (run : Run) (few : run.initiators ≤ 4) (count : length r
       run_is_due : (others : ℕ → Bool) → EachTurn (RunsWhereDue others start.disks) past
       run_is_due others = over (λ disks. EachTurn (RunsWhereDue others disks) past) (due_runs_law.after_lines line run is some most size others)
 
+      run_in_turns : LawfulInTurns start.disks past
+      run_in_turns = over (λ disks. LawfulInTurns disks past) (turns_law.after_lines line run is some most size)
+
       run_on_lists : LawfulOnLists wild start.disks past
       run_on_lists = over (λ disks. LawfulOnLists wild disks past) (lists_law.lists line run is some most size given)
 
@@ -144,6 +149,7 @@ has_run line run start media world happened same units some most few count event
       on_the_bus = run_on_bus line run few count stands.lines lines start same units typed;
       statuses = run_takes line run few count stands.lines lines;
       due = run_is_due line run few count stands.lines lines start same units some most;
+      in_turns = run_in_turns line run few count stands.lines lines start same units some most;
       on_lists = lawful;
       brought = run_brought line run few count stands.lines lines start same units some most;
       carried = run_carried line run few count stands.lines lines start same units some most;

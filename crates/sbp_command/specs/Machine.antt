@@ -23,12 +23,13 @@ use Rattle.sbp_world.specs.Wire.History.{IsOfWire}
 use Rattle.sbp_world.specs.Wire.Journal.{journal_run}
 use Rattle.sbp_world.specs.Wire.States.{AreOpenLists, AreStates}
 use Rattle.sbp_world.specs.Hosts.Statuses.Finished.{TakesStatuses}
+use Rattle.turn_laws.specs.Together.{LawfulInTurns}
 use Rattle.script_runner.specs.Events.{events_of, journal}
 
 -- A run of the machine, over exactly these events and from what the media held at first: its notes, and what it leaves of the media. That is
 -- what the notes alone say of them: each medium holds what the disk fold gives, and each failing run raised its count. And its history
 -- keeps the laws of the wire, and its journal the part of the laws that is of the bus; the statuses that it takes are those that are due, and so
--- are the commands that run; and it keeps the laws of lists, of the initiators that injected no packets, which read so in the order of time, and the carried
+-- are the commands that run; its turns keep the login law and what else is proved of each turn; and it keeps the laws of lists, of the initiators that injected no packets, which read so in the order of time, and the carried
 -- law: what they had run, and what ended, was read as it says, and brought by reads, and commands run with what was read; and each answer that they take has its length, is what was written
 -- of it, and is the plain disk's. The terms of its journal are the states of the nodes as it ends. Its notes are written so that their text
 -- determines them: no other notes of such a form have it.
@@ -47,6 +48,7 @@ pub record HasRun (start : Held) (happened : List (ℕ × Event)) (notes : List 
   pub on_the_bus : LawfulOnTheBus (injectors (history_of line run)) (journal_run line run)
   pub statuses : TakesStatuses (history_of line run)
   pub due : (wild : ℕ → Bool) → EachTurn (RunsWhereDue wild start.disks) (history_of line run)
+  pub in_turns : LawfulInTurns start.disks (history_of line run)
   pub on_lists : LawfulOnLists (injectors (history_of line run)) start.disks (history_of line run)
   pub brought : AreBrought (injectors (history_of line run)) start.disks (history_of line run)
   pub carried : CarriedLaw (injectors (history_of line run)) start.disks (history_of line run)

@@ -17,3 +17,4 @@ pub mod FirstRows
 pub mod LoginRuns
 pub mod EveryPlace
 pub mod SentPackets
+pub mod Together

@@ -1,0 +1,17 @@
+-- What is proved of the turns of every run, together: the login law, and `cleared` of the cause law and `packets` of the sent law.
+use Rattle.std.specs.Prelude.{List}
+use Rattle.rbc_disk.specs.Disk.{Disk}
+use Rattle.sbp_journal.specs.Run.{Moment}
+use Rattle.sbp_laws.specs.LoginLaw.{LoginLaw}
+use Rattle.sbp_laws.specs.SentPackets.{SentAt}
+use Rattle.sbp_laws.specs.Turns.{EachMoment, EachTurn}
+use Rattle.turn_laws.specs.Cleared.{ClearsWhereDue}
+use Rattle.turn_laws.specs.Runs.{OfEveryRun}
+
+pub record LawfulInTurns (start : List Disk) (past : List Moment) : Type 0 where
+  pub logins : LoginLaw start past
+  pub cleared : EachTurn (ClearsWhereDue start) past
+  pub packets : EachMoment SentAt past
+
+abbrev pub TurnsLaw : Type 0
+TurnsLaw = OfEveryRun LawfulInTurns
