@@ -31,7 +31,7 @@ use Rattle.sbp_laws.specs.Refused as refused
 use Rattle.std.specs.Prelude.{Some, None, slice_index, drop, length, true, false, IsSomeAnd, List, ℕ, ◌==◌, if◌then◌else◌}
 use Rattle.sbp_journal.specs.Run.{Moment}
 use Rattle.sbp_laws.specs.Terms.{appends}
-use Rattle.sbp_laws.specs.CarriedBytes.{before_sent, WasRead, IsRead, orb_read, buffer_in, reads_since, payload_at}
+use Rattle.sbp_laws.specs.CarriedBytes.{before_sent, open_list, WasRead, IsRead, orb_read, buffer_in, reads_since, payload_at}
 use Rattle.sbp_journal.specs.Wire.{terms}
 use Rattle.page_table.specs.Buffer.{bytes_of}
 
@@ -183,6 +183,21 @@ not_too_early w = by (one_of_three w.response w.got)
     by (inr (inl e)) = let bad : None ≡ Some w.request = subst (λ r. (terms past_early).answers r ≡ Some w.request) e w.answers in cc bad
     by (inr (inr e)) = let bad : None ≡ Some w.request = subst (λ r. (terms past_early).answers r ≡ Some w.request) e w.answers in cc bad
 
+abbrev past_unnamed : List Moment
+past_unnamed = drop 1 refused.read_unnamed
+
+not_unnamed : WasRead journals.one_disk past_unnamed 0 0 0 → ⊥
+unfolding reading fault_of tcode_of header_of offset_of rcode_of value_of length_of extended_of three four part_of is_to is_same asked_by begun_by belongs start_at lowest_from label_for free_from count_flying lowest_flying label_of with_label is_write kind_of slot_of window_at is_fifo point_step doorbell_step reset_step abort_step reply_step lost_step refusal verdict request_of check_of blank_bytes command_kind elements_from made block_head decide reads_eui live_login response_bytes start_step reply_step_of_manager decide_step fresh_id left_for enter_step back_step leave_step
+not_unnamed w = by (one_of_three w.response w.got)
+  where
+    asked_for : (q : ℕ) → Some 3 ≡ Some q → open_list journals.one_disk (before_sent past_unnamed q) 0 ≡ Some 0 → ⊥
+    asked_for q e opened = let same : q ≡ 3 = grind arith in let bad : None ≡ Some 0 = subst (λ q. open_list journals.one_disk (before_sent past_unnamed q) 0 ≡ Some 0) same opened in cc bad
+
+    by : (w.response ≡ 4) ⊎ ((w.response ≡ 3) ⊎ (w.response ≡ 1)) → ⊥
+    by (inl e) = asked_for w.request (subst (λ r. (terms past_unnamed).answers r ≡ Some w.request) e w.answers) w.opened
+    by (inr (inl e)) = let bad : None ≡ Some w.request = subst (λ r. (terms past_unnamed).answers r ≡ Some w.request) e w.answers in cc bad
+    by (inr (inr e)) = let bad : None ≡ Some w.request = subst (λ r. (terms past_unnamed).answers r ≡ Some w.request) e w.answers in cc bad
+
 other_direction : CarriedLaw nobody journals.one_disk (refused.orb_brought (refused.orb_of 0x8a900000 0) refused.runs_ready) → ⊥
 unfolding reading fault_of tcode_of header_of offset_of rcode_of value_of length_of extended_of three four part_of is_to is_same asked_by begun_by belongs start_at lowest_from label_for free_from count_flying lowest_flying label_of with_label is_write kind_of slot_of window_at is_fifo point_step doorbell_step reset_step abort_step reply_step lost_step refusal verdict request_of check_of blank_bytes command_kind elements_from made block_head decide reads_eui live_login response_bytes start_step reply_step_of_manager decide_step fresh_id left_for enter_step back_step leave_step
 other_direction = λ law. let is : (law.carried.0 refl).read.response ≡ 4 = other_direction_reads_four (law.carried.0 refl).read in let bad : true ≡ false = subst (λ r. (orb_read (past_of (refused.orb_of 0x8a900000 0)) r).to_initiator ≡ false) is (law.carried.0 refl).as_appended.direction in cc bad
@@ -191,5 +206,13 @@ read_too_early : CarriedLaw nobody journals.one_disk refused.read_too_early → 
 unfolding reading fault_of tcode_of header_of offset_of rcode_of value_of length_of extended_of three four part_of is_to is_same asked_by begun_by belongs start_at lowest_from label_for free_from count_flying lowest_flying label_of with_label is_write kind_of slot_of window_at is_fifo point_step doorbell_step reset_step abort_step reply_step lost_step refusal verdict request_of check_of blank_bytes command_kind elements_from made block_head decide reads_eui live_login response_bytes start_step reply_step_of_manager decide_step fresh_id left_for enter_step back_step leave_step
 read_too_early = λ law. not_too_early ((law.carried.0 refl).read)
 
+read_unnamed : CarriedLaw nobody journals.one_disk refused.read_unnamed → ⊥
+unfolding reading fault_of tcode_of header_of offset_of rcode_of value_of length_of extended_of three four part_of is_to is_same asked_by begun_by belongs start_at lowest_from label_for free_from count_flying lowest_flying label_of with_label is_write kind_of slot_of window_at is_fifo point_step doorbell_step reset_step abort_step reply_step lost_step refusal verdict request_of check_of blank_bytes command_kind elements_from made block_head decide reads_eui live_login response_bytes start_step reply_step_of_manager decide_step fresh_id left_for enter_step back_step leave_step
+read_unnamed = λ law. not_unnamed ((law.carried.0 refl).read)
+
+read_named : WasRead journals.one_disk (drop 1 refused.read_named) 0 0 0
+unfolding reading fault_of tcode_of header_of offset_of rcode_of value_of length_of extended_of three four part_of is_to is_same asked_by begun_by belongs start_at lowest_from label_for free_from count_flying lowest_flying label_of with_label is_write kind_of slot_of window_at is_fifo point_step doorbell_step reset_step abort_step reply_step lost_step refusal verdict request_of check_of blank_bytes command_kind elements_from made block_head decide reads_eui live_login response_bytes start_step reply_step_of_manager decide_step fresh_id left_for enter_step back_step leave_step
+read_named = record { response = 4; request = 3; got = refl; whole = refl; answers = refl; of_target = refl; of_initiator = refl; asks = record { read = refl; block = refl; from = refl; size = refl }; appended = first_of_one; opened = refl }
+
 pub tried : CarriedTried
-tried = record { accepts = accepts; answer_uncarried = answer_uncarried; run_unread = run_unread; run_left_out = run_left_out; answer_otherwise = answer_otherwise; other_data = other_data; dummy_unmade = dummy_unmade; good_of_dummy = good_of_dummy; other_command = other_command; other_length = other_length; short_orb = short_orb; read_elsewhere = read_elsewhere; other_direction = other_direction; read_too_early = read_too_early }
+tried = record { accepts = accepts; answer_uncarried = answer_uncarried; run_unread = run_unread; run_left_out = run_left_out; answer_otherwise = answer_otherwise; other_data = other_data; dummy_unmade = dummy_unmade; good_of_dummy = good_of_dummy; other_command = other_command; other_length = other_length; short_orb = short_orb; read_elsewhere = read_elsewhere; other_direction = other_direction; read_too_early = read_too_early; read_unnamed = read_unnamed; read_named = read_named }

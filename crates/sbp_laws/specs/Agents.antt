@@ -65,14 +65,6 @@ fifo_in (Some login) = login.fifo
 abbrev pub initiator_at : Target → Terms → ℕ → ℕ
 initiator_at target wire place = initiator_with wire (node_in (login_at target place))
 
--- the list whose ORB the pointer last taken names now; of an initiator that injected no packets it is the list named as it was taken
-abbrev pub pointed_in : List Moment → ℕ → Option ℕ → Option Orb
-pointed_in past i None = None
-pointed_in past i (Some address) = named past i address
-
-abbrev pub list_of : List Moment → ℕ → Agent → Option ℕ
-list_of past i a = list_in (pointed_in past i a.pointer)
-
 -- ---- what a turn is for an agent: a reply to one of its transactions, or a register of it that was written
 pub data Event : Type 0 where
   replies : Reply → Event

@@ -22,7 +22,7 @@ use Rattle.sbp_laws.specs.Terms.{appends}
 use Rattle.sbp_laws.specs.Packets.{access_at, packet_at, answered_at, answer_in, sender_in, receiver_in}
 use Rattle.sbp_laws.specs.Lists.{slot_at}
 use Rattle.sbp_laws.specs.Targets.{Target, Agent, target_at, is_serial}
-use Rattle.sbp_laws.specs.Agents.{initiator_at, list_of}
+use Rattle.sbp_laws.specs.Agents.{initiator_at, list_taken}
 use Rattle.sbp_laws.specs.Management.{is_open}
 
 -- what stood before a packet was sent, and whether one was got
@@ -36,14 +36,14 @@ was_got [] serial = false
 was_got (said (notes.Got other) ∷ past) serial = if other == serial then true else was_got past serial
 was_got (_ ∷ past) serial = was_got past serial
 
--- the open list of an initiator: that of the agent of a login of it, where it is not in RESET
-abbrev pub open_among : List Moment → Terms → Target → (i : ℕ) → (place : ℕ) → List Agent → Option ℕ
-open_among past wire target i place [] = None
-open_among past wire target i place (a ∷ agents) =
-    if is_open a && (initiator_at target wire place == i) then list_of past i a else open_among past wire target i (place + 1) agents
+-- the open list of an initiator: that of the agent of a login of it, where it is not in RESET, named as its pointer was taken
+abbrev pub open_among : List Disk → List Moment → Terms → Target → (i : ℕ) → (place : ℕ) → List Agent → Option ℕ
+open_among start past wire target i place [] = None
+open_among start past wire target i place (a ∷ agents) =
+    if is_open a && (initiator_at target wire place == i) then list_taken start past place else open_among start past wire target i (place + 1) agents
 
 abbrev pub open_list : List Disk → List Moment → (i : ℕ) → Option ℕ
-open_list start past i = open_among past (terms past) (target_at start past) i 0 (target_at start past).agents
+open_list start past i = open_among start past (terms past) (target_at start past) i 0 (target_at start past).agents
 
 -- ---- the ORB as it was read
 abbrev pub bytes_in : Answer → List ℕ

@@ -124,6 +124,21 @@ read_too_early =
     behind begins (notes.Sent 1 0 1 0 pointer_packet ∷ notes.Got 1 ∷ notes.Sent 2 0 0 1 (done_by_target 0 0) ∷ notes.Sent 3 0 0 1 (fetch_packet 0 0x10000000)
     ∷ notes.Append 0 0 0 ready_block Nothing ∷ notes.Got 3 ∷ notes.Sent 4 0 1 0 (orb_packet 0 0x80000000 0) ∷ notes.Got 4 ∷ notes.Ran 0 (Some 0) (Some 0) 0 ready_block [] None ∷ [])
 
+-- it is read after it is appended, by a pointer that was taken before or behind that
+abbrev pub pointed_and_read : (first later : List Note) → List Moment
+pointed_and_read first later =
+    behind begins (first ++ notes.Sent 1 0 1 0 pointer_packet ∷ notes.Got 1 ∷ notes.Sent 2 0 0 1 (done_by_target 0 0) ∷ later ++ notes.Sent 3 0 0 1 (fetch_packet 0 0x10000000)
+    ∷ notes.Got 3 ∷ notes.Sent 4 0 1 0 (orb_packet 0 0x80000000 0) ∷ notes.Got 4 ∷ runs_ready ∷ [])
+
+abbrev pub appends_ready : List Note
+appends_ready = notes.Append 0 0 0 ready_block Nothing ∷ []
+
+abbrev pub read_unnamed : List Moment
+read_unnamed = pointed_and_read [] appends_ready
+
+abbrev pub read_named : List Moment
+read_named = pointed_and_read appends_ready []
+
 -- ---- cause
 -- the read of the last next pointer times out, and the ORB that was taken ends once more; and a status write that times out
 abbrev pub reread_times_out : List Note → List Moment

@@ -1,5 +1,5 @@
 -- What the laws say of the journals of Journals.antt: of each law one that it accepts, and others that it refuses.
-use Rattle.std.specs.Prelude.{◌≡◌, [], ◌∷◌, None, Some, List, replicate, true, false, ◌++◌}
+use Rattle.std.specs.Prelude.{◌≡◌, [], ◌∷◌, None, Some, List, drop, replicate, true, false, ◌++◌}
 use Rattle.orb_layout.specs.Pointers.{quad_bytes}
 use Rattle.rbc_disk.specs.Disk.{Disk}
 use Rattle.sbp_journal.specs.Run.{Moment, history, said}
@@ -17,6 +17,7 @@ use Rattle.sbp_laws.specs.OrderLaw.{OrderLaw}
 use Rattle.sbp_laws.specs.ExecutionLaw.{ExecutionLaw}
 use Rattle.sbp_laws.specs.StatusLaw.{StatusLaw, TakesEach}
 use Rattle.sbp_laws.specs.AnswerLaw.{AnswerLaw}
+use Rattle.sbp_laws.specs.CarriedBytes.{WasRead}
 use Rattle.sbp_laws.specs.CarriedLaw.{CarriedLaw, EndsAsRead}
 use Rattle.sbp_laws.specs.CauseLaw.{CauseLaw}
 use Rattle.sbp_laws.specs.JudgementLaw.{JudgementLaw}
@@ -120,6 +121,8 @@ pub record CarriedTried : Type 0 where
   pub read_elsewhere : CarriedLaw nobody journals.one_disk (refused.runs_read_from 0x10000040) → ⊥
   pub other_direction : CarriedLaw nobody journals.one_disk (refused.orb_brought (refused.orb_of 0x8a900000 0) refused.runs_ready) → ⊥
   pub read_too_early : CarriedLaw nobody journals.one_disk refused.read_too_early → ⊥
+  pub read_unnamed : CarriedLaw nobody journals.one_disk refused.read_unnamed → ⊥
+  pub read_named : WasRead journals.one_disk (drop 1 refused.read_named) 0 0 0
 
 pub record CauseTried : Type 0 where
   pub accepts : CauseLaw journals.one_disk journals.whole

@@ -527,13 +527,11 @@ pub mod PointersTaken
 pub mod PointersGot
 pub mod TurnAway
 pub mod TurnCuts
+pub mod TakenTerms
 pub mod TurnShapes
 pub mod TurnWalk
-pub mod PointersTurn
 pub mod RepliesStayUp
 pub mod SendsLeave
-pub mod PointersName
-pub mod PointersRuns
 pub mod TurnSends
 pub mod OpenSends
 pub mod AsGot

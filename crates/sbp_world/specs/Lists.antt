@@ -50,6 +50,7 @@ pub mod Names
 pub mod Needs
 pub mod Opened
 pub mod Opens
+pub mod Taken
 pub mod Orders
 pub mod OwnLogins
 pub mod Owners

@@ -137,6 +137,7 @@ pub use of_lists::main_transactions_stay;
 pub use of_lists::nobodys_requests_were_of_agents_reset;
 pub use of_lists::one_operation_is_in_hand;
 pub use of_lists::open_lists_are_the_latest;
+pub use of_lists::open_lists_are_those_that_were_named;
 pub use of_lists::open_lists_were_pointed_to;
 pub use of_lists::operations_ask_for_their_orbs;
 pub use of_lists::operations_keep_their_orbs;

@@ -18,6 +18,7 @@ ghost use Rattle.sbp_world.specs.Lists.CutLists.{CutListsLaw};
 ghost use Rattle.sbp_world.specs.Lists.Closes.{ClosingLaw, OpenListsLaw};
 ghost use Rattle.sbp_world.specs.Lists.EndedLists.{EndedListsLaw};
 ghost use Rattle.sbp_world.specs.Lists.Opens.{OpensLaw};
+ghost use Rattle.sbp_world.specs.Lists.Taken.{TakenListsLaw};
 ghost use Rattle.sbp_world.specs.Lists.Orders.{AppendsLaw, OrderRunLaw};
 ghost use Rattle.sbp_world.specs.Lists.Names.{NamesLaw};
 ghost use Rattle.sbp_world.specs.Lists.Running.{ListsRunLaw, RunsRunLaw, UnrunLaw};
@@ -307,6 +308,14 @@ pub fn orbs_execute_as_the_law_says()
 #[tactic(auto, using(crate::proofs::Lists::OpenProved::opens_law))]
 pub fn open_lists_were_pointed_to()
     ensures { OpensLaw }
+{}
+
+/// In every run, whoever injected packets, the list of an agent that is not in RESET, be it DEAD, is that of the ORB which
+/// ORB_POINTER of its place named when it was last taken, as ORBs were named then: so the laws read it off the history.
+/// After every line of every run, and behind each delivery of a line that may follow.
+#[tactic(auto, using(crate::proofs::Lists::OpenProved::taken_lists_law))]
+pub fn open_lists_are_those_that_were_named()
+    ensures { TakenListsLaw }
 {}
 
 /// In every run a list that was cut had been open at an agent: a write of ORB_POINTER of its initiator had named an ORB of it

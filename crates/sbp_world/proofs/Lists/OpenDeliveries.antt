@@ -1,5 +1,5 @@
 -- A packet that the target gets leaves the places whose lists are open as they were, or it is a write of ORB_POINTER that opens one; and a time-out opens none.
-use Rattle.std.proofs.Common.{◌≡◌, refl, inl, inr, ◌⊎◌, ◌<◌, ℕ, Bool, true, false, cond, List, [], length, Option, Some, None, Result, Ok, Err}
+use Rattle.std.proofs.Common.{◌≡◌, refl, sym, subst, inl, inr, ◌⊎◌, ◌<◌, ℕ, Bool, true, false, cond, List, [], length, Option, Some, None, Result, Ok, Err}
 use Rattle.async_packet.specs.Labels.{LabelParts}
 use Rattle.async_packet.specs.Packet.{Packet, header_in}
 use Rattle.label_table.specs.Layer.{Finding, Layer, judging_step, of_again, of_generation, of_grammar, of_label, of_request, of_response}
@@ -101,8 +101,8 @@ module _ (w : WorldState) (g : Good w.target) (seats : AreSeated w) (u : WorldSt
         same_desks u (holder w) (Before w g seats) w.target.logins.places (sound w g seats) first (settled (header_in p).source first.node) empty_outbox refl refl starting
 
     -- ---- a request
-    point_by : (p : Packet) (place : ℕ) (pointer : OrbPointer) → Found (of_request p) → is_barred w.target p ≡ false → demand_of (length w.target.rom) p ≡ demands.Agent place (accesses.Point pointer) → (small : place < 8) → IsServed w.target place → (x : Result Ask PointRefusal) → (point_step (Here w.target place) pointer).0 ≡ x → Turned judgements.Got (point place pointer p sent.bytes first)
-    point_by p place pointer f n d small served (Ok ask) e = inr (record {
+    point_taken : (p : Packet) (place : ℕ) (pointer : OrbPointer) → Found (of_request p) → is_barred w.target p ≡ false → demand_of (length w.target.rom) p ≡ demands.Agent place (accesses.Point pointer) → (small : place < 8) → IsServed w.target place → (ask : Ask) → (point_step (Here w.target place) pointer).0 ≡ Ok ask → Points judgements.Got (point place pointer p sent.bytes first)
+    point_taken p place pointer f n d small served ask e = record {
       packet = p;
       found = f;
       bar = n;
@@ -115,7 +115,10 @@ module _ (w : WorldState) (g : Good w.target) (seats : AreSeated w) (u : WorldSt
       took = e;
       got = refl;
       after = taken_open w g seats u same layer place small p sent.bytes served (orb_of (point_step (Here w.target place) pointer).1) pointer ask e refl;
-    })
+    }
+
+    point_by : (p : Packet) (place : ℕ) (pointer : OrbPointer) → Found (of_request p) → is_barred w.target p ≡ false → demand_of (length w.target.rom) p ≡ demands.Agent place (accesses.Point pointer) → (small : place < 8) → IsServed w.target place → (x : Result Ask PointRefusal) → (point_step (Here w.target place) pointer).0 ≡ x → Turned judgements.Got (point place pointer p sent.bytes first)
+    point_by p place pointer f n d small served (Ok ask) e = inr (point_taken p place pointer f n d small served ask e)
     point_by p place pointer f n d small served (Err refusal) e = inl (refused_open w g seats u same layer place small p sent.bytes pointer refusal e)
 
     access_open : (p : Packet) (place : ℕ) (access : Access) → Found (of_request p) → is_barred w.target p ≡ false → demand_of (length w.target.rom) p ≡ demands.Agent place access → Turned judgements.Got (accessed_by access place p sent.bytes first)
@@ -160,6 +163,26 @@ module _ (w : WorldState) (g : Good w.target) (seats : AreSeated w) (u : WorldSt
     pub delivery_open : (let x = received run sent.generation sent.bytes (whole_of w.target media) in Turned x.0 (scene x.1.node x.1.outbox))
     unfolding received
     delivery_open = by_found (judging_step w.target.layer sent.generation sent.bytes).0 refl
+
+    -- ---- a write of ORB_POINTER that is taken
+    abbrev Pointed : Judged × Whole → Type 0
+    Pointed x = Points x.0 (scene x.1.node x.1.outbox)
+
+    module _ (p : Packet) (place : ℕ) (pointer : OrbPointer) (ask : Ask) (f : Found (of_request p)) (n : is_barred w.target p ≡ false) (d : demand_of (length w.target.rom) p ≡ demands.Agent place (accesses.Point pointer)) (e : (point_step (Here w.target place) pointer).0 ≡ Ok ask) where
+      serve_points : Points judgements.Got (serve p sent.bytes first)
+      unfolding serve
+      serve_points =
+          let r = reaches w.target g p place (accesses.Point pointer) n d in
+          subst (λ (demand : Demand). Points judgements.Got (served_as demand p sent.bytes first)) (sym d) (point_taken p place pointer f n d r.small r.served ask e)
+
+      request_points : Pointed (received_as run sent.bytes (of_request p) all)
+      unfolding request_step is_barred
+      request_points =
+          subst (λ b. Pointed (judged_scene (cond b (judgements.Ignored ignored.Login, answered p sent.bytes address_error [] first) (judgements.Got, serve p sent.bytes first)) all)) (sym n) serve_points
+
+      pub takes_point : (let x = received run sent.generation sent.bytes (whole_of w.target media) in Points x.0 (scene x.1.node x.1.outbox))
+      unfolding received
+      takes_point = subst (λ (x : Finding Purpose). Pointed (received_as run sent.bytes x all)) (sym f) request_points
 
   -- ---- a transaction that times out
   module _ (layer : Layer Purpose) (peer : ℕ) (label : LabelParts) where

@@ -19,33 +19,35 @@ use Rattle.sbp_world.specs.Lists.OneUp.{AreApart, OneUpLaw}
 use Rattle.sbp_world.specs.Lists.FewLogins.{IsTameOrFew}
 use Rattle.sbp_world.proofs.Lists.Calm.{asked_calm}
 use Rattle.sbp_world.proofs.Lists.AsGot.{AsGot, got_turn}
-use Rattle.sbp_world.proofs.Lists.Courses.{EveryPlace, Keeps, at_between, at_lines}
+use Rattle.sbp_world.proofs.Lists.Courses.{EveryPlace, Keeps, at_between, at_lines, more_than_one}
 use Rattle.sbp_world.proofs.Lists.Judging.{goes_next}
 use Rattle.sbp_world.proofs.Lists.LiveRuns.{goes_tame_or_few}
 use Rattle.sbp_world.proofs.Lists.ManageSends.{opened_terms}
 use Rattle.sbp_world.proofs.Lists.ManageTerms.{none_is}
 use Rattle.sbp_world.proofs.Lists.OpenSends.{AreOpenReads, turn_open}
 use Rattle.sbp_world.proofs.Lists.OrbWaits.{over_twice}
-use Rattle.sbp_world.proofs.Lists.PointersRuns.{NamingSo, naming_everywhere}
+use Rattle.sbp_world.proofs.Lists.OpenProved.{taken_lists_law}
+use Rattle.sbp_world.specs.Lists.Taken.{AreTaken}
+use Rattle.sbp_world.specs.Hosts.Runs.{more_deliveries}
 use Rattle.sbp_world.proofs.Lists.StillRuns.{ground_everywhere}
 use Rattle.sbp_world.proofs.Lists.StillTurns.{Ground}
 
 -- what is known of a place
 record Known (start : List Disk) (past : List Moment) (w : WorldState) : Type 0 where
   ground : Ground start past w
-  naming : NamingSo start past w
+  taken : AreTaken start past w
   apart : IsTameOrFew past → AreApart past w
 
 known_everywhere : OpenListsLaw → OneUpLaw → EveryPlace Known
 known_everywhere lists up = record {
   after_lines = λ line run r has small size so_far. record {
     ground = (ground_everywhere lists).after_lines line run r has small size so_far;
-    naming = (naming_everywhere lists).after_lines line run r has small size so_far;
+    taken = taken_lists_law.after_lines line run r has small size;
     apart = λ beside. up.after_lines line run r has small size beside;
   };
   between = λ line run r has small size next most told m so_far. record {
     ground = (ground_everywhere lists).between line run r has small size next most told m so_far;
-    naming = (naming_everywhere lists).between line run r has small size next most told m so_far;
+    taken = taken_lists_law.between line run r has small size next (more_deliveries most) (more_than_one most) told m;
     apart = λ beside. up.between line run r has small size next most told m beside;
   };
 }
@@ -56,7 +58,7 @@ OpenSo start past w = IsTameOrFew past → AreOpenReads start past
 
 all_open : (units ready : ℕ) → 0 < units → (start : List Disk) → Keeps units ready start (Known start) (OpenSo start)
 all_open units ready has start past s later t lines more g h h_now k k_now so_far beside =
-    turn_open units ready has start past s later t g h h_now k.ground k_now.ground beside (k_now.naming beside) (k_now.apart beside) (so_far (goes_tame_or_few past s later t g beside))
+    turn_open units ready has start past s later t g h h_now k.ground k_now.ground beside k_now.taken (k_now.apart beside) (so_far (goes_tame_or_few past s later t g beside))
 
 -- no packet was sent as a run begins
 first_open : (start : List Disk) (line : ℕ) (run : Run) → OpenSo start (moments_behind line run []) (beginning run).world

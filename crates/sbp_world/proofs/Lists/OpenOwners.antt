@@ -1,4 +1,4 @@
--- Who wrote ORB_POINTER: a packet of a node that asks for a register of an agent, and is not barred, is of the initiator of the login of its place.
+-- Who wrote ORB_POINTER: a packet of a node that asks for a register of an agent, and is not barred, is of the initiator of the login of its place, whom the terms have there too.
 use Rattle.std.proofs.Common.{◌≡◌, ◌∙◌, refl, sym, ap, subst, ◌<◌, ◌&&◌, not, nat_eq, is_none, ℕ, suc, ◌+◌, Bool, true, false, cond, List, length, Option, Some, None, Ok, arith}
 use Rattle.std.proofs.lemmas.Bool.Decides.{nat_tests}
 use Rattle.async_packet.specs.Packet.{Packet, header_in}
@@ -7,7 +7,7 @@ use Rattle.bus_transactions.specs.Wire.{Node}
 use Rattle.bus_transactions.proofs.FitJudged.{IsFoundAs, found_as}
 use Rattle.label_table.specs.Layer.{judging_step, of_request}
 use Rattle.login_table.specs.declared.login.Login.{Login}
-use Rattle.login_table.specs.Table.{if_of_node, is_live}
+use Rattle.login_table.specs.Table.{Table, if_of_node, is_live, place_at}
 use Rattle.packet_store.specs.declared.sent.Sent.{Sent}
 use Rattle.packet_store.specs.Kept.{found_sent}
 use Rattle.rbc_disk.specs.Disk.{Disk}
@@ -23,9 +23,14 @@ use Rattle.target_base.specs.declared.address.Demand.TheVariants as demands
 use Rattle.target_base.specs.declared.address.AgentRegister.{AgentRegister}
 use Rattle.target_base.specs.Addresses.{demand_of, is_lock, offset_in, reached, register_at, row_of}
 use Rattle.target_base.specs.Logins.{is_barred_at}
+use Rattle.sbp_laws.specs.Agents.{initiator_at as term_initiator, initiator_with, node_in}
+use Rattle.sbp_laws.specs.Targets.{over, target_at}
 use Rattle.sbp_target.specs.Nodes.{NodeState, login_at}
 use Rattle.sbp_target.specs.Serving.{is_barred}
+use Rattle.sbp_target.proofs.Histories.Following.{IsServed}
 use Rattle.sbp_target.proofs.Reached.{demand_place}
+use Rattle.sbp_world.specs.Agents.Management.Offices.{Office}
+use Rattle.sbp_world.proofs.Agents.Management.Offices.{over_keeps}
 use Rattle.sbp_world.proofs.Agents.Management.Holding.{Holding, is_of, same_id, target_generation}
 use Rattle.sbp_world.proofs.Agents.Management.Still.{hist}
 use Rattle.sbp_world.specs.Agents.Holders.{AreHeldAt}
@@ -96,3 +101,10 @@ module _ (units logins : ℕ) (start : List Disk) {past : List Moment} {lines : 
     where
       layer_is : w.target.layer.generation ≡ t.generation 0
       layer_is = sym (ap (λ (l : Node). l.generation) (stands.is.layers_are 0 (omega arith))) ∙ stands.is.sights 0 (omega arith) ∙ sym (target_generation w stands)
+
+  -- the place of a live login is its initiator's by the terms
+  pub served_initiator : {place : ℕ} → IsServed w.target place → term_initiator (over (target_at start (hist past w))) t place ≡ (holder w place).initiator
+  served_initiator {place} served =
+      let k = held.held place served.login served.is in
+      ap (λ (x : Table). initiator_with t (node_in (place_at x.places place))) (ap (λ (o : Office). o.table) (over_keeps (target_at start (hist past w))))
+      ∙ ((k.live served.live).terms_are ∙ ap (λ o. (or_nobody o).initiator) (sym k.there))

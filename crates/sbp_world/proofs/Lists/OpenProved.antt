@@ -27,6 +27,10 @@ use Rattle.sbp_world.proofs.Agents.Management.Holding.{Holding}
 use Rattle.sbp_world.proofs.Agents.Management.Lines.{all_heard as all_hold, line_holds, opens}
 use Rattle.sbp_world.proofs.Agents.Management.Runs.{are_told, no_repeats, not_reset}
 use Rattle.sbp_world.proofs.Agents.Management.Still.{hist}
+use Rattle.rbc_disk.specs.Disk.{Disk}
+use Rattle.sbp_world.specs.Agents.Agents.{AreAgentsAt}
+use Rattle.sbp_world.specs.Lists.Taken.{AreTaken, TakenListsLaw}
+use Rattle.sbp_world.proofs.Agents.CrewRuns.{agents_between_law, agents_run_law}
 use Rattle.sbp_world.proofs.Agents.Holders.{are_held, seats_after}
 use Rattle.sbp_world.proofs.Agents.Seating.{all_seats, opened}
 use Rattle.sbp_world.proofs.Agents.Seats.{Seats}
@@ -39,9 +43,9 @@ use Rattle.sbp_world.specs.Lists.Needs.{IsCalm, OpenBefore}
 use Rattle.sbp_world.proofs.Lists.OpenCuts.{is_up}
 use Rattle.sbp_world.specs.Lists.CutLists.{CutListsLaw}
 use Rattle.sbp_world.specs.Lists.Opens.{AreOpened, OpensLaw}
-use Rattle.sbp_world.proofs.Lists.OpenRuns.{AllFacts, Facts, More, all, all_heard, line_were}
+use Rattle.sbp_world.proofs.Lists.OpenRuns.{AllFacts, AllSo, Facts, More, all, all_heard, line_were}
 use Rattle.sbp_world.proofs.Lists.OpenTurns.{up_state}
-use Rattle.sbp_world.proofs.Lists.OpenWorlds.{AllWere}
+use Rattle.sbp_world.proofs.Lists.OpenWorlds.{AllTaken, AllWere}
 use Rattle.sbp_world.proofs.Lists.OpenHad.{WereAt, same_were}
 use Rattle.sbp_world.proofs.Lists.Runs.{kept_after}
 use Rattle.sbp_target.proofs.Histories.Calling.{Good, not_eight}
@@ -60,6 +64,10 @@ closed p b d = no (sym (ap (λ (x : Desk). is_up x.agent) (get_or-replicate 8 p 
 first_were : (line n : ℕ) (is_ready : Bool) (units : ℕ) → AllWere (first_past line n is_ready) (new_world n is_ready units)
 unfolding new_world
 first_were line n is_ready units = record { each = λ p b d. absurd (closed p b d); had = λ i k e. absurd (no e) }
+
+first_taken : (start : List Disk) (line n : ℕ) (is_ready : Bool) (units : ℕ) → AllTaken start (first_past line n is_ready) (new_world n is_ready units)
+unfolding new_world
+first_taken start line n is_ready units p b d = absurd (closed p b d)
 
 -- ---- runs
 pub moments_same : (line : ℕ) (run : Run) (every entries : List Entry) → moments_behind line (record run { entries = every }) entries ≡ moments_behind line run entries
@@ -117,11 +125,17 @@ module _ (line : ℕ) (run : Run) (few : run.initiators ≤ 4) (has : 0 < run.un
         lines = lines;
         holds = h;
         held = are_held run.units logins has run.start.disks here.world h seats;
+        agents = subst (λ ms. AreAgentsAt run.start.disks ms here.world) history_is (agents_run_law line (front entries) few has small size short every (lines_same run entries entries fit));
         rows = λ i b. subst (λ ms. AreRows ms i (initiator_at here.world i).lists.slots) history_is (run_law.rows line (front entries) is_run i (inside i b)).rows;
       }
 
       pub numbers : (i : ℕ) → i < length here.world.initiators → (initiator_at here.world i).number ≡ i
       numbers i b = (run_law.rows line (front entries) is_run i (inside i b)).number
+
+      first_agents : {event : Event} (next : ℕ) → AreAgentsAt run.start.disks (asked next event ∷ hist past here.world) (without_notes here.world)
+      first_agents next =
+          let settling = subst (λ ms. AreAgentsAt run.start.disks (asked next events.Settle ∷ ms) (without_notes here.world)) history_is (agents_between_law line (front entries) few has small size short every (lines_same run entries entries fit) next events.Settle tt [] tt) in
+          record { requests = settling.requests; are = settling.are; known = settling.known }
 
       -- as a line begins
       pub first_facts : (next : ℕ) (event : Event) → is_reset event ≡ false → F (asked next event ∷ hist past here.world) (without_notes here.world)
@@ -131,6 +145,7 @@ module _ (line : ℕ) (run : Run) (few : run.initiators ≤ 4) (has : 0 < run.un
             lines = lines + 1;
             holds = b;
             held = are_held run.units logins has run.start.disks (without_notes here.world) b (opened run.units logins has run.start.disks here.world seats);
+            agents = first_agents next;
             rows = λ i c.
                 let r = run_law.rows line (front entries) is_run i (inside i c) in
                 step_law.asked next event (hist past here.world) i (initiator_at here.world i).lists.slots (subst (λ ms. IsHost ms i (initiator_at here.world i)) history_is r).rows;
@@ -178,7 +193,13 @@ module _ (line : ℕ) (run : Run) (few : run.initiators ≤ 4) (has : 0 < run.un
             let repeats = no_repeats event (hist past here.world) next d in
             let x = all_hold run.units logins has run.start.disks told (are_told told here m) (begun here) b repeats in
             let q = all_seats run.units logins has run.start.disks told (are_told told here m) (begun here) b (opened run.units logins has run.start.disks here.world seats) repeats in
-            record { lines = lines + 1; holds = x; held = are_held run.units logins has run.start.disks (at told) x q; rows = rows_at told m }
+            record {
+              lines = lines + 1;
+              holds = x;
+              held = are_held run.units logins has run.start.disks (at told) x q;
+              agents = subst (λ ms. AreAgentsAt run.start.disks (map said (at told).fresh ++ asked next event ∷ ms) (at told)) history_is (agents_between_law line (front entries) few has small size short every (lines_same run entries entries fit) next event d told m);
+              rows = rows_at told m;
+            }
 
         pub all_facts : (told : List (Option Told)) → MayAll told (begun here) → AllFacts run.units logins has run.start.disks now told (begun here)
         all_facts [] m = tt
@@ -202,16 +223,18 @@ module _ (line : ℕ) (run : Run) (few : run.initiators ≤ 4) (has : 0 < run.un
       more_of next (events.Key unit key) told m = tt
 
       -- as it begins the open lists are the same
-      begun_were : (next : ℕ) (event : Event) → AllWere past here.world → AllWere (asked next event ∷ hist past here.world) (without_notes here.world)
-      begun_were next event o =
-          same_were (asked next event ∷ []) (hist past here.world) (asked next event ∷ hist past here.world) here.world (without_notes here.world) refl (λ i n. refl) refl (λ p l. l) o
+      begun_were : (next : ℕ) (event : Event) → AllSo run.start.disks past here.world → AllSo run.start.disks (asked next event ∷ hist past here.world) (without_notes here.world)
+      begun_were next event o = record {
+        were = same_were (asked next event ∷ []) (hist past here.world) (asked next event ∷ hist past here.world) here.world (without_notes here.world) refl (λ i n. refl) refl (λ p l. l) o.were;
+        taken = λ p b l. o.taken p b l;
+      }
 
   -- ---- behind the lines of a run
   pub record After (entries : List Entry) (w : WorldState) : Type 0 where
     pub past : List Moment
     pub holds : H past (length entries) w
     pub is : hist past w ≡ moments entries
-    pub were : AllWere past w
+    pub so : AllSo run.start.disks past w
 
   first_after : After [] (beginning run).world
   unfolding new_world
@@ -219,7 +242,7 @@ module _ (line : ℕ) (run : Run) (few : run.initiators ≤ 4) (has : 0 < run.un
     past = first_past line run.initiators run.ready;
     holds = first_holds run.initiators run.ready run.units line run.start.disks few small size;
     is = refl;
-    were = first_were line run.initiators run.ready run.units;
+    so = record { were = first_were line run.initiators run.ready run.units; taken = first_taken run.start.disks line run.initiators run.ready run.units };
   }
 
   next_after : (e : Entry) (before : List Entry) → length before + 2 < 2 ^ 32 → AreEntries (beginning run) (e ∷ before) → AreLines run (e ∷ before) → After before (after (beginning run) before).world → After (e ∷ before) (happens e.line e.event e.told (after (beginning run) before)).world
@@ -231,13 +254,13 @@ module _ (line : ℕ) (run : Run) (few : run.initiators ≤ 4) (has : 0 < run.un
         holds = subst (λ n. H now n (happens e.line e.event e.told s).world) (let x : length before + 1 ≡ suc (length before) = omega arith in x)
             (line_holds run.units logins has run.start.disks e.line e.event e.told s fit.0 (happened_fits e.event e.told s every.0.may) (omega arith) b.holds);
         is = ap (λ ns. map said ns ++ now) (sym every.0.notes_are) ∙ ap (λ ms. map said e.notes ++ asked e.line e.event ∷ ms) b.is;
-        were =
+        so =
             line_were run.units logins has run.start.disks b.past e.line e.event e.told s fit.0 every.0.may
             (first_facts before short every.1 fit.1 b.past (length before) b.holds b.is e.line e.event)
             (numbers before short every.1 fit.1 b.past (length before) b.holds b.is)
             (tt, subst (OrderLaw all) (sym b.is) (law before short every.1 fit.1))
             (more_of before short every.1 fit.1 b.past (length before) b.holds b.is e.line e.event e.told every.0.may)
-            (begun_were before short every.1 fit.1 b.past (length before) b.holds b.is e.line e.event b.were);
+            (begun_were before short every.1 fit.1 b.past (length before) b.holds b.is e.line e.event b.so);
       }
 
   pub were_after : (entries : List Entry) → length entries + 2 < 2 ^ 32 → AreEntries (beginning run) entries → AreLines run entries → After entries (after (beginning run) entries).world
@@ -277,10 +300,16 @@ module _ (line : ℕ) (run : Run) (r : IsRun run) (has : 0 < run.units) (small :
   opens_after =
       let k = known in
       let f = facts line run r.few has small size run.entries r.short r.entries r.lines k.past (length run.entries) k.holds k.is in
-      subst (λ ms. AreOpened ms last.world) k.is (opened_at line run r.few has small size k.past last.world f k.were)
+      subst (λ ms. AreOpened ms last.world) k.is (opened_at line run r.few has small size k.past last.world f k.so.were)
 
   pub had_after : WereAt (history_of line run) last.world
-  had_after = let k = known in subst (λ ms. WereAt ms last.world) k.is k.were
+  had_after = let k = known in subst (λ ms. WereAt ms last.world) k.is k.so.were
+
+  as_up : (x : Bool) → x ≡ false → not x ≡ true
+  as_up x e = ap not e
+
+  pub taken_after : AreTaken run.start.disks (history_of line run) last.world
+  taken_after = let k = known in subst (λ ms. AreTaken run.start.disks ms last.world) k.is (λ p b e. k.so.taken p b (as_up _ e))
 
   module _ (next : ℕ) (event : Event) (d : DeliversMore event) (told : List (Option Told)) (m : MayAll told (begun last)) where
     abbrev end : WorldState
@@ -292,18 +321,27 @@ module _ (line : ℕ) (run : Run) (r : IsRun run) (has : 0 < run.units) (small :
         let now = asked next event ∷ hist k.past last.world in
         let at = facts_at line run r.few has small size run.entries r.short r.entries r.lines k.past (length run.entries) k.holds k.is next event d told m in
         let each = all_facts line run r.few has small size run.entries r.short r.entries r.lines k.past (length run.entries) k.holds k.is next event d told m in
-        let first = begun_were line run r.few has small size run.entries r.short r.entries r.lines k.past (length run.entries) k.holds k.is next event k.were in
-        let o = all_heard run.units (ready_logins run.initiators run.ready) has run.start.disks now told (begun last) each first in
-        subst (λ ms. AreOpened (map said end.fresh ++ asked next event ∷ ms) end) k.is (opened_at line run r.few has small size now end at o)
+        let first = begun_were line run r.few has small size run.entries r.short r.entries r.lines k.past (length run.entries) k.holds k.is next event k.so in
+        let o = all_heard run.units (ready_logins run.initiators run.ready) has run.start.disks now told (begun last) each m first in
+        subst (λ ms. AreOpened (map said end.fresh ++ asked next event ∷ ms) end) k.is (opened_at line run r.few has small size now end at o.were)
 
     pub had_between : WereAt (map said end.fresh ++ asked next event ∷ history_of line run) end
     had_between =
         let k = known in
         let now = asked next event ∷ hist k.past last.world in
         let each = all_facts line run r.few has small size run.entries r.short r.entries r.lines k.past (length run.entries) k.holds k.is next event d told m in
-        let first = begun_were line run r.few has small size run.entries r.short r.entries r.lines k.past (length run.entries) k.holds k.is next event k.were in
-        let o = all_heard run.units (ready_logins run.initiators run.ready) has run.start.disks now told (begun last) each first in
-        subst (λ ms. WereAt (map said end.fresh ++ asked next event ∷ ms) end) k.is o
+        let first = begun_were line run r.few has small size run.entries r.short r.entries r.lines k.past (length run.entries) k.holds k.is next event k.so in
+        let o = all_heard run.units (ready_logins run.initiators run.ready) has run.start.disks now told (begun last) each m first in
+        subst (λ ms. WereAt (map said end.fresh ++ asked next event ∷ ms) end) k.is o.were
+
+    pub taken_between : AreTaken run.start.disks (map said end.fresh ++ asked next event ∷ history_of line run) end
+    taken_between =
+        let k = known in
+        let now = asked next event ∷ hist k.past last.world in
+        let each = all_facts line run r.few has small size run.entries r.short r.entries r.lines k.past (length run.entries) k.holds k.is next event d told m in
+        let first = begun_were line run r.few has small size run.entries r.short r.entries r.lines k.past (length run.entries) k.holds k.is next event k.so in
+        let o = all_heard run.units (ready_logins run.initiators run.ready) has run.start.disks now told (begun last) each m first in
+        subst (λ ms. AreTaken run.start.disks (map said end.fresh ++ asked next event ∷ ms) end) k.is (λ p b e. o.taken p b (as_up _ e))
 
 pub opens_law : OpensLaw
 opens_law = record {
@@ -315,4 +353,10 @@ pub cut_lists_law : CutListsLaw
 cut_lists_law = record {
   after_lines = λ line run r has small size. (had_after line run r has small size).had;
   between = λ line run r has small size next event d told m. (had_between line run r has small size next event d told m).had;
+}
+
+pub taken_lists_law : TakenListsLaw
+taken_lists_law = record {
+  after_lines = λ line run r has small size. taken_after line run r has small size;
+  between = λ line run r has small size next event d told m. taken_between line run r has small size next event d told m;
 }

@@ -1,4 +1,4 @@
--- As the target sent a read that an agent waits for, to an initiator that injected no packets, the latest list of this initiator was open: this agent alone of the initiator's was out of RESET, and the pointer that it took names the list. A turn keeps this.
+-- As the target sent a read that an agent waits for, to an initiator that injected no packets, the latest list of this initiator was open: this agent alone of the initiator's was out of RESET, and the pointer that it took named the list. A turn keeps this.
 use Rattle.std.proofs.Common.{inl, inr, ◌⊎◌, arith, ◌≡◌, ◌∙◌, refl, sym, ap, subst, ◌<◌, ◌≤◌, ◌+◌, not, ℕ, suc, nat_lt, Bool, true, false, List, [], ◌∷◌, ◌++◌, map, Option, Some, None}
 use Rattle.std.proofs.lemmas.Bool.Decides.{nat_tests}
 use Rattle.command_agent.specs.declared.phase.Phase.{Phase}
@@ -13,10 +13,8 @@ use Rattle.sbp_journal.specs.Transactions.{Sending}
 use Rattle.sbp_journal.specs.Wire.{terms}
 use Rattle.sbp_journal.specs.declared.note.Note.{Note}
 use Rattle.sbp_journal.specs.declared.note.Note.TheVariants as notes
-use Rattle.sbp_laws.specs.Agents.{initiator_at as term_initiator, pointed_in}
+use Rattle.sbp_laws.specs.Agents.{initiator_at as term_initiator, list_taken}
 use Rattle.sbp_laws.specs.CarriedBytes.{before_sent, open_list}
-use Rattle.bus_memory.specs.Windows.{slot_of}
-use Rattle.sbp_laws.specs.Lists.{list_in, named_in}
 use Rattle.sbp_laws.specs.Packets.{access_at, access_in, packet_in, receiver_in, sender_in}
 use Rattle.sbp_laws.specs.Targets.{Target, agent_at, known_at, over, target_at}
 use Rattle.sbp_laws.specs.Terms.{lists}
@@ -41,9 +39,10 @@ use Rattle.sbp_world.proofs.Lists.ManageTerms.{none_is}
 use Rattle.sbp_world.proofs.Lists.OpenCuts.{is_up}
 use Rattle.sbp_world.proofs.Lists.OpenTurns.{listing_up, up_state}
 use Rattle.sbp_world.proofs.Lists.PointersHeld.{AllHold, ends_turn, note_goes, stay, then_goes}
-use Rattle.sbp_world.proofs.Lists.PointersRuns.{AreNaming, NamesList}
+use Rattle.sbp_world.proofs.Lists.TakenTerms.{sends_over}
+use Rattle.sbp_world.specs.Lists.Taken.{AreTaken}
 use Rattle.sbp_world.proofs.Lists.SendsLast.{AllSends}
-use Rattle.sbp_world.proofs.Lists.SendsLeave.{Leaves, SameIds, beyond_down, no_open, one_open, over_leaves, same_initiator, sends_ids, sends_leave, sends_lists, sends_named, then_left}
+use Rattle.sbp_world.proofs.Lists.SendsLeave.{Leaves, SameIds, beyond_down, no_open, one_open, over_leaves, same_initiator, sends_ids, sends_leave, sends_lists, then_left}
 use Rattle.sbp_world.proofs.Lists.Sites.{Site, Waiting, waiting, who_up}
 use Rattle.sbp_world.proofs.Lists.StillTurns.{Ground, site_at}
 use Rattle.sbp_world.proofs.Lists.TurnSends.{SentLast, since_turn}
@@ -141,24 +140,20 @@ module _ (units ready : ℕ) (has : 0 < units) (start : List Disk) (past : List 
 
   -- An initiator of whose agents none is out of RESET has no open list.
   pub none_open : (i : ℕ) → ((place : ℕ) → place < 8 → IsUp v i place → ⊥) → open_list start then i ≡ None
-  none_open i none = no_open then (terms then) t i 0 t.agents (λ j k at u e. let x = up_of i j k at u e in none j x.0 x.1)
+  none_open i none = no_open start then (terms then) t i 0 t.agents (λ j k at u e. let x = up_of i j k at u e in none j x.0 x.1)
 
   -- The list that an agent has open is the open one of its initiator.
-  module _ (naming : AreNaming start now v) (apart : AreApart now v) (place : ℕ) (b : place < 8) (open_there : is_open_at v place ≡ true) (calm : IsCalm now (initiator_in v place)) (o : IsOpenAt now v place) where
+  module _ (taken : AreTaken start now v) (apart : AreApart now v) (place : ℕ) (b : place < 8) (open_there : is_open_at v place ≡ true) (calm : IsCalm now (initiator_in v place)) (o : IsOpenAt now v place) where
     abbrev i : ℕ
     i = initiator_in v place
 
     held : ((agent_at T place).pointer ≡ (agent_at t place).pointer) × (has_list (agent_at t place).machine.phase ≡ true)
     held = hold place (ap has_list (phase_same place b) ∙ open_there)
 
-    abbrev name : NamesList now i o.n (agent_at T place).pointer
-    name = naming place b open_there calm o.n o.list
-
-    list_is : list_in (pointed_in then i (agent_at t place).pointer) ≡ Some o.n
+    list_is : list_taken start then place ≡ Some o.n
     list_is =
-        let so = slot_of name.address in
-        let here : named_in now i so ≡ named_in then i so = subst (λ ms. named_in ms i so ≡ named_in then i so) is (sends_named behind then i so sends) in
-        ap (λ p. list_in (pointed_in then i p)) (sym held.0 ∙ name.is) ∙ (ap list_in (sym here) ∙ name.list)
+        sym (subst (λ ms. list_taken start ms place ≡ list_taken start then place) is (sends_over start place behind then sends))
+        ∙ (taken place b (up_state (is_reset (state_in (machine_at v place).phase)) (listing_up (machine_at v place).phase open_there)) ∙ o.list)
 
     -- the place is the initiator's, and no other one of it has an agent out of RESET
     up_here : is_up (agent_in t.agents place).machine ≡ true
@@ -173,13 +168,13 @@ module _ (units ready : ℕ) (has : 0 < units) (start : List Disk) (past : List 
         apart i place j calm b x.0 (record { up = up_at place b up_here; own = refl }) x.1
 
     pub open_is : open_list start then i ≡ Some o.n
-    open_is = one_open then (terms then) t i o.n 0 t.agents place place (let z : 0 + place ≡ place = omega arith in z) up_here own list_is alone
+    open_is = one_open start then (terms then) t i o.n 0 t.agents place place (let z : 0 + place ≡ place = omega arith in z) up_here own list_is alone
 
     pub latest_is : suc o.n ≡ lists then i
     latest_is = o.still.latest ∙ subst (λ ms. lists ms i ≡ lists then i) is (sends_lists behind then i sends)
 
 -- ---- behind a turn
-module _ (units ready : ℕ) (has : 0 < units) (start : List Disk) (past : List Moment) (v : WorldState) {lines : ℕ} (h : Holding units ready start past lines v) (q : Ground start (hist past v) v) (beside : IsTameOrFew (hist past v)) (naming : AreNaming start (hist past v) v) (apart : AreApart (hist past v) v) (place : ℕ) (b : place < 8) (which : Which) (serial i : ℕ) (r : ReadsOf start (hist past v) place which serial i) (last : SentLast (hist past v) serial) where
+module _ (units ready : ℕ) (has : 0 < units) (start : List Disk) (past : List Moment) (v : WorldState) {lines : ℕ} (h : Holding units ready start past lines v) (q : Ground start (hist past v) v) (beside : IsTameOrFew (hist past v)) (taken : AreTaken start (hist past v) v) (apart : AreApart (hist past v) v) (place : ℕ) (b : place < 8) (which : Which) (serial i : ℕ) (r : ReadsOf start (hist past v) place which serial i) (last : SentLast (hist past v) serial) where
   -- before the packet
   abbrev then : List Moment
   then = before_sent (hist past v) serial
@@ -204,14 +199,14 @@ module _ (units ready : ℕ) (has : 0 < units) (start : List Disk) (past : List 
     n = o.n;
     opened =
         subst (λ j. open_list start then j ≡ Some o.n) (sym i_is)
-        (open_is units ready has start past v h site then last.behind last.are_sends last.is naming apart place b asked.is_open calm o);
+        (open_is units ready has start past v h site then last.behind last.are_sends last.is taken apart place b asked.is_open calm o);
     latest =
         subst (λ j. suc o.n ≡ lists then j) (sym i_is)
-        (latest_is units ready has start past v h site then last.behind last.are_sends last.is naming apart place b asked.is_open calm o);
+        (latest_is units ready has start past v h site then last.behind last.are_sends last.is taken apart place b asked.is_open calm o);
   }
 
 -- ---- a turn
-module _ (units ready : ℕ) (has : 0 < units) (start : List Disk) (past : List Moment) (s : Scene) (later : List Moment) (t : Scene) (g : Goes past s later t) {lines more : ℕ} (h : Holding units ready start past lines s.world) (h_now : Holding units ready start later more t.world) (q : Ground start (hist past s.world) s.world) (q_now : Ground start (hist later t.world) t.world) (beside_now : IsTameOrFew (hist later t.world)) (naming : AreNaming start (hist later t.world) t.world) (apart : AreApart (hist later t.world) t.world) (so_far : AreOpenReads start (hist past s.world)) where
+module _ (units ready : ℕ) (has : 0 < units) (start : List Disk) (past : List Moment) (s : Scene) (later : List Moment) (t : Scene) (g : Goes past s later t) {lines more : ℕ} (h : Holding units ready start past lines s.world) (h_now : Holding units ready start later more t.world) (q : Ground start (hist past s.world) s.world) (q_now : Ground start (hist later t.world) t.world) (beside_now : IsTameOrFew (hist later t.world)) (taken : AreTaken start (hist later t.world) t.world) (apart : AreApart (hist later t.world) t.world) (so_far : AreOpenReads start (hist past s.world)) where
   abbrev before : List Moment
   before = hist past s.world
 
@@ -243,7 +238,7 @@ module _ (units ready : ℕ) (has : 0 < units) (start : List Disk) (past : List 
     since : Awaits (agent_at (over (target_at start before)) place) serial ⊎ SentLast now_then serial → IsOpenThen start (before_sent now_then serial) i
     since (inl (inl e)) = old Main e
     since (inl (inr e)) = old Ahead e
-    since (inr last) = opened_last units ready has start later t.world h_now q_now beside_now naming apart place b which serial i r last
+    since (inr last) = opened_last units ready has start later t.world h_now q_now beside_now taken apart place b which serial i r last
 
     reads_open : IsOpenThen start (before_sent now_then serial) i
     reads_open =

@@ -1,12 +1,37 @@
 -- Whose list is open at each place, behind each turn of a world.
-use Rattle.std.proofs.Common.{arith, ◌≡◌, ◌∙◌, refl, sym, ap, subst, inl, inr, ◌⊎◌, ◌<◌, ◌||◌, not, ℕ, nat_eq, nat_lt, Bool, true, false, cond, List, [], ◌∷◌, ◌++◌, map, length, Option, Some, None, Result, Ok, Err}
+use Rattle.std.proofs.Common.{arith, ◌≡◌, ◌∙◌, refl, sym, ap, subst, inl, inr, ◌⊎◌, ◌<◌, ◌||◌, not, ℕ, nat_eq, nat_lt, is_some, Bool, true, false, cond, List, [], ◌∷◌, ◌++◌, map, length, Option, Some, None, Result, Ok, Err}
 use Rattle.std.specs.Prelude.{slice_index_or}
 use Rattle.std.proofs.lemmas.Bool.Decides.{nat_tests}
+use Rattle.async_packet.specs.Packet.{Packet}
+use Rattle.async_packet.specs.Reading.{reading}
+use Rattle.async_packet.specs.declared.fault.PacketFault.{PacketFault}
+use Rattle.label_table.specs.Layer.{Finding, Layer, expiring_step, judging_step, of_again, of_generation, of_grammar, of_label, of_request, of_response}
+use Rattle.label_table.specs.Requests.{reply_kind}
+use Rattle.label_table.specs.declared.reply.ReplyKind.{ReplyKind}
+use Rattle.sbp_journal.specs.Addresses.{access_of}
+use Rattle.sbp_journal.specs.Wire.{Terms, terms}
+use Rattle.sbp_journal.specs.declared.cause.Cause.TheVariants as ignored
+use Rattle.sbp_laws.specs.Agents.{got_in, initiator_at as term_initiator, list_taken, listed_at, listed_by, write_in}
+use Rattle.sbp_laws.specs.Packets.{access_at, access_in, answered_at, packet_in, receiver_in, spelled_by}
+use Rattle.sbp_laws.specs.Targets.{Target, agent_at, is_serial, over, target_at}
+use Rattle.target_base.specs.Addresses.{address_error, demand_of}
+use Rattle.target_base.specs.declared.address.Access as base
+use Rattle.target_base.specs.declared.address.Demand.{Demand}
+use Rattle.target_base.specs.declared.address.Demand.TheVariants as demands
+use Rattle.sbp_target.specs.Serving.{answered, is_barred, request_step, serve}
+use Rattle.sbp_target.proofs.Histories.Found.{IsFound, found as is_found}
+use Rattle.sbp_world.specs.Agents.Agents.{AreAgentsAt}
+use Rattle.sbp_world.specs.Hosts.Handing.{AreOthers}
+use Rattle.sbp_world.proofs.Agents.CrewFirsts.{access_there, asks_part}
+use Rattle.sbp_world.proofs.Agents.Management.Hearing.{answers_none}
+use Rattle.sbp_world.proofs.Agents.Steps.{alike_law}
+use Rattle.sbp_world.proofs.Hosts.Hands.{hand_law}
+use Rattle.sbp_world.proofs.Lists.SendsLast.{handed_quiet, others_quiet}
+use Rattle.sbp_world.proofs.Lists.TakenTerms.{answer_listed, got_taken, hands_taken, listed_for, refused_listed, response_access, taken_listed, write_listed}
 use Rattle.bus_memory.specs.Windows.{slot_of}
 use Rattle.bus_memory.proofs.Found.{slot_of_law}
 use Rattle.bus_transactions.specs.Wire.{as_sending}
 use Rattle.label_table.specs.declared.reply.Stale.{Stale}
-use Rattle.label_table.specs.Layer.{Layer, expiring_step}
 use Rattle.orb_layout.specs.declared.ask.Ask.{Ask}
 use Rattle.orb_layout.specs.declared.pointer.OrbPointer.{OrbPointer}
 use Rattle.orb_layout.specs.declared.pointer.OrbPointer.TheVariants.{Null, At}
@@ -42,7 +67,7 @@ use Rattle.target_base.specs.declared.address.Access.TheVariants as accesses
 use Rattle.sbp_target.specs.Calls.{alone, sees, ticks}
 use Rattle.sbp_target.specs.declared.purpose.Purpose.{Purpose}
 use Rattle.sbp_target.specs.Nodes.{NodeState, Scene as TargetScene, scene}
-use Rattle.sbp_target.specs.Receiving.{expired, expired_in, received, with_key}
+use Rattle.sbp_target.specs.Receiving.{expired, expired_in, judged_scene, received, received_as, with_key, with_layer}
 use Rattle.sbp_target.specs.Replies.{Whole}
 use Rattle.sbp_target.specs.Telling.{orb_of}
 use Rattle.sbp_world.specs.Delivering.{marked, whole_of}
@@ -69,11 +94,11 @@ use Rattle.sbp_laws.specs.OrderLaw.{is_cut}
 use Rattle.sbp_world.proofs.Lists.Adds.{all_stay}
 use Rattle.sbp_world.proofs.Lists.Extends.{Extends, handed_extends}
 use Rattle.sbp_world.proofs.Lists.OpenCuts.{CutAt, Here, Listing, Open}
-use Rattle.sbp_world.proofs.Lists.OpenDeliveries.{Points, delivery_open, lapse_open}
+use Rattle.sbp_world.proofs.Lists.OpenDeliveries.{Points, delivery_open, lapse_open, takes_point}
 use Rattle.sbp_world.proofs.Lists.Later.{had_later, joined}
 use Rattle.sbp_world.proofs.Lists.OpenHad.{Was, WasElse, WereAt, else_later, same_were, was_on}
 use Rattle.sbp_world.proofs.Lists.OpenManages as manages
-use Rattle.sbp_world.proofs.Lists.OpenOwners.{came_from}
+use Rattle.sbp_world.proofs.Lists.OpenOwners.{came_from, served_initiator}
 use Rattle.sbp_world.proofs.Lists.OpenPlaces.{Has}
 use Rattle.sbp_world.proofs.Lists.OpenTurns.{AreSeated, Before, begins, sound}
 
@@ -82,6 +107,13 @@ no e = cc
 
 abbrev pub AllWere : List Moment → WorldState → Type 0
 AllWere past w = WereAt (hist past w) w
+
+-- the list of a place whose agent is out of RESET is the one named as its pointer was taken
+abbrev pub AllTaken : List Disk → List Moment → WorldState → Type 0
+AllTaken start past w = (p : ℕ) → p < 8 → Listing w.target p → list_taken start (hist past w) p ≡ (holder w p).list
+
+pub same_taken : (start : List Disk) (past : List Moment) (w v : WorldState) → v.places ≡ w.places → ((p : ℕ) → Listing v.target p → Listing w.target p) → ((p : ℕ) → list_taken start (hist past v) p ≡ list_taken start (hist past w) p) → AllTaken start past w → AllTaken start past v
+same_taken start past w v places less same o p b l = same p ∙ (o p b (less p l) ∙ ap (λ ps. (holder_at ps p).list) (sym places))
 
 split_notes : (a b : List Note) (past : List Moment) → map said (a ++ b) ++ past ≡ map said a ++ (map said b ++ past)
 split_notes [] b past = refl
@@ -122,6 +154,19 @@ pub taken : (m : Machine) (pointer : OrbPointer) (ask : Ask) → (point_step m p
 unfolding point_step
 taken m pointer ask e = taken_in (state_in m.phase) m pointer ask e
 
+-- so it reads the ORB that is named
+present_in : (state : AgentState) (m : Machine) (pointer : OrbPointer) (ask : Ask) → (point_in state m pointer).0 ≡ Ok ask → named pointer ≡ Some (point_in state m pointer).1.present
+present_in states.Reset m Null ask e = absurd (not_taken _ ask e)
+present_in states.Reset m (At next) ask e = refl
+present_in states.Suspended m Null ask e = absurd (not_taken _ ask e)
+present_in states.Suspended m (At next) ask e = refl
+present_in states.Active m pointer ask e = absurd (not_taken _ ask e)
+present_in states.Dead m pointer ask e = absurd (not_taken _ ask e)
+
+present_taken : (m : Machine) (pointer : OrbPointer) (ask : Ask) → (point_step m pointer).0 ≡ Ok ask → named pointer ≡ Some (point_step m pointer).1.present
+unfolding point_step
+present_taken m pointer ask e = present_in (state_in m.phase) m pointer ask e
+
 -- ---- the ORB that an address names, by the run
 name_list : (t : Option TicketParts) → bus.list_in t ≡ list_in (name_in t)
 name_list None = refl
@@ -152,6 +197,10 @@ module _ (units logins : ℕ) (has : 0 < units) (start : List Disk) {past : List
 
   handed_on : (u : WorldState) (outbox : OutboxState) → GoesOn (hist past u) (hist past (handed_out 0 0 outbox u))
   handed_on u outbox = hist_on past u (handed_out 0 0 outbox u) (handed_extends 0 0 outbox u)
+
+  -- and it takes no pointer by it
+  handed_taken : (u : WorldState) (outbox : OutboxState) → AreOthers outbox.sides → (p : ℕ) → list_taken start (hist past (handed_out 0 0 outbox u)) p ≡ list_taken start (hist past u) p
+  handed_taken u outbox others p = hands_taken start p past (handed_quiet 0 0 outbox u (others_quiet outbox.sides others))
 
   -- packets that are sent cut no list
   sent_cuts : (u : WorldState) (outbox : OutboxState) (i n : ℕ) → is_cut (hist past (handed_out 0 0 outbox u)) i n ≡ is_cut (hist past (told_all 0 outbox.sides u)) i n
@@ -205,6 +254,12 @@ module _ (units logins : ℕ) (has : 0 < units) (start : List Disk) {past : List
 
     stays_open : AllWere past (handed_out 0 0 outbox u)
     stays_open = record { each = each_open; had = λ i n x. had_open i n (cuts_now i n x) }
+
+    stays_taken : ((p : ℕ) → p < 8 → list_taken start (hist past u) p ≡ list_taken start (hist past w) p) → AreOthers outbox.sides → AllTaken start past w → AllTaken start past (handed_out 0 0 outbox u)
+    stays_taken same others taken p b l =
+        let l' = handed_listing u node outbox e p l in
+        let is = handed_holder u outbox p (holder w p) (o.kept p b l') in
+        handed_taken u outbox others p ∙ (same p b ∙ (taken p b (o.own p b l').why ∙ ap (λ (x : Holder). x.list) (sym is)))
 
   -- ---- a packet that the target gets
   module _ (serial : ℕ) (sent : Sent) (found : found_sent serial w.store.kept ≡ Some sent) (zero_to : sent.to ≡ 0) (run : Option Told) (s : Scene) (again : Bool) where
@@ -342,6 +397,187 @@ module _ (units logins : ℕ) (has : 0 < units) (start : List Disk) {past : List
         by (inl k) = stays_open u x.1.node x.1.outbox marks.target got_on got_cuts k
         by (inr o) = points_open o
 
+    -- ---- the lists as their pointers were taken
+    module _ (agents : AreAgentsAt start (hist past w) w) where
+      abbrev ms : List Moment
+      ms = hist past w
+
+      abbrev wire : Terms
+      wire = terms ms
+
+      abbrev T : Target
+      T = over (target_at start ms)
+
+      was_it : wire.sent serial ≡ Some (as_sending sent)
+      was_it = was_sent w h.sound.stands serial sent found
+
+      to_it : is_serial (receiver_in (wire.sent serial)) 0 ≡ true
+      to_it = ap (λ so. is_serial (receiver_in so) 0) was_it ∙ (let same : nat_eq sent.to 0 ≡ true = grind (arith, nat_tests) in same)
+
+      abbrev Got : ℕ → Option ℕ
+      Got p = list_taken start (said (notes.Got serial) ∷ ms) p
+
+      abbrev Old : ℕ → Option ℕ
+      Old p = list_taken start ms p
+
+      access_is : (k : Packet) → reading sent.bytes ≡ Ok k → access_at wire serial ≡ access_of k
+      access_is k read = ap (λ so. access_in (packet_in so)) was_it ∙ ap (λ (r : Result Packet PacketFault). access_in (spelled_by r)) read
+
+      -- a response takes none
+      response_same : (k : Packet) → reading sent.bytes ≡ Ok k → is_some (reply_kind k) ≡ true → (p : ℕ) → Got p ≡ Old p
+      response_same k read kind p =
+          got_taken start p ms serial to_it ∙ answer_listed ms T wire p (Old p) (answered_at wire serial) serial (access_is k read ∙ response_access k kind)
+
+      -- a request by its demand
+      request_listed : (k : Packet) → reading sent.bytes ≡ Ok k → reply_kind k ≡ None → (p : ℕ) → Got p ≡ listed_for ms T wire p (Old p) (demand_of (length w.target.rom) k)
+      request_listed k read none p =
+          let part = asks_part units logins has start w h serial again sent found zero_to k read none in
+          let there = access_there k none in
+          got_taken start p ms serial to_it
+          ∙ (ap (λ own. listed_at (got_in own T wire serial) ms T wire p (Old p)) (answers_none wire serial (as_sending sent) part.label part.kind was_it part.part)
+          ∙ (ap (λ a. listed_at (write_in a) ms T wire p (Old p)) (access_is k read ∙ there.is)
+          ∙ write_listed ms T wire p (Old p) (length w.target.rom) k there.access h.rom there.is))
+
+      -- the agents of the terms take a pointer where those of the target do
+      abbrev mine : ℕ → Machine
+      mine p = (agent_at T p).machine
+
+      steps_alike : (p : ℕ) → p < 8 → (pointer : OrbPointer) → (point_step (mine p) pointer).0 ≡ (point_step (Here w.target p) pointer).0
+      steps_alike p b pointer = (alike_law.pointers (agent_at T p).untold (mine p) (Here w.target p) pointer (agents.are.each p b).machine).0
+
+      -- a write of ORB_POINTER that is taken, or a packet that takes none
+      record Pointing : Type 0 where
+        packet : Packet
+        is_found : (judging_step w.target.layer sent.generation sent.bytes).0 ≡ of_request packet
+        bar : is_barred w.target packet ≡ false
+        place : ℕ
+        pointer : OrbPointer
+        asks : demand_of (length w.target.rom) packet ≡ demands.Agent place (accesses.Point pointer)
+        ask : Ask
+        took : (point_step (Here w.target place) pointer).0 ≡ Ok ask
+
+      abbrev Same : Judged → Type 0
+      Same judged = (p : ℕ) → p < 8 → list_taken start (said (judged_note serial judged) ∷ ms) p ≡ Old p
+
+      abbrev Noted : Judged → Type 0
+      Noted judged = Pointing ⊎ Same judged
+
+      module _ (k : Packet) (f : (judging_step w.target.layer sent.generation sent.bytes).0 ≡ of_request k) (read : reading sent.bytes ≡ Ok k) (none : reply_kind k ≡ None) where
+        -- a pointer that it refuses
+        refused_at : (place : ℕ) (pointer : OrbPointer) (refusal : PointRefusal) → (point_step (Here w.target place) pointer).0 ≡ Err refusal → (p : ℕ) → p < 8 → (b : Bool) → nat_eq place p ≡ b → cond b (listed_by (point_step (mine p) pointer) ms (term_initiator T wire p) (Old p)) (Old p) ≡ Old p
+        refused_at place pointer refusal e p c true same =
+            let q : place ≡ p = grind (arith, nat_tests) in
+            refused_listed ms (term_initiator T wire p) (Old p) (point_step (mine p) pointer) refusal (steps_alike p c pointer ∙ subst (λ j. (point_step (Here w.target j) pointer).0 ≡ Err refusal) q e)
+        refused_at place pointer refusal e p c false same = refl
+
+        point_noted : (place : ℕ) (pointer : OrbPointer) → is_barred w.target k ≡ false → demand_of (length w.target.rom) k ≡ demands.Agent place (accesses.Point pointer) → (r : Result Ask PointRefusal) → (point_step (Here w.target place) pointer).0 ≡ r → Noted judgements.Got
+        point_noted place pointer bar d (Ok ask) e = inl (record { packet = k; is_found = f; bar = bar; place = place; pointer = pointer; asks = d; ask = ask; took = e })
+        point_noted place pointer bar d (Err refusal) e =
+            inr (λ p c. request_listed k read none p ∙ (ap (listed_for ms T wire p (Old p)) d ∙ refused_at place pointer refusal e p c (nat_eq place p) refl))
+
+        other_noted : (demand : Demand) → demand_of (length w.target.rom) k ≡ demand → ((p : ℕ) → listed_for ms T wire p (Old p) demand ≡ Old p) → Noted judgements.Got
+        other_noted demand d same = inr (λ p c. request_listed k read none p ∙ (ap (listed_for ms T wire p (Old p)) d ∙ same p))
+
+        access_noted : (place : ℕ) (access : base.Access) → is_barred w.target k ≡ false → demand_of (length w.target.rom) k ≡ demands.Agent place access → Noted judgements.Got
+        access_noted place (accesses.Point pointer) bar d = point_noted place pointer bar d (point_step (Here w.target place) pointer).0 refl
+        access_noted place accesses.State bar d = other_noted (demands.Agent place accesses.State) d (λ p. refl)
+        access_noted place accesses.Reset bar d = other_noted (demands.Agent place accesses.Reset) d (λ p. refl)
+        access_noted place accesses.Pointer bar d = other_noted (demands.Agent place accesses.Pointer) d (λ p. refl)
+        access_noted place accesses.Ring bar d = other_noted (demands.Agent place accesses.Ring) d (λ p. refl)
+        access_noted place accesses.Enable bar d = other_noted (demands.Agent place accesses.Enable) d (λ p. refl)
+
+        demand_noted : (demand : Demand) → is_barred w.target k ≡ false → demand_of (length w.target.rom) k ≡ demand → Noted judgements.Got
+        demand_noted (demands.Refused rcode) bar d = other_noted (demands.Refused rcode) d (λ p. refl)
+        demand_noted (demands.Rom at len) bar d = other_noted (demands.Rom at len) d (λ p. refl)
+        demand_noted (demands.Manage orb) bar d = other_noted (demands.Manage orb) d (λ p. refl)
+        demand_noted (demands.Agent place access) bar d = access_noted place access bar d
+
+        bar_noted : (b : Bool) (other served : TargetScene) (all : Whole) → is_barred w.target k ≡ b → Noted (judged_scene (cond b (judgements.Ignored ignored.Login, other) (judgements.Got, served)) all).0
+        bar_noted true other served all e = inr (λ p c. refl)
+        bar_noted false other served all e = demand_noted (demand_of (length w.target.rom) k) e refl
+
+      no_kind : (kind : Option ReplyKind) → is_some kind ≡ false → kind ≡ None
+      no_kind None e = refl
+      no_kind (Some kind) e = absurd (no (sym e))
+
+      found_noted : (f : Finding Purpose) (now : Layer Purpose) → (judging_step w.target.layer sent.generation sent.bytes).0 ≡ f → IsFound f w.target.layer now sent.bytes → Noted (received_as run sent.bytes f (with_layer now (whole_of w.target s.media))).0
+      unfolding request_step is_barred
+      found_noted of_generation now e is = inr (λ p c. refl)
+      found_noted of_grammar now e is = inr (λ p c. refl)
+      found_noted of_label now e is = inr (λ p c. refl)
+      found_noted (of_again k rcode) now e is = inr (λ p c. refl)
+      found_noted (of_response k label purpose) now e is = inr (λ p c. response_same k is.read is.kind p)
+      found_noted (of_request k) now e is =
+          let first = scene (record w.target { layer = now }) empty_outbox in
+          bar_noted k e is.1.read (no_kind (reply_kind k) is.1.kind) (is_barred w.target k) (answered k sent.bytes address_error [] first) (serve k sent.bytes first) (with_layer now (whole_of w.target s.media)) refl
+
+      noted : Noted x.0
+      unfolding received
+      noted = let j = judging_step w.target.layer sent.generation sent.bytes in found_noted j.0 j.1 refl (is_found w.target.layer sent.generation sent.bytes)
+
+      -- one that points
+      module _ (o : Points w g seats u marks.places sent run s.media x.0 (scene x.1.node x.1.outbox)) (others : AreOthers x.1.outbox.sides) (taken_before : AllTaken start past w) where
+        abbrev spot : ℕ
+        spot = o.place
+
+        abbrev its_orb : ℕ
+        its_orb = orb_of (point_step (Here w.target spot) o.pointer).1
+
+        abbrev pointed : Holder
+        pointed = record (holder w spot) { list = bus.list_in (ticket_at u spot its_orb) }
+
+        read_there : IsFound (of_request o.packet) w.target.layer (judging_step w.target.layer sent.generation sent.bytes).1 sent.bytes
+        read_there = subst (λ (f : Finding Purpose). IsFound f w.target.layer (judging_step w.target.layer sent.generation sent.bytes).1 sent.bytes) o.found (is_found w.target.layer sent.generation sent.bytes)
+
+        name_there : named o.pointer ≡ Some (point_step (mine spot) o.pointer).1.present
+        name_there = present_taken (mine spot) o.pointer o.ask (steps_alike spot o.small o.pointer ∙ o.took)
+
+        same_orb : (point_step (mine spot) o.pointer).1.present ≡ its_orb
+        same_orb = let both : Some (point_step (mine spot) o.pointer).1.present ≡ Some its_orb = sym name_there ∙ (taken (Here w.target spot) o.pointer o.ask o.took).at in cc
+
+        who_is : term_initiator T wire spot ≡ (holder w spot).initiator
+        who_is = served_initiator units logins start w h held o.served
+
+        inside_is : (holder w spot).initiator < length w.initiators
+        inside_is = (came_from units logins start w h held serial sent found o.packet spot (accesses.Point o.pointer) o.found o.bar o.asks).inside
+
+        list_there : listed_by (point_step (mine spot) o.pointer) ms (term_initiator T wire spot) (Old spot) ≡ pointed.list
+        list_there =
+            taken_listed ms (term_initiator T wire spot) (Old spot) (point_step (mine spot) o.pointer) o.ask (steps_alike spot o.small o.pointer ∙ o.took)
+            ∙ (ap (λ a. list_in (named_in ms (term_initiator T wire spot) (slot_of a))) same_orb
+            ∙ (ap (λ i. list_in (named_in ms i (slot_of its_orb))) who_is ∙ sym (opened_list o inside_is)))
+
+        got_there : (p : ℕ) → Got p ≡ cond (nat_eq spot p) (listed_by (point_step (mine p) o.pointer) ms (term_initiator T wire p) (Old p)) (Old p)
+        got_there p = request_listed o.packet read_there.1.read (no_kind (reply_kind o.packet) read_there.1.kind) p ∙ ap (listed_for ms T wire p (Old p)) o.asks
+
+        at_place : (p : ℕ) → p < 8 → (b c : Bool) → nat_eq spot p ≡ b → nat_eq p spot ≡ c → Listing w.target p ⊎ (p ≡ spot) → cond b (listed_by (point_step (mine p) o.pointer) ms (term_initiator T wire p) (Old p)) (Old p) ≡ (cond c pointed (holder w p)).list
+        at_place p small true true e f why =
+            let same : spot ≡ p = grind (arith, nat_tests) in
+            subst (λ j. listed_by (point_step (mine j) o.pointer) ms (term_initiator T wire j) (Old j) ≡ pointed.list) same list_there
+        at_place p small false false e f (inl up) = taken_before p small up
+        at_place p small false false e f (inr same) = absurd (no (sym f ∙ (let z : nat_eq p spot ≡ true = grind (arith, nat_tests) in z)))
+        at_place p small true false e f why = absurd (no (sym f ∙ (let z : nat_eq p spot ≡ true = grind (arith, nat_tests) in z)))
+        at_place p small false true e f why = absurd (no (sym e ∙ (let z : nat_eq spot p ≡ true = grind (arith, nat_tests) in z)))
+
+        points_taken : AllTaken start past (handed_out 0 0 x.1.outbox u)
+        points_taken p b l =
+            let l' = handed_listing u x.1.node x.1.outbox marks.target p l in
+            let is = handed_holder u x.1.outbox p (cond (nat_eq p spot) pointed (holder w p)) (o.after.0.kept p b l') in
+            handed_taken u x.1.outbox others p
+            ∙ (ap (λ (z : List Moment). list_taken start z p) (ap (λ ns. map said ns ++ past) marks.fresh ∙ ap (λ (j : Judged). said (judged_note serial j) ∷ ms) o.got)
+            ∙ (got_there p ∙ (at_place p b (nat_eq spot p) (nat_eq p spot) refl refl (o.after.0.own p b l').why ∙ ap (λ (z : Holder). z.list) (sym is))))
+
+      pub delivery_taken : AreOthers x.1.outbox.sides → AllTaken start past w → AllTaken start past (handed_out 0 0 x.1.outbox u)
+      delivery_taken others before = by noted
+        where
+          open_by : ((p : ℕ) → p < 8 → list_taken start (said (judged_note serial x.0) ∷ ms) p ≡ Old p) → Open u (holder w) (Before w g seats) w.target.logins.places (sound w g seats) (scene x.1.node x.1.outbox) ⊎ Points w g seats u marks.places sent run s.media x.0 (scene x.1.node x.1.outbox) → AllTaken start past (handed_out 0 0 x.1.outbox u)
+          open_by same (inl k) = stays_taken u x.1.node x.1.outbox marks.target got_on got_cuts k (λ p c. ap (λ ns. list_taken start (map said ns ++ past) p) marks.fresh ∙ same p c) others before
+          open_by same (inr o) = points_taken o others before
+
+          by : Noted x.0 → AllTaken start past (handed_out 0 0 x.1.outbox u)
+          by (inl k) = points_taken (takes_point w g seats u marks.places sent run s.media k.packet k.place k.pointer k.ask k.is_found k.bar k.asks k.took) others before
+          by (inr same) = open_by same (delivery_open w g seats u marks.places sent run s.media)
+
   -- ---- a time-out
   module _ (line serial : ℕ) (request : Request) (zero_node : request.node ≡ 0) where
     abbrev Left : Result (Unit {0}) Stale × TargetScene → WorldState
@@ -359,6 +595,21 @@ module _ (units logins : ℕ) (has : 0 < units) (start : List Disk) {past : List
     unfolding expired
     lapse_were = lapse_by (expiring_step w.target.layer request.peer request.label)
 
+    lapse_taken_by : (y : Result (Option Purpose) Stale × Layer Purpose) → AreOthers (expired_in y request.peer request.label (scene w.target empty_outbox)).1.outbox.sides → AllTaken start past w → AllTaken start past (Left (expired_in y request.peer request.label (scene w.target empty_outbox)))
+    lapse_taken_by (Ok purpose, layer) others before =
+        let t = (expired_in (Ok purpose, layer) request.peer request.label (scene w.target empty_outbox)).1 in
+        let u = with_note (notes.TimedOut serial) (with_target t.node w) in
+        subst (λ n. AllTaken start past (handed_out n 0 t.outbox u)) (sym zero_node)
+        (stays_taken u t.node t.outbox refl (record { more = said (notes.TimedOut serial) ∷ []; is = refl }) (λ i n. refl) (lapse_open w g seats u refl layer request.peer request.label purpose) (λ p b. refl) others before)
+    lapse_taken_by (Err stale, layer) others before = λ p b l. before p b l
+
+    lapse_taken_for : AreOthers (expired request.peer request.label (scene w.target empty_outbox)).1.outbox.sides → AllTaken start past w → AllTaken start past (Left (expired request.peer request.label (scene w.target empty_outbox)))
+    unfolding expired
+    lapse_taken_for others before = lapse_taken_by (expiring_step w.target.layer request.peer request.label) others before
+
+    pub lapse_taken : AllTaken start past w → AllTaken start past (Left (expired request.peer request.label (scene w.target empty_outbox)))
+    lapse_taken before = lapse_taken_for (hand_law.expires request.peer request.label w.target) before
+
   -- ---- a generation that it sees, a second, a key
   pub sight_were : AllWere past (see_line 0 w)
   unfolding see_line nodes.sees target_sees
@@ -368,6 +619,15 @@ module _ (units logins : ℕ) (has : 0 < units) (start : List Disk) {past : List
       stays_open u t.node t.outbox refl (record { more = said (notes.Seen 0 w.generations.latest.generation) ∷ []; is = refl }) (λ i n. refl)
       (manages.sees u (holder w) (Before w g seats) w.target.logins (sound w g seats) w.generations.latest.generation (id_of w.generations.latest 0) (scene w.target empty_outbox) (begins w g seats u refl w.target.layer))
 
+  pub sight_taken : AllTaken start past w → AllTaken start past (see_line 0 w)
+  unfolding see_line nodes.sees target_sees
+  sight_taken before =
+      let t = alone (sees w.generations.latest.generation (id_of w.generations.latest 0)) w.target in
+      let u = with_target t.node (with_seen 0 (told_seen 0 w)) in
+      stays_taken u t.node t.outbox refl (record { more = said (notes.Seen 0 w.generations.latest.generation) ∷ []; is = refl }) (λ i n. refl)
+      (manages.sees u (holder w) (Before w g seats) w.target.logins (sound w g seats) w.generations.latest.generation (id_of w.generations.latest 0) (scene w.target empty_outbox) (begins w g seats u refl w.target.layer))
+      (λ p b. refl) (hand_law.sees w.generations.latest.generation (id_of w.generations.latest 0) w.target) before
+
   pub tick_were : AllWere past (tick_line w)
   unfolding tick_line target_ticks
   tick_were =
@@ -376,6 +636,15 @@ module _ (units logins : ℕ) (has : 0 < units) (start : List Disk) {past : List
       stays_open u t.node t.outbox refl (record { more = said notes.Tick ∷ []; is = refl }) (λ i n. refl)
       (manages.ticks u (holder w) (Before w g seats) w.target.logins (sound w g seats) (scene w.target empty_outbox) refl (begins w g seats u refl w.target.layer))
 
+  pub tick_taken : AllTaken start past w → AllTaken start past (tick_line w)
+  unfolding tick_line target_ticks
+  tick_taken before =
+      let t = alone ticks w.target in
+      let u = with_target t.node (with_note notes.Tick w) in
+      stays_taken u t.node t.outbox refl (record { more = said notes.Tick ∷ []; is = refl }) (λ i n. refl)
+      (manages.ticks u (holder w) (Before w g seats) w.target.logins (sound w g seats) (scene w.target empty_outbox) refl (begins w g seats u refl w.target.layer))
+      (λ p b. refl) (hand_law.ticks w.target) before
+
   pub key_were : (line unit : ℕ) (key : List ℕ) → AllWere past (keyed line unit key w)
   unfolding keyed
   key_were line unit key = by (nat_lt unit (length w.target.units))
@@ -383,3 +652,11 @@ module _ (units logins : ℕ) (has : 0 < units) (start : List Disk) {past : List
       by : (b : Bool) → AllWere past (cond b (with_note (notes.Key unit) (with_target (with_key unit key w.target) w)) (refused line no_unit w))
       by true = same_were (said (notes.Key unit) ∷ []) (hist past w) _ w (with_note (notes.Key unit) (with_target (with_key unit key w.target) w)) refl (λ i n. refl) refl (λ p l. l) were
       by false = same_were (said (notes.Refused line no_unit) ∷ []) (hist past w) _ w (refused line no_unit w) refl (λ i n. refl) refl (λ p l. l) were
+
+  pub key_taken : (line unit : ℕ) (key : List ℕ) → AllTaken start past w → AllTaken start past (keyed line unit key w)
+  unfolding keyed
+  key_taken line unit key before = by (nat_lt unit (length w.target.units))
+    where
+      by : (b : Bool) → AllTaken start past (cond b (with_note (notes.Key unit) (with_target (with_key unit key w.target) w)) (refused line no_unit w))
+      by true = same_taken start past w (with_note (notes.Key unit) (with_target (with_key unit key w.target) w)) refl (λ p l. l) (λ p. refl) before
+      by false = same_taken start past w (refused line no_unit w) refl (λ p l. l) (λ p. refl) before

@@ -103,6 +103,27 @@ pub data Shaped (old new : List Note) : Type 0 where
   goes : Hands old new → Shaped old new
   begins : (note : Note) → IsStart note → Hands (note ∷ old) new → Shaped old new
 
+-- and where no packet is delivered
+abbrev pub IsUnheard : Note → Type 0
+IsUnheard (notes.TimedOut serial) = Unit {0}
+IsUnheard (notes.Seen node generation) = Unit {0}
+IsUnheard notes.Tick = Unit {0}
+IsUnheard note = ⊥
+
+pub data Led (old new : List Note) : Type 0 where
+  passes : Hands old new → Led old new
+  opens : (note : Note) → IsUnheard note → Hands (note ∷ old) new → Led old new
+
+unheard_starts : (note : Note) → IsUnheard note → IsStart note
+unheard_starts (notes.TimedOut serial) q = tt
+unheard_starts (notes.Seen node generation) q = tt
+unheard_starts notes.Tick q = tt
+unheard_starts note q = absurd q
+
+pub led : {old new : List Note} → Led old new → Shaped old new
+led (passes h) = goes h
+led (opens note q h) = begins note (unheard_starts note q) h
+
 joined : (a b c : List Note) → (a ++ b) ++ c ≡ a ++ (b ++ c)
 joined [] b c = refl
 joined (m ∷ a) b c = ap (λ ns. m ∷ ns) (joined a b c)
@@ -133,11 +154,8 @@ sends_then one two three a b = record { more = b.more ++ a.more; is = joined b.m
 hands_none : (ns : List Note) → Hands ns ns
 hands_none ns = record { middle = ns; told = quiet_none ns; sent = no_sends ns }
 
-told_one : (note : Note) (ns : List Note) → IsEffect note → Shaped ns (note ∷ ns)
-told_one note ns q = goes (record { middle = note ∷ ns; told = quiet_one note ns q; sent = no_sends (note ∷ ns) })
-
-first_one : (note : Note) (ns : List Note) → IsStart note → Shaped ns (note ∷ ns)
-first_one note ns q = begins note q (hands_none (note ∷ ns))
+told_one : (note : Note) (ns : List Note) → IsEffect note → Led ns (note ∷ ns)
+told_one note ns q = passes (record { middle = note ∷ ns; told = quiet_one note ns q; sent = no_sends (note ∷ ns) })
 
 -- ---- packets
 asked_sends : (serial to node peer : ℕ) (label : Option LabelParts) (old : List Note) (w : WorldState) → Sends old w.fresh → Sends old (asked serial to node peer label w).fresh
@@ -148,10 +166,10 @@ posted_sends : (from to : ℕ) (bytes : List ℕ) (w : WorldState) → Sends w.f
 unfolding posted
 posted_sends from to bytes w = record { more = notes.Sent _ _ from to bytes ∷ []; is = refl; sends = (tt, tt) }
 
-posted_shaped : (from to : ℕ) (bytes : List ℕ) (w : WorldState) → Shaped w.fresh (posted from to true bytes w).fresh
+posted_shaped : (from to : ℕ) (bytes : List ℕ) (w : WorldState) → Led w.fresh (posted from to true bytes w).fresh
 unfolding posted
 posted_shaped from to bytes w =
-    goes (record { middle = notes.Injected _ ∷ w.fresh; told = quiet_one (notes.Injected _) w.fresh tt; sent = record { more = notes.Sent _ _ from to bytes ∷ []; is = refl; sends = (tt, tt) } })
+    passes (record { middle = notes.Injected _ ∷ w.fresh; told = quiet_one (notes.Injected _) w.fresh tt; sent = record { more = notes.Sent _ _ from to bytes ∷ []; is = refl; sends = (tt, tt) } })
 
 to_sends : (to : Option ℕ) (from : ℕ) (packet : Outgoing) (w : WorldState) → Sends w.fresh (sent_to to from packet w).fresh
 to_sends None from packet w = no_sends w.fresh
@@ -164,11 +182,11 @@ all_sent from (packet ∷ later) w =
     let v = sent from packet w in sends_then w.fresh v.fresh (sent_all from later v).fresh (to_sends (node_of w.generations from packet.to) from packet w) (all_sent from later v)
 
 -- ---- what is told
-abbrev IsQuietSide : Side → Type 0
+abbrev pub IsQuietSide : Side → Type 0
 IsQuietSide (sides.Own note) = IsEffect note
 IsQuietSide side = Unit {0}
 
-abbrev AreQuiet : List Side → Type 0
+abbrev pub AreQuiet : List Side → Type 0
 AreQuiet [] = Unit {0}
 AreQuiet (side ∷ later) = IsQuietSide side × AreQuiet later
 
@@ -196,7 +214,7 @@ all_told weight [] w q = quiet_none w.fresh
 all_told weight (side ∷ later) w q =
     let v = told weight side w in quiet_then w.fresh v.fresh (told_all weight later v).fresh (one_told weight side w q.0) (all_told weight later v q.1)
 
-handed_quiet : (node weight : ℕ) (outbox : OutboxState) (w : WorldState) → AreQuiet outbox.sides → Hands w.fresh (handed_out node weight outbox w).fresh
+pub handed_quiet : (node weight : ℕ) (outbox : OutboxState) (w : WorldState) → AreQuiet outbox.sides → Hands w.fresh (handed_out node weight outbox w).fresh
 handed_quiet node weight outbox w q =
     let v = told_all weight outbox.sides w in record { middle = v.fresh; told = all_told weight outbox.sides w q; sent = all_sent node outbox.packets v }
 
@@ -218,7 +236,7 @@ other_quiet (sides.Cleared unit) o = tt
 other_quiet (sides.Unsolicited place) o = tt
 other_quiet (sides.Unsent place) o = tt
 
-others_quiet : (side : List Side) → AreOthers side → AreQuiet side
+pub others_quiet : (side : List Side) → AreOthers side → AreQuiet side
 others_quiet [] o = tt
 others_quiet (one ∷ later) o = (other_quiet one o.0, others_quiet later o.1)
 
@@ -256,6 +274,11 @@ pub data Hears (old new : List Note) : Type 0 where
   unheard : new ≡ old → Hears old new
   hears : (serial : ℕ) (judged : Judged) → Hands (judged_note serial judged ∷ old) new → Hears old new
 
+-- a packet with this serial
+pub record HearsIt (serial : ℕ) (old new : List Note) : Type 0 where
+  pub judged : Judged
+  pub hands : Hands (judged_note serial judged ∷ old) new
+
 module _ (s : Scene) (serial : ℕ) (again : Bool) (run : Option Told) where
   abbrev w : WorldState
   w = s.world
@@ -266,11 +289,11 @@ module _ (s : Scene) (serial : ℕ) (again : Bool) (run : Option Told) where
   abbrev C : Type 0
   C = Hears w.fresh after_it.fresh
 
-  behind_judged : (node : ℕ) (judged : Judged) (outbox : OutboxState) (v : WorldState) → v.fresh ≡ w.fresh → AreQuiet outbox.sides → Hears w.fresh (handed_out node 0 outbox (with_note (judged_note serial judged) (marked serial again v))).fresh
+  behind_judged : (node : ℕ) (judged : Judged) (outbox : OutboxState) (v : WorldState) → v.fresh ≡ w.fresh → AreQuiet outbox.sides → Hands (judged_note serial judged ∷ w.fresh) (handed_out node 0 outbox (with_note (judged_note serial judged) (marked serial again v))).fresh
   behind_judged node judged outbox v e q =
       let note = judged_note serial judged in
       let u = with_note note (marked serial again v) in
-      hears serial judged (subst (λ ns. Hands (note ∷ ns) (handed_out node 0 outbox u).fresh) (marked_fresh serial again v ∙ e) (handed_quiet node 0 outbox u q))
+      subst (λ ns. Hands (note ∷ ns) (handed_out node 0 outbox u).fresh) (marked_fresh serial again v ∙ e) (handed_quiet node 0 outbox u q)
 
   module _ (one : Sent) (found : found_sent serial w.store.kept ≡ Some one) where
     target_comes : one.to ≡ 0 → AreOthers (target_received run one w.target s.media).1.0.sides → C
@@ -280,17 +303,23 @@ module _ (s : Scene) (serial : ℕ) (again : Bool) (run : Option Told) where
         let last_is : after_it ≡ handed_out one.to 0 x.1.0 (with_note (judged_note serial x.0) (marked serial again (with_target x.1.1.0 w))) =
         ap (λ (y : Option Arrival × (OutboxState × Scene)). (delivered_by serial again y).world)
         (received_is run serial s one found ∙ ap (λ b. cond b (at_target one.to (target_received run one w.target s.media) s) (initiator_received one s)) (to_zero one.to zero_to)) in
-        subst (λ (v : WorldState). Hears w.fresh v.fresh) (sym last_is) (behind_judged one.to x.0 x.1.0 (with_target x.1.1.0 w) refl (others_quiet x.1.0.sides others))
+        subst (λ (v : WorldState). Hears w.fresh v.fresh) (sym last_is) (hears serial x.0 (behind_judged one.to x.0 x.1.0 (with_target x.1.1.0 w) refl (others_quiet x.1.0.sides others)))
 
-    own_comes : (i : ℕ) → one.to ≡ suc i → i < length w.initiators → C
+    pub own_hears : (i : ℕ) → one.to ≡ suc i → i < length w.initiators → HearsIt serial w.fresh after_it.fresh
     unfolding delivered initiators_received arrived
-    own_comes i to_is inside =
+    own_hears i to_is inside =
         let old = slice_index_or w.initiators i (new_state 0 false) in
         let x = receive_step one.generation one.bytes empty_outbox old in
         let v = with_initiators (slice_set w.initiators i x.1.1) w in
         let last_is : after_it ≡ handed_out one.to 0 x.1.0 (with_note (judged_note serial x.0) (marked serial again v)) =
         ap (λ (y : Option Arrival × (OutboxState × Scene)). (delivered_by serial again y).world) (to_own run serial i s one found to_is ∙ own_inside one i s inside) in
-        subst (λ (u : WorldState). Hears w.fresh u.fresh) (sym last_is) (behind_judged one.to x.0 x.1.0 v refl (own_quiet x.1.0.sides (own.receives one.generation one.bytes empty_outbox old tt)))
+        record {
+          judged = x.0;
+          hands = subst (λ (u : WorldState). Hands (judged_note serial x.0 ∷ w.fresh) u.fresh) (sym last_is) (behind_judged one.to x.0 x.1.0 v refl (own_quiet x.1.0.sides (own.receives one.generation one.bytes empty_outbox old tt)));
+        }
+
+    own_comes : (i : ℕ) → one.to ≡ suc i → i < length w.initiators → C
+    own_comes i to_is inside = let h = own_hears i to_is inside in hears serial h.judged h.hands
 
     none_comes : (i : ℕ) → one.to ≡ suc i → length w.initiators ≤ i → C
     unfolding delivered
@@ -325,16 +354,16 @@ heard_shaped old new (hears serial judged h) = begins (judged_note serial judged
 -- ---- the other lines
 module _ (w : WorldState) where
   abbrev Q : WorldState → Type 0
-  Q v = Shaped w.fresh v.fresh
+  Q v = Led w.fresh v.fresh
 
-  refuses : (line number : ℕ) → Q (refused line number w)
+  pub refuses : (line number : ℕ) → Q (refused line number w)
   refuses line number = told_one (notes.Refused line number) w.fresh tt
 
   -- an initiator acts
   module _ (line i : ℕ) (action : Action) where
     acts_by : (x : Option ℕ × Turn) → AreOwn x.1.0.sides → Q (acted_by x line i action w)
     acts_by (Some number, (outbox, state)) h = told_one (notes.Refused line number) w.fresh tt
-    acts_by (None, (outbox, state)) h = goes (handed_quiet (i + 1) (weight_in action) outbox (with_initiator i state w) (own_quiet outbox.sides h))
+    acts_by (None, (outbox, state)) h = passes (handed_quiet (i + 1) (weight_in action) outbox (with_initiator i state w) (own_quiet outbox.sides h))
 
     pub acts : Q (acted line i action w)
     unfolding acted
@@ -351,10 +380,10 @@ module _ (w : WorldState) where
       let g = w.generations.latest in
       let x = target_sees g.generation (id_of g 0) w.target in
       let one = with_seen 0 (told_seen 0 w) in
-      begins (notes.Seen 0 g.generation) tt
+      opens (notes.Seen 0 g.generation) tt
       (handed_quiet 0 0 x.0 (with_target x.1 one) (others_quiet x.0.sides (hand_law.sees g.generation (id_of g 0) w.target)))
 
-  own_sight : (i : ℕ) → Q (see_line (suc i) w)
+  pub own_sight : (i : ℕ) → Q (see_line (suc i) w)
   unfolding see_line nodes.sees
   own_sight i =
       let g = w.generations.latest in
@@ -363,7 +392,7 @@ module _ (w : WorldState) where
       let two = with_initiator (suc i - 1) t.1 one in
       let other : (suc i == 0) ≡ false = grind (arith, nat_tests) in
       subst (λ b. Q (handed_all (suc i) (cond b (target_learns one) (initiator_learns (suc i) one)))) (sym other)
-      (begins (notes.Seen (suc i) g.generation) tt
+      (opens (notes.Seen (suc i) g.generation) tt
       (handed_quiet (suc i) 0 t.0 two (own_quiet t.0.sides (own.sees g.generation (id_of g (suc i)) (id_of g 0) empty_outbox (initiator_at w (suc i - 1)) tt))))
 
   pub sights : (node : ℕ) → Q (see_line node w)
@@ -392,16 +421,16 @@ module _ (w : WorldState) where
     target_lapse : (y : Result (Unit {0}) Stale × target.Scene) → AreOthers y.1.outbox.sides → Q (timed_out line serial request.node (packets.at_target (target_left y w.target) w))
     target_lapse (Ok done, t) o =
         let u = with_note (notes.TimedOut serial) (with_target t.node w) in
-        begins (notes.TimedOut serial) tt (handed_quiet request.node 0 t.outbox u (others_quiet t.outbox.sides o))
+        opens (notes.TimedOut serial) tt (handed_quiet request.node 0 t.outbox u (others_quiet t.outbox.sides o))
     target_lapse (Err stale, t) o = refuses line no_packet
 
     own_lapse : (i : ℕ) (x : Bool × Turn) → AreOwn x.1.0.sides → Q (timed_out line serial request.node (packets.at_initiator i x w))
     own_lapse i (true, (outbox, state)) h =
         let u = with_note (notes.TimedOut serial) (with_initiator i state w) in
-        begins (notes.TimedOut serial) tt (handed_quiet request.node 0 outbox u (own_quiet outbox.sides h))
+        opens (notes.TimedOut serial) tt (handed_quiet request.node 0 outbox u (own_quiet outbox.sides h))
     own_lapse i (false, (outbox, state)) h = refuses line no_packet
 
-    own_lapses : Q (timed_out line serial request.node (initiator_expires request w))
+    pub own_lapses : Q (timed_out line serial request.node (initiator_expires request w))
     own_lapses = by (nat_lt (request.node - 1) (length w.initiators))
       where
         old : InitiatorState
@@ -433,7 +462,7 @@ module _ (w : WorldState) where
   ticks =
       let x = target_ticks w.target in
       let u = with_target x.1 (with_note notes.Tick w) in
-      begins notes.Tick tt (handed_quiet 0 0 x.0 u (others_quiet x.0.sides (hand_law.ticks w.target)))
+      opens notes.Tick tt (handed_quiet 0 0 x.0 u (others_quiet x.0.sides (hand_law.ticks w.target)))
 
   pub keys : (line unit : ℕ) (key : List ℕ) → Q (keyed line unit key w)
   unfolding keyed
@@ -449,4 +478,4 @@ module _ (s : Scene) (line serial : ℕ) (again : Bool) where
   one_comes true [] m = absurd m
   one_comes true (one ∷ []) m = heard_shaped s.world.fresh (delivered serial again one s).world.fresh (delivery_hears s serial again one m)
   one_comes true (one ∷ other ∷ more) m = absurd m
-  one_comes false run m = told_one (notes.Refused line no_packet) s.world.fresh tt
+  one_comes false run m = led (told_one (notes.Refused line no_packet) s.world.fresh tt)

@@ -15,9 +15,8 @@ use Rattle.sbp_journal.specs.Transactions.{Part, no_packet, part_of, request, re
 use Rattle.sbp_journal.specs.Wire.{Terms, terms}
 use Rattle.sbp_journal.specs.declared.note.Note.{Note}
 use Rattle.sbp_journal.specs.declared.note.Note.TheVariants as notes
-use Rattle.sbp_laws.specs.Agents.{initiator_at, initiator_from, initiator_with, list_of, node_in}
+use Rattle.sbp_laws.specs.Agents.{initiator_at, initiator_from, initiator_with, list_taken, node_in}
 use Rattle.sbp_laws.specs.CarriedBytes.{open_among}
-use Rattle.sbp_laws.specs.Lists.{named_in, prepared_in}
 use Rattle.sbp_laws.specs.Packets.{access_in_bytes, id_for}
 use Rattle.sbp_laws.specs.Targets.{Agent, Reply, Target, agent_at, agent_over, closed, is_nothing, is_write_access, main_lost, moved, over, plain_for, reply_of, sends_of, sent_as, sent_for, taken_on, target_at, wants, wants_it}
 use Rattle.sbp_laws.specs.Terms.{lists}
@@ -152,16 +151,7 @@ same_initiator t u a b s table p =
     ap (λ (x : Table). initiator_with u (node_in (place_at x.places p))) table
     ∙ from_same 4 0 t u (node_in (place_at a.table.places p)) (λ k. ap (λ (f : ℕ → ℕ). u.ids (f 0) k) s.generation ∙ ap (λ (f : ℕ → ℕ → ℕ). f (t.generation 0) k) s.ids)
 
--- what an initiator prepared, and how many lists it began
-pub sends_named : (ns : List Note) (past : List Moment) (i : ℕ) (so : Option ℕ) → AllSends ns → named_in (map said ns ++ past) i so ≡ named_in past i so
-sends_named ns past i None q = refl
-sends_named ns past i (Some slot) q = by ns q
-  where
-    by : (xs : List Note) → AllSends xs → prepared_in (map said xs ++ past) i slot ≡ prepared_in past i slot
-    by [] r = refl
-    by (notes.Sent serial generation from to bytes ∷ xs) r = by xs r.1
-    by (note ∷ xs) r = absurd r.0
-
+-- how many lists an initiator began
 pub sends_lists : (ns : List Note) (past : List Moment) (i : ℕ) → AllSends ns → lists (map said ns ++ past) i ≡ lists past i
 sends_lists [] past i q = refl
 sends_lists (notes.Sent serial generation from to bytes ∷ ns) past i q = sends_lists ns past i q.1
@@ -177,33 +167,33 @@ beyond_down [] p A l e = new_down p A e
 beyond_down (a ∷ agents) zero A l e = absurd (omega (arith, l))
 beyond_down (a ∷ agents) (suc p) A l e = beyond_down agents p A (omega (arith, l)) e
 
-module _ (past : List Moment) (wire : Terms) (target : Target) (i : ℕ) where
-  passed : (found : Option ℕ) (place : ℕ) (a : Agent) (agents : List Agent) → (is_up a.machine ≡ true → initiator_at target wire place ≡ i → ⊥) → open_among past wire target i (place + 1) agents ≡ found → open_among past wire target i place (a ∷ agents) ≡ found
+module _ (start : List Disk) (past : List Moment) (wire : Terms) (target : Target) (i : ℕ) where
+  passed : (found : Option ℕ) (place : ℕ) (a : Agent) (agents : List Agent) → (is_up a.machine ≡ true → initiator_at target wire place ≡ i → ⊥) → open_among start past wire target i (place + 1) agents ≡ found → open_among start past wire target i place (a ∷ agents) ≡ found
   passed found place a agents other rest = by (is_up a.machine) (nat_eq (initiator_at target wire place) i) refl refl
     where
-      by : (x y : Bool) → is_up a.machine ≡ x → nat_eq (initiator_at target wire place) i ≡ y → cond (is_up a.machine && nat_eq (initiator_at target wire place) i) (list_of past i a) (open_among past wire target i (place + 1) agents) ≡ found
+      by : (x y : Bool) → is_up a.machine ≡ x → nat_eq (initiator_at target wire place) i ≡ y → cond (is_up a.machine && nat_eq (initiator_at target wire place) i) (list_taken start past place) (open_among start past wire target i (place + 1) agents) ≡ found
       by true true e f = absurd (other e (grind (arith, nat_tests)))
       by true false e f =
-          ap (λ b. cond (b && nat_eq (initiator_at target wire place) i) (list_of past i a) (open_among past wire target i (place + 1) agents)) e
-          ∙ (ap (λ b. cond (true && b) (list_of past i a) (open_among past wire target i (place + 1) agents)) f ∙ rest)
+          ap (λ b. cond (b && nat_eq (initiator_at target wire place) i) (list_taken start past place) (open_among start past wire target i (place + 1) agents)) e
+          ∙ (ap (λ b. cond (true && b) (list_taken start past place) (open_among start past wire target i (place + 1) agents)) f ∙ rest)
       by false y e f =
-          ap (λ b. cond (b && nat_eq (initiator_at target wire place) i) (list_of past i a) (open_among past wire target i (place + 1) agents)) e ∙ rest
+          ap (λ b. cond (b && nat_eq (initiator_at target wire place) i) (list_taken start past place) (open_among start past wire target i (place + 1) agents)) e ∙ rest
 
   -- of one that has none out of RESET
-  pub no_open : (place : ℕ) (agents : List Agent) → ((j q : ℕ) → place + j ≡ q → is_up (agent_in agents j).machine ≡ true → initiator_at target wire q ≡ i → ⊥) → open_among past wire target i place agents ≡ None
+  pub no_open : (place : ℕ) (agents : List Agent) → ((j q : ℕ) → place + j ≡ q → is_up (agent_in agents j).machine ≡ true → initiator_at target wire q ≡ i → ⊥) → open_among start past wire target i place agents ≡ None
   no_open place [] none = refl
   no_open place (a ∷ agents) none =
       passed None place a agents (none 0 place (omega arith))
       (no_open (place + 1) agents (λ j q b u o. none (suc j) q (omega (arith, b)) u o))
 
   module _ (n : ℕ) where
-    pub one_open : (place : ℕ) (agents : List Agent) (k p : ℕ) → place + k ≡ p → is_up (agent_in agents k).machine ≡ true → initiator_at target wire p ≡ i → list_of past i (agent_in agents k) ≡ Some n → ((j q : ℕ) → place + j ≡ q → is_up (agent_in agents j).machine ≡ true → initiator_at target wire q ≡ i → j ≡ k) → open_among past wire target i place agents ≡ Some n
-    one_open place [] k p at up own list alone = new_down k (open_among past wire target i place [] ≡ Some n) up
+    pub one_open : (place : ℕ) (agents : List Agent) (k p : ℕ) → place + k ≡ p → is_up (agent_in agents k).machine ≡ true → initiator_at target wire p ≡ i → list_taken start past p ≡ Some n → ((j q : ℕ) → place + j ≡ q → is_up (agent_in agents j).machine ≡ true → initiator_at target wire q ≡ i → j ≡ k) → open_among start past wire target i place agents ≡ Some n
+    one_open place [] k p at up own list alone = new_down k (open_among start past wire target i place [] ≡ Some n) up
     one_open place (a ∷ agents) zero p at up own list alone =
         let here : place ≡ p = omega (arith, at) in
         let z : nat_eq (initiator_at target wire place) i ≡ true = let y = ap (initiator_at target wire) here ∙ own in grind (arith, nat_tests) in
-        ap (λ b. cond (b && nat_eq (initiator_at target wire place) i) (list_of past i a) (open_among past wire target i (place + 1) agents)) up
-        ∙ (ap (λ b. cond (true && b) (list_of past i a) (open_among past wire target i (place + 1) agents)) z ∙ list)
+        ap (λ b. cond (b && nat_eq (initiator_at target wire place) i) (list_taken start past place) (open_among start past wire target i (place + 1) agents)) up
+        ∙ (ap (λ b. cond (true && b) (list_taken start past place) (open_among start past wire target i (place + 1) agents)) z ∙ (ap (list_taken start past) here ∙ list))
     one_open place (a ∷ agents) (suc k) p at up own list alone =
         passed (Some n) place a agents (λ e f. let z = alone 0 place (omega arith) e f in omega (arith, z))
         (one_open (place + 1) agents k p (omega (arith, at)) up own list (λ j q b u o. let e = alone (suc j) q (omega (arith, b)) u o in omega (arith, e)))

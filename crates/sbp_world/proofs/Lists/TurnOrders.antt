@@ -17,7 +17,7 @@ use Rattle.sbp_world.specs.Wire.Lines.{AreLines, IsLine}
 use Rattle.sbp_world.specs.Worlds.{Scene, begun, without_notes}
 use Rattle.sbp_world.specs.Hosts.Runs.{more_deliveries}
 use Rattle.sbp_world.specs.Lists.SendsLast.{SendsLast, SendsLastLaw}
-use Rattle.sbp_world.proofs.Lists.SendsLast.{AllEffects, AllSends, Hands, Hears, IsEffect, IsSend, IsStart, Shaped, acts, begins, delivery_hears, goes, hears, injects, judged_starts, keys, late, loses, one_comes, resets, sights, ticks, unheard}
+use Rattle.sbp_world.proofs.Lists.SendsLast.{AllEffects, AllSends, Hands, Hears, IsEffect, IsSend, IsStart, Shaped, acts, begins, delivery_hears, goes, hears, injects, judged_starts, keys, late, led, loses, one_comes, resets, sights, ticks, unheard}
 
 -- ---- notes, the latest one first, in the order of time
 abbrev behind : List Note → List Note → List Note
@@ -143,21 +143,21 @@ module _ (past : List Moment) (h : E past []) (line : ℕ) (s : Scene) where
   line_on : (event : Event) (told : List (Option Told)) (initiators : ℕ) → IsLine event initiators → MayHappen event told s → E (map said (happens line event told s).world.fresh ++ asked line event ∷ past) []
   unfolding happens MayHappen
   line_on (events.Begin initiators is_ready) told few q m = absurd q
-  line_on (events.Act i action) told few q m = shaped_line (events.Act i action) _ (acts (without_notes s.world) line i action)
-  line_on (events.Reset physical) told few q m = shaped_line (events.Reset physical) _ (resets (without_notes s.world) physical)
-  line_on (events.See node) told few q m = shaped_line (events.See node) _ (sights (without_notes s.world) node)
+  line_on (events.Act i action) told few q m = shaped_line (events.Act i action) _ (led (acts (without_notes s.world) line i action))
+  line_on (events.Reset physical) told few q m = shaped_line (events.Reset physical) _ (led (resets (without_notes s.world) physical))
+  line_on (events.See node) told few q m = shaped_line (events.See node) _ (led (sights (without_notes s.world) node))
   line_on (events.Deliver serial) told few q m = shaped_line (events.Deliver serial) _ (one_comes (begun s) line serial false (is_in_flight serial (begun s).world) told m)
   line_on (events.Repeat serial) told few q m = shaped_line (events.Repeat serial) _ (one_comes (begun s) line serial true (may_repeat serial (begun s).world) told m)
-  line_on (events.Lose serial) told few q m = shaped_line (events.Lose serial) _ (loses (without_notes s.world) line serial)
-  line_on (events.Timeout serial) told few q m = shaped_line (events.Timeout serial) _ (late (without_notes s.world) line serial)
+  line_on (events.Lose serial) told few q m = shaped_line (events.Lose serial) _ (led (loses (without_notes s.world) line serial))
+  line_on (events.Timeout serial) told few q m = shaped_line (events.Timeout serial) _ (led (late (without_notes s.world) line serial))
   line_on (events.Step count) told few q m = all_on (asked line (events.Step count) ∷ past) told (begun s) m.may (refl, h)
   line_on events.Settle told few q m =
       let now = asked line events.Settle ∷ past in
       let t = after_all told (begun s) in
       start_on (end_note (is_settled t.world)) (end_starts (is_settled t.world)) (map said t.world.fresh ++ now) [] refl (all_on now told (begun s) m.may (refl, h))
-  line_on events.Tick told few q m = shaped_line events.Tick _ (ticks (without_notes s.world))
-  line_on (events.Inject i bytes) told few q m = shaped_line (events.Inject i bytes) _ (injects (without_notes s.world) line i bytes)
-  line_on (events.Key unit key) told few q m = shaped_line (events.Key unit key) _ (keys (without_notes s.world) line unit key)
+  line_on events.Tick told few q m = shaped_line events.Tick _ (led (ticks (without_notes s.world)))
+  line_on (events.Inject i bytes) told few q m = shaped_line (events.Inject i bytes) _ (led (injects (without_notes s.world) line i bytes))
+  line_on (events.Key unit key) told few q m = shaped_line (events.Key unit key) _ (led (keys (without_notes s.world) line unit key))
 
 -- ---- a run
 lines_on : (line : ℕ) (run : Run) (entries : List Entry) → AreEntries (beginning run) entries → AreLines run entries → E (moments_behind line run entries) []

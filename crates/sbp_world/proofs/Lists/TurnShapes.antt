@@ -15,7 +15,7 @@ use Rattle.sbp_world.specs.Hosts.Runs.{more_deliveries}
 use Rattle.sbp_world.proofs.Agents.Management.Still.{hist}
 use Rattle.sbp_world.proofs.Lists.Courses.{Goes, by_delivery, by_end, by_line, by_start}
 use Rattle.sbp_world.proofs.Lists.Gots.{split}
-use Rattle.sbp_world.proofs.Lists.SendsLast.{AllEffects, AllSends, Hands, Hears, IsStart, Shaped, acts, begins, delivery_hears, goes, hears, injects, keys, late, loses, one_comes, resets, sights, ticks, unheard}
+use Rattle.sbp_world.proofs.Lists.SendsLast.{AllEffects, AllSends, Hands, Hears, IsStart, Shaped, acts, begins, delivery_hears, goes, hears, injects, keys, late, led, loses, one_comes, resets, sights, ticks, unheard}
 use Rattle.sbp_world.proofs.Lists.Turned.{IsOne}
 
 -- effects and packets behind some moments
@@ -55,18 +55,18 @@ of_shaped line event past new (begins note q h) = by_noted note q line event (be
 line_shape : (past : List Moment) (s : Scene) (line : ℕ) (event : Event) (told : List (Option Told)) → IsOne event → MayHappen event told s → Shape (hist past s.world) (hist (asked line event ∷ hist past s.world) (happens line event told s).world)
 unfolding happens MayHappen
 line_shape past s line (events.Begin initiators is_ready) told o m = of_shaped line (events.Begin initiators is_ready) (hist past s.world) [] (goes (record { middle = []; told = record { more = []; is = refl; effects = tt }; sent = record { more = []; is = refl; sends = tt } }))
-line_shape past s line (events.Act i action) told o m = of_shaped line (events.Act i action) (hist past s.world) _ (acts (without_notes s.world) line i action)
-line_shape past s line (events.Reset physical) told o m = of_shaped line (events.Reset physical) (hist past s.world) _ (resets (without_notes s.world) physical)
-line_shape past s line (events.See node) told o m = of_shaped line (events.See node) (hist past s.world) _ (sights (without_notes s.world) node)
+line_shape past s line (events.Act i action) told o m = of_shaped line (events.Act i action) (hist past s.world) _ (led (acts (without_notes s.world) line i action))
+line_shape past s line (events.Reset physical) told o m = of_shaped line (events.Reset physical) (hist past s.world) _ (led (resets (without_notes s.world) physical))
+line_shape past s line (events.See node) told o m = of_shaped line (events.See node) (hist past s.world) _ (led (sights (without_notes s.world) node))
 line_shape past s line (events.Deliver serial) told o m = of_shaped line (events.Deliver serial) (hist past s.world) _ (one_comes (begun s) line serial false (is_in_flight serial (begun s).world) told m)
 line_shape past s line (events.Repeat serial) told o m = of_shaped line (events.Repeat serial) (hist past s.world) _ (one_comes (begun s) line serial true (may_repeat serial (begun s).world) told m)
-line_shape past s line (events.Lose serial) told o m = of_shaped line (events.Lose serial) (hist past s.world) _ (loses (without_notes s.world) line serial)
-line_shape past s line (events.Timeout serial) told o m = of_shaped line (events.Timeout serial) (hist past s.world) _ (late (without_notes s.world) line serial)
+line_shape past s line (events.Lose serial) told o m = of_shaped line (events.Lose serial) (hist past s.world) _ (led (loses (without_notes s.world) line serial))
+line_shape past s line (events.Timeout serial) told o m = of_shaped line (events.Timeout serial) (hist past s.world) _ (led (late (without_notes s.world) line serial))
 line_shape past s line (events.Step count) told o m = absurd o
 line_shape past s line events.Settle told o m = absurd o
-line_shape past s line events.Tick told o m = of_shaped line events.Tick (hist past s.world) _ (ticks (without_notes s.world))
-line_shape past s line (events.Inject i bytes) told o m = of_shaped line (events.Inject i bytes) (hist past s.world) _ (injects (without_notes s.world) line i bytes)
-line_shape past s line (events.Key unit key) told o m = of_shaped line (events.Key unit key) (hist past s.world) _ (keys (without_notes s.world) line unit key)
+line_shape past s line events.Tick told o m = of_shaped line events.Tick (hist past s.world) _ (led (ticks (without_notes s.world)))
+line_shape past s line (events.Inject i bytes) told o m = of_shaped line (events.Inject i bytes) (hist past s.world) _ (led (injects (without_notes s.world) line i bytes))
+line_shape past s line (events.Key unit key) told o m = of_shaped line (events.Key unit key) (hist past s.world) _ (led (keys (without_notes s.world) line unit key))
 
 lowest_shape : (past : List Moment) (s : Scene) (one : Option Told) (o : Option ℕ) → MayAt o one s → Shape (hist past s.world) (hist past (delivered_at o one s).world)
 lowest_shape past s one None m = absurd m

@@ -23,9 +23,9 @@ use Rattle.sbp_world.proofs.Agents.Units.{units_law}
 use Rattle.sbp_world.proofs.Hosts.Hosted.{host_law}
 use Rattle.sbp_world.proofs.Hosts.Runs.{count_after, run_law}
 use Rattle.sbp_world.proofs.Lists.Clauses.{one_up, open_lists_law}
-use Rattle.sbp_world.proofs.Lists.ListsProved.{closing}
 use Rattle.sbp_world.proofs.Lists.OpenSends.{latest_is, none_open, open_is}
-use Rattle.sbp_world.proofs.Lists.PointersRuns.{AreNaming, naming_everywhere}
+use Rattle.sbp_world.proofs.Lists.OpenProved.{taken_lists_law}
+use Rattle.sbp_world.specs.Lists.Taken.{AreTaken}
 use Rattle.sbp_world.proofs.Lists.RunSites.{site_after}
 use Rattle.sbp_world.proofs.Lists.Sites.{Site}
 
@@ -34,15 +34,15 @@ module _ (units ready : ℕ) (has : 0 < units) (start : List Disk) (past : List 
   all_closed : AreClosed start (hist past w) w
   all_closed i none = none_open units ready has start past w h site (hist past w) [] tt refl i none
 
-  module _ (naming : AreNaming start (hist past w) w) (apart : AreApart (hist past w) w) (listed : (place : ℕ) → place < 8 → is_open_at w place ≡ true → IsCalm (hist past w) (initiator_in w place) → IsOpenAt (hist past w) w place) where
+  module _ (taken : AreTaken start (hist past w) w) (apart : AreApart (hist past w) w) (listed : (place : ℕ) → place < 8 → is_open_at w place ≡ true → IsCalm (hist past w) (initiator_in w place) → IsOpenAt (hist past w) w place) where
     open_at : AreOpenLists start (hist past w) w
     open_at place b open_there calm =
         let at = listed place b open_there calm in
         record {
           n = at.n;
           held = at.list;
-          opened = open_is units ready has start past w h site (hist past w) [] tt refl naming apart place b open_there calm at;
-          latest = latest_is units ready has start past w h site (hist past w) [] tt refl naming apart place b open_there calm at;
+          opened = open_is units ready has start past w h site (hist past w) [] tt refl taken apart place b open_there calm at;
+          latest = latest_is units ready has start past w h site (hist past w) [] tt refl taken apart place b open_there calm at;
         }
 
 -- ---- after each line
@@ -93,13 +93,10 @@ module _ (line : ℕ) (run : Run) (r : IsRun run) (has : 0 < run.units) (small :
   are_states = record { initiators = initiators; target = target; closed = closed }
 
   module _ (tame : IsTameOrFew past) where
-    naming : AreNaming start past s.world
-    naming = (naming_everywhere open_lists_law).after_lines line run r has small size (closing.before open_lists_law line run r has small size tame) tame
-
     pub are_open_lists : AreOpenLists start past s.world
     are_open_lists =
         subst (λ ms. AreOpenLists start ms s.world) holds.is
         (open_at run.units logins has start holds.past s.world holds.holds site
-        (subst (λ ms. AreNaming start ms s.world) (sym holds.is) naming)
+        (subst (λ ms. AreTaken start ms s.world) (sym holds.is) (taken_lists_law.after_lines line run r has small size))
         (subst (λ ms. AreApart ms s.world) (sym holds.is) (one_up.after_lines line run r has small size tame))
         (subst (λ ms. (place : ℕ) → place < 8 → is_open_at s.world place ≡ true → IsCalm ms (initiator_in s.world place) → IsOpenAt ms s.world place) (sym holds.is) (open_lists_law.after_lines line run r has small size tame).listed))
