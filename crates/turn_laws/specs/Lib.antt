@@ -4,3 +4,4 @@ pub mod Logins
 pub mod Decisions
 pub mod Login
 pub mod Packets
+pub mod Judgement

@@ -89,14 +89,14 @@ use Rattle.sbp_world.proofs.Agents.Purposes.{g, labels, law}
 use Rattle.sbp_world.proofs.Agents.ToldAlike.{IsToldOf, ToldBy, ToldFor}
 
 -- ---- what a request asks for
-record AccessIs (p : Packet) : Type 0 where
-  access : Access
-  is : access_of p ≡ Some access
+pub record AccessIs (p : Packet) : Type 0 where
+  pub access : Access
+  pub is : access_of p ≡ Some access
 
 some_none : (k : ReplyKind) → Some k ≡ None → ⊥
 some_none k e = cc
 
-access_there : (p : Packet) → reply_kind p ≡ None → AccessIs p
+pub access_there : (p : Packet) → reply_kind p ≡ None → AccessIs p
 access_there (write_quadlet header offset value) e = record { access = record { is_lock = false; is_write = true; is_block = false; offset = offset; count = 4; payload = [] }; is = refl }
 access_there (write_block header offset payload) e = record { access = record { is_lock = false; is_write = true; is_block = true; offset = offset; count = length payload; payload = payload }; is = refl }
 access_there (write_response header rcode) e = absurd (some_none _ e)
