@@ -17,4 +17,11 @@ pub mod FirstRows
 pub mod LoginRuns
 pub mod EveryPlace
 pub mod SentPackets
+pub mod FoundRows
+pub mod AnswerNotes
+pub mod Verdicts
+pub mod TargetJudges
+pub mod HostFacts
+pub mod HostJudges
+pub mod Judgements
 pub mod Together

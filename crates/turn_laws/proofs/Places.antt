@@ -1,9 +1,10 @@
 -- The places of a run between two turns, and what is known at each: as some of its lines ended, as a line begins, and between two deliveries of a line. At each the terms of
 -- the history are the states of both ends.
-use Rattle.std.proofs.Common.{◌≡◌, ◌∙◌, sym, subst, ℕ, ◌+◌, ◌^◌, ◌<◌, ◌≤◌, false, List, [], ◌∷◌, ◌++◌, map, length, Option, None}
+use Rattle.std.proofs.Common.{arith, ◌≡◌, ◌∙◌, sym, subst, ℕ, ◌+◌, ◌^◌, ◌<◌, ◌≤◌, Bool, false, List, [], ◌∷◌, ◌++◌, map, length, Option, None}
 use Rattle.bus_transactions.specs.May.{is_reset}
 use Rattle.rbc_disk.specs.Disk.{Disk}
 use Rattle.rbc_disk.specs.Runs.{Told}
+use Rattle.sbp_initiator.specs.declared.state.InitiatorState.{InitiatorState}
 use Rattle.sbp_journal.specs.Run.{Moment, asked, said}
 use Rattle.sbp_journal.specs.declared.event.Event.{Event}
 use Rattle.sbp_laws.specs.Hosts.{host_at}
@@ -32,6 +33,8 @@ use Rattle.sbp_world.proofs.Agents.Registering.{enabled_terms_between_law, enabl
 use Rattle.sbp_world.proofs.Agents.Seating.{opened as seats_opened}
 use Rattle.sbp_world.proofs.Agents.Units.{units_between_law, units_law}
 use Rattle.sbp_world.proofs.Hosts.Hosted.{host_law}
+use Rattle.sbp_world.proofs.Hosts.LoginCounts.{logins_few}
+use Rattle.sbp_world.proofs.Hosts.OrbRuns.{Orbs, orbs_between, orbs_of_runs}
 use Rattle.sbp_world.proofs.Hosts.Runs.{count_after, count_between, run_law}
 use Rattle.sbp_world.proofs.Hosts.StepLaws.{step_law}
 use Rattle.sbp_world.proofs.Lists.Courses.{more_than_one}
@@ -47,9 +50,15 @@ pub record Place (units ready : ℕ) (start : List Disk) (past : List Moment) (s
   pub units_are : AreUnitsAt start (hist past s.world) s.world.target s.media.disks
   pub enabled : AreTermsOf (target_at start (hist past s.world)).enabled s.world.target
   pub live : AreLive s.world.target
-  -- each initiator's lists and slots, and its session
+  -- each initiator's lists and slots, its session, and how many login numbers it used
   pub hosts : (i : ℕ) → i < length s.world.initiators → IsHost (hist past s.world) i (initiator_at s.world i)
   pub cores : (i : ℕ) → i < length s.world.initiators → host_core (host_at (hist past s.world) i) ≡ own_core (initiator_at s.world i)
+  pub logins : (i : ℕ) → i < length s.world.initiators → (initiator_at s.world i).counts.logins ≤ 2 ^ 32
+
+-- an initiator uses one login number at most for each of its actions, and so one for each line
+few_logins : (ready : Bool) (past : List Moment) (i lines : ℕ) (s : InitiatorState) → Orbs ready past i s → s.counts.acts ≤ lines → lines + 1 ≤ 2 ^ 32 → s.counts.logins ≤ 2 ^ 32
+few_logins ready past i lines s h acts short =
+    let few : s.counts.logins ≤ s.counts.acts + 1 = subst (λ (x : InitiatorState). x.counts.logins ≤ x.counts.acts + 1) h.is (logins_few i ready h.calls) in omega (arith, few, acts, short)
 
 module _ (line : ℕ) (run : Run) (few : run.initiators ≤ 4) (has : 0 < run.units) (small : run.units ≤ 4) (size : length run.start.disks ≡ run.units) where
   abbrev logins : ℕ
@@ -93,6 +102,7 @@ module _ (line : ℕ) (run : Run) (few : run.initiators ≤ 4) (has : 0 < run.un
       live = enabled_law front few has small size short every (lines_same run entries entries fit);
       hosts = λ i b. subst (λ ms. IsHost ms i (initiator_at here.world i)) same (run_law.rows line front is_run i (inside i b));
       cores = λ i b. subst (λ ms. host_core (host_at ms i) ≡ own_core (initiator_at here.world i)) same (host_law.core line front is_run i (inside i b));
+      logins = λ i b. few_logins run.ready (history_of line front) i (length entries) (initiator_at here.world i) (orbs_of_runs line front is_run i (inside i b)) (h.sound.nodes.own.counts i b) (omega (arith, short));
     }
 
     -- between deliveries of a line that follows
@@ -137,6 +147,7 @@ module _ (line : ℕ) (run : Run) (few : run.initiators ≤ 4) (has : 0 < run.un
               live = enabled_between_law front few has small size short every f next (more_deliveries most) d told m;
               hosts = λ i b. moved (λ ms. IsHost ms i (initiator_at w i)) (run_law.between line front is_run next most told m i (inside_there i b));
               cores = λ i b. moved (λ ms. host_core (host_at ms i) ≡ own_core (initiator_at w i)) (host_law.between line front is_run next most told m i (inside_there i b));
+              logins = λ i b. few_logins run.ready _ i (length entries + 1) (initiator_at w i) (orbs_between line front is_run next most told m i (inside_there i b)) ((between_holds told m).sound.nodes.own.counts i b) (omega (arith, short));
             }
 
     -- as a line begins in which a node is called
@@ -156,4 +167,5 @@ module _ (line : ℕ) (run : Run) (few : run.initiators ≤ 4) (has : 0 < run.un
             live = settling.live;
             hosts = λ i b. record { number = (p.hosts i b).number; rows = step_law.asked next event (hist past here.world) i (initiator_at here.world i).lists.slots (p.hosts i b).rows; pin = (p.hosts i b).pin };
             cores = λ i b. p.cores i b;
+            logins = λ i b. p.logins i b;
           }

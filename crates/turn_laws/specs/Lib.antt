@@ -4,4 +4,5 @@ pub mod Logins
 pub mod Decisions
 pub mod Login
 pub mod Packets
+pub mod Judgement
 pub mod Together

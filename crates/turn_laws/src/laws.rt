@@ -1,5 +1,6 @@
 //! The laws of turns, each of every run of the machine of up to four initiators with one to four units.
 ghost use Rattle.turn_laws.specs.Cleared.{ClearedLaw};
+ghost use Rattle.turn_laws.specs.Judgement.{JudgementRunLaw};
 ghost use Rattle.turn_laws.specs.Login.{LoginRunLaw};
 ghost use Rattle.turn_laws.specs.Packets.{PacketsLaw};
 
@@ -24,4 +25,13 @@ pub fn logins_are_lawful()
 #[tactic(auto, using(crate::proofs::SentPackets::packets_run_law))]
 pub fn packets_are_lawful()
     ensures { PacketsLaw }
+{}
+
+/// The judgement law holds of every run, of every node, whatever anybody injected: each delivery begins with
+/// `got`, or with `ignored` and its cause, by the first row that holds on what the history says. Where it is
+/// ignored, no other note follows but the one answer that the row has, to the sender, with the row's rcode;
+/// and none where the row has none.
+#[tactic(auto, using(crate::proofs::Judgements::judgement_run_law))]
+pub fn judgements_are_lawful()
+    ensures { JudgementRunLaw }
 {}

@@ -102,7 +102,7 @@ second_place : slot_of (start (windows.Management 1)) ≡ None
 unfolding slot_of window_at
 second_place = refl
 
-place_slot : (offset : ℕ) → is_managed_orb offset ≡ true → slot_of offset ≡ None
+pub place_slot : (offset : ℕ) → is_managed_orb offset ≡ true → slot_of offset ≡ None
 place_slot offset e = by_tests (nat_eq offset (start (windows.Management 0))) (nat_eq offset (start (windows.Management 1))) refl refl e
   where
     by_tests : (a b : Bool) → nat_eq offset (start (windows.Management 0)) ≡ a → nat_eq offset (start (windows.Management 1)) ≡ b → a || b ≡ true → slot_of offset ≡ None

@@ -84,7 +84,7 @@ module _ (s : InitiatorState) (generation : ℕ) (bytes : List ℕ) where
     found : IsRequestFound s.layer generation bytes p
     found = request_of s.layer generation bytes p request
 
-    noted : heard.0 ≡ note_of (judging_for p s)
+    pub noted : heard.0 ≡ note_of (judging_for p s)
     noted =
         let row = row_of (facts_of s.layer generation bytes) in
         judging_law.noted generation bytes empty_outbox s
