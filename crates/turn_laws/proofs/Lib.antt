@@ -9,6 +9,12 @@ pub mod Gots
 pub mod Effects
 pub mod Decisions
 pub mod Cleared
+pub mod OrderRanks
+pub mod OrderHanded
+pub mod OrderOwn
+pub mod OrderManaged
+pub mod OrderSides
+pub mod OrderRuns
 pub mod Subjects
 pub mod Logins
 pub mod ManagedSides

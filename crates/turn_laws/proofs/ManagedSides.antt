@@ -138,7 +138,7 @@ module _ (old : Lives) (node : NodeState) (f : From old node.layer) where
       managed_more t.outbox.sides (sides.Managed source d.function d.subject d.status d.login) ∙ ap (λ xs. xs ++ sides.Managed source d.function d.subject d.status d.login ∷ []) (none_managed t.outbox.sides (effect_none effect d.subject))
 
 module _ (node : NodeState) (g : Good node) where
-  from_self : (layer : Layer Purpose) (lives : Lives) → Known layer lives → From lives layer
+  pub from_self : (layer : Layer Purpose) (lives : Lives) → Known layer lives → From lives layer
   from_self layer lives k = record { lives = lives; known = k; before = λ p l kind e. e }
 
   managed_side : (source : ℕ) (layer : Layer Purpose) (lives : Lives) → From lives layer → (r : ManagerStep × (management.Machine × Table)) → managed (managed_with source (scene (record node { layer = layer }) empty_outbox) r).outbox.sides ≡ decision_side source r.0.decided
@@ -165,7 +165,7 @@ module _ (node : NodeState) (g : Good node) where
   found_side (of_response p label (Some purposes.Management)) = reply_side (management.source_in node.manager.operation) (answer_in p)
   found_side finding = []
 
-  begins : (layer : Layer Purpose) (lives : Lives) → From lives layer → Calm lives (record node { layer = layer }) (scene (record node { layer = layer }) empty_outbox)
+  pub begins : (layer : Layer Purpose) (lives : Lives) → From lives layer → Calm lives (record node { layer = layer }) (scene (record node { layer = layer }) empty_outbox)
   begins layer lives f = record { logins = refl; keys = refl; manager = refl; rom = refl; quiet = tt; from = f }
 
   concludes : (run : Option Told) (p : Packet) (peer : ℕ) (label : LabelParts) (disks : List Disk) (layer : Layer Purpose) (lives : Lives) → From lives layer → (purpose : Option Purpose) → managed (scene_of (concluded run purpose peer label (answer_in p) (whole (scene (record node { layer = layer }) empty_outbox) disks))).outbox.sides ≡ found_side (of_response p label purpose)

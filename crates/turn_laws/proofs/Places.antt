@@ -14,6 +14,7 @@ use Rattle.sbp_world.specs.Agents.Enabled.{AreLive, AreTermsOf}
 use Rattle.sbp_world.specs.Agents.Holders.{AreHeldAt}
 use Rattle.sbp_world.specs.Agents.Units.{AreUnitsAt}
 use Rattle.sbp_world.specs.Histories.{history_of, moments_behind}
+use Rattle.sbp_world.specs.Hosts.Calling.{IsCalled}
 use Rattle.sbp_world.specs.Hosts.Core.{host_core, own_core}
 use Rattle.sbp_world.specs.Hosts.Runs.{IsRun, more_deliveries}
 use Rattle.sbp_world.specs.Hosts.Worlds.{IsHost}
@@ -32,6 +33,8 @@ use Rattle.sbp_world.proofs.Agents.Management.Still.{hist}
 use Rattle.sbp_world.proofs.Agents.Registering.{enabled_terms_between_law, enabled_terms_law}
 use Rattle.sbp_world.proofs.Agents.Seating.{opened as seats_opened}
 use Rattle.sbp_world.proofs.Agents.Units.{units_between_law, units_law}
+use Rattle.sbp_world.proofs.Hosts.Calling.{IsOwn, own_carried, own_first}
+use Rattle.sbp_world.proofs.Hosts.Carried.{between_runs, of_runs}
 use Rattle.sbp_world.proofs.Hosts.Hosted.{host_law}
 use Rattle.sbp_world.proofs.Hosts.LoginCounts.{logins_few}
 use Rattle.sbp_world.proofs.Hosts.OrbRuns.{Orbs, orbs_between, orbs_of_runs}
@@ -39,11 +42,18 @@ use Rattle.sbp_world.proofs.Hosts.Runs.{count_after, count_between, run_law}
 use Rattle.sbp_world.proofs.Hosts.StepLaws.{step_law}
 use Rattle.sbp_world.proofs.Lists.Courses.{more_than_one}
 
+-- an initiator is what a list of its calls makes of a new one
+pub record HasCalls (i : ℕ) (s : InitiatorState) : Type 0 where
+  pub ready : Bool
+  pub called : IsCalled ready i s
+
 -- What is known at a place: its history goes on from `past` by the notes of the world.
 pub record Place (units ready : ℕ) (start : List Disk) (past : List Moment) (s : Scene) : Type 0 where
   pub lines : ℕ
   -- the wire, the nodes, and the management of the target
   pub holds : Holding units ready start past lines s.world
+  -- each initiator is what its calls made of it
+  pub calls : (i : ℕ) → i < length s.world.initiators → HasCalls i (initiator_at s.world i)
   -- the target's agents, who has its logins, its units and its registers
   pub agents : AreAgentsAt start (hist past s.world) s.world
   pub held : AreHeldAt start (hist past s.world) s.world
@@ -87,6 +97,13 @@ module _ (line : ℕ) (run : Run) (few : run.initiators ≤ 4) (has : 0 < run.un
     same : history_of line front ≡ hist past here.world
     same = moments_same line run entries entries ∙ sym is
 
+    -- an initiator, by its calls
+    abbrev Owned : List Moment → ℕ → InitiatorState → Type 0
+    Owned ms i state = IsOwn run.ready i state
+
+    calls_of : (i : ℕ) (state : InitiatorState) → IsOwn run.ready i state → HasCalls i state
+    calls_of i state own = record { ready = run.ready; called = own.called }
+
     inside : (i : ℕ) → i < length here.world.initiators → i < run.initiators
     inside i b = subst (λ n. i < n) (count_after front entries) b
 
@@ -95,6 +112,7 @@ module _ (line : ℕ) (run : Run) (few : run.initiators ≤ 4) (has : 0 < run.un
     ended_place = record {
       lines = length entries;
       holds = h;
+      calls = λ i b. calls_of i (initiator_at here.world i) (of_runs Owned (own_carried run.ready) line front (λ before few short every fit j c. tt) (λ j c. own_first run.ready j) is_run i (inside i b));
       agents = subst (λ ms. AreAgentsAt start ms here.world) same (agents_run_law line front few has small size short every (lines_same run entries entries fit));
       held = subst (λ ms. AreHeldAt start ms here.world) same (holders_law line front few has small size short every (lines_same run entries entries fit));
       units_are = subst (λ ms. AreUnitsAt start ms here.world.target here.media.disks) same (units_law line front few has small size short every (lines_same run entries entries fit));
@@ -140,6 +158,7 @@ module _ (line : ℕ) (run : Run) (few : run.initiators ≤ 4) (has : 0 < run.un
             record {
               lines = length entries + 1;
               holds = between_holds told m;
+              calls = λ i b. calls_of i (initiator_at w i) (between_runs Owned (own_carried run.ready) line front (λ before few short every fit j c. tt) (λ j c. own_first run.ready j) is_run next most told m i (inside_there i b));
               agents = moved (λ ms. AreAgentsAt start ms w) (agents_between_law line front few has small size short every f next (more_deliveries most) d told m);
               held = moved (λ ms. AreHeldAt start ms w) (holders_between_law line front few has small size short every f next (more_deliveries most) d told m);
               units_are = moved (λ ms. AreUnitsAt start ms w.target (at told).media.disks) (units_between_law line front few has small size short every f next (more_deliveries most) d told m);
@@ -160,6 +179,7 @@ module _ (line : ℕ) (run : Run) (few : run.initiators ≤ 4) (has : 0 < run.un
           record {
             lines = length entries + 1;
             holds = begins;
+            calls = λ i b. p.calls i b;
             agents = record { requests = settling.agents.requests; are = settling.agents.are; known = settling.agents.known };
             held = are_held run.units logins has start (without_notes here.world) begins (seats_opened run.units logins has start here.world (seats_after line run entries few has small size short every fit));
             units_are = record { count = settling.units_are.count; each = settling.units_are.each };

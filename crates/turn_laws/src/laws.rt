@@ -2,6 +2,7 @@
 ghost use Rattle.turn_laws.specs.Cleared.{ClearedLaw};
 ghost use Rattle.turn_laws.specs.Judgement.{JudgementRunLaw};
 ghost use Rattle.turn_laws.specs.Login.{LoginRunLaw};
+ghost use Rattle.turn_laws.specs.Ordered.{OrderedLaw};
 ghost use Rattle.turn_laws.specs.Packets.{PacketsLaw};
 
 /// In each turn of every run exactly the units are cleared that the decision of the turn resets, whatever
@@ -9,6 +10,16 @@ ghost use Rattle.turn_laws.specs.Packets.{PacketsLaw};
 #[tactic(auto, using(crate::proofs::Cleared::cleared_law))]
 pub fn units_are_cleared_where_due()
     ensures { ClearedLaw }
+{}
+
+/// In each turn of every run that a note begins, whatever anybody injected, the notes stand in one order.
+/// First what the node tells: lists that are cut, units that are cleared, logins that are held, expire, come
+/// back or leave, the decision, its failure, a command that runs, ends and deaths, unsolicited statuses; of an
+/// initiator what it is told or takes, then what its operations, its list and its session come to. Behind
+/// these the packets that it sends: `ordered` of the action law.
+#[tactic(auto, using(crate::proofs::OrderRuns::ordered_law))]
+pub fn turns_are_in_order()
+    ensures { OrderedLaw }
 {}
 
 /// The login law holds of every run, whatever anybody injected: in each turn the decisions stand that are

@@ -4,5 +4,6 @@
 mod laws;
 
 pub use laws::{
-    judgements_are_lawful, logins_are_lawful, packets_are_lawful, units_are_cleared_where_due,
+    judgements_are_lawful, logins_are_lawful, packets_are_lawful, turns_are_in_order,
+    units_are_cleared_where_due,
 };

@@ -39,7 +39,7 @@ own_first ready i = record { number = refl; called = called_first ready i }
 abbrev Owns : Bool → List Moment → ℕ → InitiatorState → Type 0
 Owns ready past i s = IsOwn ready i s
 
-own_carried : (ready : Bool) → Carries Nothing (Owns ready)
+pub own_carried : (ready : Bool) → Carries Nothing (Owns ready)
 own_carried ready = record {
   known = λ line event past i s h. tt;
   number = λ past i s h. h.number;

@@ -51,7 +51,7 @@ use Rattle.sbp_world.proofs.Hosts.Statuses.Quiet.{AreCalmSides, all_silent, both
 
 -- ---- a request and its note
 
-answer_silent : (r : List ℕ × Layer Purpose) (source : ℕ) (o : OutboxState) (s : InitiatorState) → (responded_as r source o s).0.sides ≡ o.sides
+pub answer_silent : (r : List ℕ × Layer Purpose) (source : ℕ) (o : OutboxState) (s : InitiatorState) → (responded_as r source o s).0.sides ≡ o.sides
 answer_silent (bytes, layer) source o s = refl
 
 got_ignored : {A : Type 0} (cause : Cause) → judgements.Got ≡ judgements.Ignored cause → A
