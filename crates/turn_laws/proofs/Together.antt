@@ -1,18 +1,24 @@
 -- The laws of turns of every run, together.
 use Rattle.turn_laws.specs.Together.{TurnsLaw}
 use Rattle.turn_laws.proofs.Cleared.{cleared_law}
+use Rattle.turn_laws.proofs.Judgements.{judgement_run_law}
 use Rattle.turn_laws.proofs.LoginRuns.{login_run_law}
+use Rattle.turn_laws.proofs.OrderRuns.{ordered_law}
 use Rattle.turn_laws.proofs.SentPackets.{packets_run_law}
 
 pub turns_law : TurnsLaw
 turns_law = record {
   after_lines = λ line run is some most size. record {
-    logins = login_run_law.after_lines line run is some most size;
+    judgement = judgement_run_law.after_lines line run is some most size;
+    login = login_run_law.after_lines line run is some most size;
+    ordered = ordered_law.after_lines line run is some most size;
     cleared = cleared_law.after_lines line run is some most size;
     packets = packets_run_law.after_lines line run is some most size;
   };
   between = λ line run is some most size next deliveries told may. record {
-    logins = login_run_law.between line run is some most size next deliveries told may;
+    judgement = judgement_run_law.between line run is some most size next deliveries told may;
+    login = login_run_law.between line run is some most size next deliveries told may;
+    ordered = ordered_law.between line run is some most size next deliveries told may;
     cleared = cleared_law.between line run is some most size next deliveries told may;
     packets = packets_run_law.between line run is some most size next deliveries told may;
   };

@@ -1,7 +1,9 @@
--- What is proved of the turns of every run, together: the login law, and `cleared` of the cause law and `packets` of the sent law.
+-- What is proved of the turns of every run, together: the judgement law, the login law, and of the action, cause and sent laws what stands in each turn.
 use Rattle.std.specs.Prelude.{List}
 use Rattle.rbc_disk.specs.Disk.{Disk}
 use Rattle.sbp_journal.specs.Run.{Moment}
+use Rattle.sbp_laws.specs.ActionLaw.{Ordered}
+use Rattle.sbp_laws.specs.JudgementLaw.{JudgementLaw}
 use Rattle.sbp_laws.specs.LoginLaw.{LoginLaw}
 use Rattle.sbp_laws.specs.SentPackets.{SentAt}
 use Rattle.sbp_laws.specs.Turns.{EachMoment, EachTurn}
@@ -9,7 +11,9 @@ use Rattle.turn_laws.specs.Cleared.{ClearsWhereDue}
 use Rattle.turn_laws.specs.Runs.{OfEveryRun}
 
 pub record LawfulInTurns (start : List Disk) (past : List Moment) : Type 0 where
-  pub logins : LoginLaw start past
+  pub judgement : JudgementLaw start past
+  pub login : LoginLaw start past
+  pub ordered : EachTurn Ordered past
   pub cleared : EachTurn (ClearsWhereDue start) past
   pub packets : EachMoment SentAt past
 
