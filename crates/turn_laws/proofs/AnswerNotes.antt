@@ -20,7 +20,7 @@ use Rattle.sbp_laws.specs.Packets.{id_of as term_id}
 use Rattle.sbp_world.specs.Delivering.{marked}
 use Rattle.sbp_world.specs.Telling.{told_all}
 use Rattle.sbp_world.specs.Wire.Wires.{Stands, layers_of}
-use Rattle.sbp_world.specs.Worlds.{WorldState}
+use Rattle.sbp_world.specs.Worlds.{WorldState, with_note}
 use Rattle.sbp_world.proofs.Agents.Management.Holding.{is_of, ours, past_terms}
 use Rattle.sbp_world.proofs.Agents.Management.Still.{hist}
 use Rattle.sbp_world.proofs.Hosts.Answering.{answer}
@@ -35,19 +35,26 @@ none_handed node o w sides_are packets_are =
     ∙ ap (λ xs. notes_told 0 xs w ++ []) sides_are
 
 -- ---- a delivery leaves the numbers of packets and the generations
-pub marked_last : (serial : ℕ) (again : Bool) (w : WorldState) → (marked serial again w).store.last ≡ w.store.last
+pub record SameBus (w v : WorldState) : Type 0 where
+  pub last : v.store.last ≡ w.store.last
+  pub generations : v.generations ≡ w.generations
+
+marked_last : (serial : ℕ) (again : Bool) (w : WorldState) → (marked serial again w).store.last ≡ w.store.last
 marked_last serial again w = by (again || not (is_flying serial w.store.kept)) refl
   where
     by : (b : Bool) → (again || not (is_flying serial w.store.kept)) ≡ b → (marked serial again w).store.last ≡ w.store.last
     by true e = rw e refl
     by false e = rw e refl
 
-pub marked_generations : (serial : ℕ) (again : Bool) (w : WorldState) → (marked serial again w).generations ≡ w.generations
+marked_generations : (serial : ℕ) (again : Bool) (w : WorldState) → (marked serial again w).generations ≡ w.generations
 marked_generations serial again w = by (again || not (is_flying serial w.store.kept)) refl
   where
     by : (b : Bool) → (again || not (is_flying serial w.store.kept)) ≡ b → (marked serial again w).generations ≡ w.generations
     by true e = rw e refl
     by false e = rw e refl
+
+pub judged_bus : (note : Note) (serial : ℕ) (again : Bool) (w u : WorldState) → SameBus w u → SameBus w (with_note note (marked serial again u))
+judged_bus note serial again w u same = record { last = marked_last serial again u ∙ same.last; generations = marked_generations serial again u ∙ same.generations }
 
 -- ---- one answer, of a world `v` behind the first note of the delivery
 module _ {past : List Moment} (w : WorldState) (h : Stands past w) (serial : ℕ) (one : Sent) (found : found_sent serial w.store.kept ≡ Some one) (inside : one.to ≤ length w.initiators) (p : Packet) (read : reading one.bytes ≡ Ok p) where
@@ -81,7 +88,7 @@ module _ {past : List Moment} (w : WorldState) (h : Stands past w) (serial : ℕ
             ∙ (ap (λ g. t.ids g one.from) (generation_is ∙ sym now) ∙ sym ((is_of w h serial one found).source p read)));
       })
 
-  module _ (v : WorldState) (same_last : v.store.last ≡ w.store.last) (same_generations : v.generations ≡ w.generations) (rcode own : ℕ) (own_is : own ≡ (layers_of w one.to).node) where
+  module _ (v : WorldState) (same : SameBus w v) (rcode own : ℕ) (own_is : own ≡ (layers_of w one.to).node) where
     abbrev response_as : (last generation node : ℕ) → List Note
     response_as last generation node = notes.Sent (last + 1) generation one.to one.from (canon (response_to node p rcode [])) ∷ []
 
@@ -90,9 +97,9 @@ module _ {past : List Moment} (w : WorldState) (h : Stands past w) (serial : ℕ
 
     one_note : one.generation ≡ t.generation one.to → note_to (node_of v.generations one.to (header_in p).source) v ≡ answer_packet t (as_sending one) rcode [] (Some p)
     one_note now =
-        ap (λ to. note_to to v) (ap (λ (g : GenerationsState). node_of g one.to (header_in p).source) same_generations ∙ source_there now)
-        ∙ (ap (λ n. response_as n (topology_at v.generations one.to).generation own) (same_last ∙ counted)
-        ∙ (ap (λ n. response_as t.count n own) (ap (λ (g : GenerationsState). (topology_at g one.to).generation) same_generations ∙ generation_is)
+        ap (λ to. note_to to v) (ap (λ (g : GenerationsState). node_of g one.to (header_in p).source) same.generations ∙ source_there now)
+        ∙ (ap (λ n. response_as n (topology_at v.generations one.to).generation own) (same.last ∙ counted)
+        ∙ (ap (λ n. response_as t.count n own) (ap (λ (g : GenerationsState). (topology_at g one.to).generation) same.generations ∙ generation_is)
         ∙ ap (λ n. response_as t.count (t.generation one.to) n) (own_is ∙ id_is)))
 
     pub one_handed : one.generation ≡ t.generation one.to → (o : OutboxState) → o.sides ≡ [] → o.packets ≡ answer own p rcode [] ∷ [] → handed one.to 0 o v ≡ answer_packet t (as_sending one) rcode [] (Some p)

@@ -118,7 +118,12 @@ module _ (wire : Wire) (reached : Reached wire) (unowed : wire.due ≡ None) (q 
   honest = (settled wire h unowed).facts.honest serial q sent
 
   -- a write that comes again had the rcode of the terms
-  remembered : (p : Packet) (label : ℕ) (kind : Kind) → reading q.bytes ≡ Ok p → part_of q.bytes ≡ request label kind → q.generation ≡ t.generation q.to → is_again (judge_step (wire.layer q.to).filter (header_in p).source q.bytes) ≡ true → rcode_in (judge_step (wire.layer q.to).filter (header_in p).source q.bytes) ≡ given_by t (asked_by q)
+  abbrev Remembers : Packet → Type 0
+  Remembers p =
+      is_again (judge_step (wire.layer q.to).filter (header_in p).source q.bytes) ≡ true
+      → rcode_in (judge_step (wire.layer q.to).filter (header_in p).source q.bytes) ≡ given_by t (asked_by q)
+
+  remembered : (p : Packet) (label : ℕ) (kind : Kind) → reading q.bytes ≡ Ok p → part_of q.bytes ≡ request label kind → q.generation ≡ t.generation q.to → Remembers p
   unfolding asked_by
   remembered p label kind read part now again =
       let here = subst (λ g. IsNode (t.ids g) g q.to t.held t.last t.seen t.given None (wire.layer q.to)) (sym now) node in
@@ -126,7 +131,7 @@ module _ (wire : Wire) (reached : Reached wire) (unowed : wire.due ≡ None) (q 
       ∙ ap (λ (x : Remembered). x.rcode) (remembered_is t (wire.layer q.to) q here honest.source honest.label p label kind read part)
       ∙ ap (λ x. given_by t (asked_as x q)) (sym part)
 
-  remembered_by : (p : Packet) → PartOf p → reading q.bytes ≡ Ok p → reply_kind p ≡ None → q.generation ≡ t.generation q.to → is_again (judge_step (wire.layer q.to).filter (header_in p).source q.bytes) ≡ true → rcode_in (judge_step (wire.layer q.to).filter (header_in p).source q.bytes) ≡ given_by t (asked_by q)
+  remembered_by : (p : Packet) → PartOf p → reading q.bytes ≡ Ok p → reply_kind p ≡ None → q.generation ≡ t.generation q.to → Remembers p
   remembered_by p (asks label kind part none) read e now again = remembered p label kind read (part_read q.bytes p read ∙ part) now again
   remembered_by p (replies label kind part some) read e now again = absurd (let no : Some _ ≡ None = sym some ∙ e in cc)
 

@@ -65,6 +65,10 @@ login_test offset = fifo_test offset && not (offset == 0x12002000) && not (offse
 abbrev open_test : (logins : ℕ) (out : Bool) (offset : ℕ) → Bool
 open_test logins out offset = not out && not (logins == 0) && (offset + 0x20 == login_fifo logins)
 
+-- which FIFO it is by the tests for a place, an open login and a login
+abbrev fifo_by : (first second is_open of_login : Bool) → Option Fifo
+fifo_by first second is_open of_login = cond (first || second) (Some fifos.Place) (cond is_open (Some fifos.Login) (cond of_login (Some fifos.Closed) None))
+
 fifo_is : (logins : ℕ) (out : Bool) (offset : ℕ) → logins ≤ 2 ^ 32 → AtFifo (fifo_at logins out offset) (is_fifo offset) (law.is_login_fifo offset) (open_test logins out offset)
 unfolding fifo_at is_fifo
 fifo_is logins out offset few = by_tests (offset == place_fifo 0) (offset == place_fifo 1) (is_open_login logins out offset) (is_login_fifo offset) refl refl refl refl
@@ -78,7 +82,7 @@ fifo_is logins out offset few = by_tests (offset == place_fifo 0) (offset == pla
         let here : offset ≡ 0x1300_0000 + 0x20 * (logins - 1) = omega arith in
         absurd (grind (arith, nat_tests))
 
-    by_tests : (a b c d : Bool) → (offset == place_fifo 0) ≡ a → (offset == place_fifo 1) ≡ b → is_open_login logins out offset ≡ c → is_login_fifo offset ≡ d → AtFifo (cond (a || b) (Some fifos.Place) (cond c (Some fifos.Login) (cond d (Some fifos.Closed) None))) (fifo_test offset) (login_test offset) (open_test logins out offset)
+    by_tests : (a b c d : Bool) → (offset == place_fifo 0) ≡ a → (offset == place_fifo 1) ≡ b → is_open_login logins out offset ≡ c → is_login_fifo offset ≡ d → AtFifo (fifo_by a b c d) (fifo_test offset) (login_test offset) (open_test logins out offset)
     by_tests true b c d f g h k = (grind (arith, nat_tests), grind (arith, nat_tests))
     by_tests false true c d f g h k = (grind (arith, nat_tests), grind (arith, nat_tests))
     by_tests false false true d f g h k =

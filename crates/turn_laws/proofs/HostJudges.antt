@@ -33,7 +33,7 @@ use Rattle.sbp_world.proofs.Agents.Management.Still.{hist}
 use Rattle.sbp_world.proofs.Hosts.Answering.{answer, responds}
 use Rattle.sbp_world.proofs.Hosts.Statuses.Hearing.{noted}
 use Rattle.sbp_world.proofs.Wire.Holding.{to_target}
-use Rattle.turn_laws.proofs.AnswerNotes.{generation_is, none_handed, one_handed}
+use Rattle.turn_laws.proofs.AnswerNotes.{SameBus, generation_is, none_handed, one_handed}
 use Rattle.turn_laws.proofs.FoundRows.{Asks, RowFor}
 use Rattle.turn_laws.proofs.Handed.{handed}
 use Rattle.turn_laws.proofs.HostFacts.{judging_same, one_kind}
@@ -44,7 +44,7 @@ responds_silent : (p : Packet) (bytes : List ℕ) (rcode : ℕ) (given : List �
 unfolding answering_step
 responds_silent p bytes rcode given turn = refl
 
-module _ (units ready : ℕ) (start : List Disk) (past : List Moment) (s : Scene) (here : Place units ready start past s) (serial : ℕ) (one : Sent) (found : found_sent serial s.world.store.kept ≡ Some one) (i : ℕ) (to_is : one.to ≡ suc i) (inside : i < length s.world.initiators) (v : WorldState) (same_last : v.store.last ≡ s.world.store.last) (same_generations : v.generations ≡ s.world.generations) where
+module _ (units ready : ℕ) (start : List Disk) (past : List Moment) (s : Scene) (here : Place units ready start past s) (serial : ℕ) (one : Sent) (found : found_sent serial s.world.store.kept ≡ Some one) (i : ℕ) (to_is : one.to ≡ suc i) (inside : i < length s.world.initiators) (v : WorldState) (bus : SameBus s.world v) where
   abbrev old : InitiatorState
   old = initiator_at s.world i
 
@@ -70,7 +70,7 @@ module _ (units ready : ℕ) (start : List Disk) (past : List Moment) (s : Scene
   one_answer : (p : Packet) (rcode own : ℕ) → reading one.bytes ≡ Ok p → one.generation ≡ t.generation one.to → own ≡ old.layer.node → (o : OutboxState) → o.sides ≡ [] → o.packets ≡ answer own p rcode [] ∷ [] → handed (suc i) 0 o v ≡ answer_packet t q rcode [] (Some p)
   one_answer p rcode own read now own_is o sides_are packets_are =
       ap (λ n. handed n 0 o v) (sym to_is)
-      ∙ one_handed s.world stands serial one found there p read v same_last same_generations rcode own (own_is ∙ ap (λ n. (layers_of s.world n).node) (sym to_is)) now o sides_are packets_are
+      ∙ one_handed s.world stands serial one found there p read v bus rcode own (own_is ∙ ap (λ n. (layers_of s.world n).node) (sym to_is)) now o sides_are packets_are
 
   -- ---- the request is the target's by the terms where it is by the ID that the initiator has of it
   abbrev ids : ℕ → ℕ

@@ -1,5 +1,5 @@
 -- The judgement law holds of every run: a delivery is judged by the first row that holds on the terms before it, and where it is ignored its turn has the answer of that row alone. No other turn judges.
-use Rattle.std.proofs.Common.{◌≡◌, ap, ◌∙◌, ℕ, ◌<◌, ◌≤◌, arith, subst, sym, Bool, true, false, List, [], length, Some}
+use Rattle.std.proofs.Common.{◌≡◌, refl, ap, ◌∙◌, ℕ, ◌<◌, ◌≤◌, arith, subst, sym, Bool, true, false, List, [], length, Some}
 use Rattle.label_table.specs.Layer.{Layer, judging_step}
 use Rattle.bus_transactions.specs.Bare.{bare}
 use Rattle.bus_transactions.specs.Wire.{as_sending}
@@ -20,7 +20,7 @@ use Rattle.sbp_world.specs.Worlds.{WorldState, initiator_at, with_initiator, wit
 use Rattle.sbp_world.proofs.Agents.Management.Holding.{past_terms, was_sent}
 use Rattle.sbp_world.proofs.Agents.Management.Still.{hist}
 use Rattle.turn_laws.specs.Judgement.{JudgementRunLaw}
-use Rattle.turn_laws.proofs.AnswerNotes.{marked_generations, marked_last}
+use Rattle.turn_laws.proofs.AnswerNotes.{judged_bus}
 use Rattle.turn_laws.proofs.Calls.{Cases}
 use Rattle.turn_laws.proofs.FoundRows.{RowFor, row_for}
 use Rattle.turn_laws.proofs.HostJudges.{host_acts}
@@ -51,7 +51,7 @@ module _ (units ready : ℕ) (has : 0 < units) (start : List Disk) where
         let inside : one.to ≤ length s.world.initiators = subst (λ n. n ≤ length s.world.initiators) (sym zero_to) (omega arith) in
         let row = row_there s.world stands serial one found inside s.world.target.layer (ap (layers_of s.world) zero_to) in
         follows start (hist past s.world) serial (as_sending one) (was_sent s.world stands serial one found) s.world.target.layer.node (judging_step s.world.target.layer one.generation one.bytes) x.0 _ row
-        (target_acts units ready has start past s here serial one found zero_to run v (marked_last serial again u) (marked_generations serial again u) row);
+        (target_acts units ready has start past s here serial one found zero_to run v (judged_bus (judged_note serial x.0) serial again s.world u (record { last = refl; generations = refl })) row);
     heard_own = λ past s serial again one i found to_is inside own here behind judged.
         let stands = here.holds.sound.stands in
         let old = initiator_at s.world i in
@@ -61,7 +61,7 @@ module _ (units ready : ℕ) (has : 0 < units) (start : List Disk) where
         let there : one.to ≤ length s.world.initiators = omega (arith, to_is, inside) in
         let row = row_there s.world stands serial one found there old.layer (ap (layers_of s.world) to_is) in
         follows start (hist past s.world) serial (as_sending one) (was_sent s.world stands serial one found) old.layer.node (judging_step old.layer one.generation one.bytes) x.0 _ row
-        (host_acts units ready start past s here serial one found i to_is inside v (marked_last serial again u) (marked_generations serial again u) row);
+        (host_acts units ready start past s here serial one found i to_is inside v (judged_bus (judged_note serial x.0) serial again s.world u (record { last = refl; generations = refl })) row);
     late = λ past s serial request done t found node_is e others here behind judged. tt;
     late_own = λ past s serial request i outbox state found node_is inside e own here behind judged. tt;
     sees = λ past s others here behind judged. tt;

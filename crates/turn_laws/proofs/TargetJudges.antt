@@ -43,7 +43,7 @@ use Rattle.sbp_target.proofs.Histories.Rowing.{row_law}
 use Rattle.sbp_world.proofs.Agents.CrewFirsts.{access_there, agrees}
 use Rattle.sbp_world.proofs.Agents.Management.Holding.{is_of}
 use Rattle.sbp_world.proofs.Agents.Management.Still.{hist}
-use Rattle.turn_laws.proofs.AnswerNotes.{none_handed, one_handed}
+use Rattle.turn_laws.proofs.AnswerNotes.{SameBus, none_handed, one_handed}
 use Rattle.turn_laws.proofs.FoundRows.{Asks, RowFor}
 use Rattle.turn_laws.proofs.Handed.{handed}
 use Rattle.turn_laws.proofs.Places.{Place}
@@ -75,7 +75,7 @@ answered_packets : (p : Packet) (bytes : List ℕ) (rcode : ℕ) (given : List �
 unfolding answer_step answering_step
 answered_packets p bytes rcode given s = refl
 
-module _ (units ready : ℕ) (has : 0 < units) (start : List Disk) (past : List Moment) (s : Scene) (here : Place units ready start past s) (serial : ℕ) (one : Sent) (found : found_sent serial s.world.store.kept ≡ Some one) (zero_to : one.to ≡ 0) (run : Option Told) (v : WorldState) (same_last : v.store.last ≡ s.world.store.last) (same_generations : v.generations ≡ s.world.generations) where
+module _ (units ready : ℕ) (has : 0 < units) (start : List Disk) (past : List Moment) (s : Scene) (here : Place units ready start past s) (serial : ℕ) (one : Sent) (found : found_sent serial s.world.store.kept ≡ Some one) (zero_to : one.to ≡ 0) (run : Option Told) (v : WorldState) (bus : SameBus s.world v) where
   abbrev node : NodeState
   node = s.world.target
 
@@ -98,7 +98,7 @@ module _ (units ready : ℕ) (has : 0 < units) (start : List Disk) (past : List 
   one_answer : (p : Packet) (rcode own : ℕ) → reading one.bytes ≡ Ok p → one.generation ≡ t.generation one.to → own ≡ node.layer.node → (o : OutboxState) → o.sides ≡ [] → o.packets ≡ response_of own p rcode [] ∷ [] → handed 0 0 o v ≡ answer_packet t q rcode [] (Some p)
   one_answer p rcode own read now own_is o sides_are packets_are =
       ap (λ n. handed n 0 o v) (sym zero_to)
-      ∙ one_handed s.world stands serial one found (subst (λ n. n ≤ length s.world.initiators) (sym zero_to) (omega arith)) p read v same_last same_generations rcode own (own_is ∙ ap (λ n. (layers_of s.world n).node) (sym zero_to)) now o sides_are packets_are
+      ∙ one_handed s.world stands serial one found (subst (λ n. n ≤ length s.world.initiators) (sym zero_to) (omega arith)) p read v bus rcode own (own_is ∙ ap (λ n. (layers_of s.world n).node) (sym zero_to)) now o sides_are packets_are
 
   -- ---- the register of a request is of another login by the terms as it is by the target's own table
   same : Agrees (office_of target) node
