@@ -32,6 +32,7 @@ side_rank (sides.Dead place cause) = 6
 side_rank (sides.Unsolicited place) = 7
 side_rank (sides.Unsent place) = 7
 
+-- the ranks of what is told rise
 abbrev pub InRanks : ℕ → List Side → ℕ → Type 0
 InRanks r told_sides top = Rises side_rank r told_sides top
 

@@ -114,7 +114,7 @@ Takes first = Rises note_rank 0 (block_notes first) 10
 module _ (s : InitiatorState) where
   taken_first : (found : Option TicketParts) (kind : StatusKind) (lists : ListState) → Takes (taken_of found kind lists s.number)
   taken_first None kind lists = at_ten
-  taken_first (Some t) kind lists = (let low : 0 ≤ 9 = omega arith in low, let high : 9 ≤ 10 = omega arith in high)
+  taken_first (Some t) kind lists = (omega arith, omega arith)
 
   kind_first : (kind : StatusKind) (block : StatusBlock) → Takes (taken_by kind block s)
   kind_first (kinds.Management code) block = at_ten
@@ -122,7 +122,7 @@ module _ (s : InitiatorState) where
 
   brought_first : (b : Brought) → Takes (block_note b s)
   brought_first nothing = at_ten
-  brought_first unsolicited = (let low : 0 ≤ 8 = omega arith in low, let high : 8 ≤ 10 = omega arith in high)
+  brought_first unsolicited = (omega arith, omega arith)
   brought_first (status block) = kind_first block.kind block
 
 module _ (ready : Bool) (i : ℕ) (s : InitiatorState) (h : IsCalled ready i s) (generation : ℕ) (bytes : List ℕ) where

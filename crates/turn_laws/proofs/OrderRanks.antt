@@ -201,9 +201,9 @@ abbrev sends_if : Note → List Note → Bool → List Note
 sends_if note later b = cond b (note ∷ sends_of later) (sends_of later)
 
 -- behind a packet stand packets alone
-pub record AreSends (ns : List Note) : Type 0 where
-  pub effects : effects_of ns ≡ []
-  pub sends : sends_of ns ≡ ns
+record AreSends (ns : List Note) : Type 0 where
+  effects : effects_of ns ≡ []
+  sends : sends_of ns ≡ ns
 
 sends_alone : (ns : List Note) → Rises note_rank 11 ns 11 → AreSends ns
 sends_alone [] h = record { effects = refl; sends = refl }
@@ -218,6 +218,7 @@ sends_alone (note ∷ later) h =
       sends = ap (sends_if note later) sent ∙ ap (λ ns. note ∷ ns) rest.sends;
     }
 
+-- effects of rising ranks, and packets behind them
 record Splits (r : ℕ) (ns : List Note) : Type 0 where
   effects : Rises note_rank r (effects_of ns) 10
   first : ns ≡ effects_of ns ++ sends_of ns
