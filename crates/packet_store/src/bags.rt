@@ -92,14 +92,32 @@ impl Bags {
         }
     }
 
-    /// A key under a transaction other than one, if there is one.
+    /// Takes a key other than one out from under a transaction, if there is one, and the bag with its
+    /// last key.
     #[tactic(auto, unfolding(crate::specs::Bags::times))]
-    pub(crate) fn other(&self, transaction: &Transaction, except: Option<usize>) -> Option<usize>
-        ensures found { IfSome result (λ k. (0 < times self.now transaction.now k) × (except ≢ Some k)) }
-        ensures none { IfNone result ((k : ℕ) → 0 < times self.now transaction.now k → except ≡ Some k) }
+    pub(crate) fn take_other(
+        &mut self,
+        transaction: &Transaction,
+        except: Option<usize>,
+    ) -> Option<usize>
+        requires { AreFull self.old }
+        ensures found { IfSome result (λ k. (0 < times self.old transaction.now k) × (except ≢ Some k)) }
+        ensures less { IfSome result (λ key. (t : Transaction) (k : ℕ) → times self.new t k ≡ times self.old t k - one_if (is_same transaction.now t && (key == k))) }
+        ensures none { IfNone result ((k : ℕ) → 0 < times self.old transaction.now k → except ≡ Some k) }
+        ensures same { IfNone result ((t : Transaction) (k : ℕ) → times self.new t k ≡ times self.old t k) }
+        ensures full { AreFull self.new }
     {
-        let bag = self.bags.get(transaction)?;
-        other_of(bag.as_slice(), except)
+        let Some(bag) = self.bags.get_mut(transaction) else {
+            return None;
+        };
+        let Some(key) = other_of(bag.as_slice(), except) else {
+            return None;
+        };
+        take_out(bag, key, &mut self.spots);
+        if bag.is_empty() {
+            self.bags.remove(transaction);
+        }
+        Some(key)
     }
 }
 

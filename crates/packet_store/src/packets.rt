@@ -136,13 +136,19 @@ impl Packets {
         false
     }
 
-    /// A serial of a transaction other than one, if there is one.
-    pub(crate) fn other(&self, transaction: &Transaction, serial: u64) -> Option<u64>
-        requires { Exact self.now }
-        ensures found { IfSome result (λ s. (is_among transaction.now (holds self.now s) ≡ true) × (s ≢ serial)) }
-        ensures none { IfNone result ((q : ℕ) → q ≢ serial → is_among transaction.now (holds self.now q) ≡ false) }
+    /// Takes out a packet of a transaction under another serial than one, if there is one.
+    pub(crate) fn take_other(&mut self, transaction: &Transaction, serial: u64) -> Option<Kept>
+        requires { Exact self.old }
+        ensures found { IfSome result (λ k. (is_among transaction.now (holds self.old k.serial) ≡ true) × ((k.serial ≢ serial) × (holds self.old k.serial ≡ Some k))) }
+        ensures removed { IfSome result (λ k. (q : ℕ) → holds self.new q ≡ (if k.serial == q then None else holds self.old q)) }
+        ensures none { IfNone result ((q : ℕ) → q ≢ serial → is_among transaction.now (holds self.old q) ≡ false) }
+        ensures same { IfNone result ((q : ℕ) → holds self.new q ≡ holds self.old q) }
+        ensures exact { Exact self.new }
     {
-        let key = self.bags.other(transaction, self.key_of(serial))?;
-        Some(self.slab.get(key)?.serial)
+        let except = self.key_of(serial);
+        let key = self.bags.take_other(transaction, except)?;
+        let kept = self.slab.try_remove(key)?;
+        self.ring.take(kept.serial);
+        Some(kept)
     }
 }

@@ -1,6 +1,6 @@
 ghost use Rattle.std.specs.Prelude.{◌≡◌, ℕ, ◌^◌, ◌<◌, ◌≤◌, ◌==◌, if◌then◌else◌, length, false, true, None, Some, OnOk, OnErr, IfSome, IfNone};
 ghost use Rattle.std.specs.Option.{option_copied};
-ghost use Rattle.packet_store.specs.Rings.{slot_of, slot, is_of, finds, IsRing};
+ghost use Rattle.packet_store.specs.Rings.{slot_of, slot, is_of, older, finds, IsRing};
 
 use crate::transaction::Transaction;
 use sbp_base::NoMemory;
@@ -90,6 +90,15 @@ impl Ring {
         if self.is_in_slot(serial) {
             return self.slot(slot_of(serial));
         }
+        self.get_older(serial)
+    }
+
+    /// The place of a serial among the older ones.
+    #[cold]
+    #[inline(never)]
+    fn get_older(&self, serial: u64) -> Option<&Place>
+        ensures { option_copied result ≡ older self.now.older.entries serial }
+    {
         self.older.get(&serial)
     }
 
