@@ -1,6 +1,6 @@
 -- The fields of a shelf fit each other after each change of its packets.
 use Rattle.std.proofs.Common.{◌≡◌, ◌∙◌, refl, sym, subst, ap, ℕ, ◌+◌, ◌-◌, ◌<◌, ◌≤◌, Bool, true, false, List, [], ◌∷◌, ◌++◌, length, None, Some, cond, arith, length-append}
-use Rattle.std.specs.Prelude.{◌≢◌, ◌==◌, nat_lt, Option, IfSome, IfNone}
+use Rattle.std.specs.Prelude.{◌≢◌, ◌==◌, nat_lt, Option, IfNone}
 use Rattle.std.proofs.lemmas.Bool.Decides.{nat_tests}
 use Rattle.packet_store.specs.declared.sent.Kept.{Kept}
 use Rattle.packet_store.specs.declared.packets.Packets.{Packets}

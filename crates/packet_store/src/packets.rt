@@ -53,13 +53,6 @@ impl Packets {
         Some(self.ring.get(serial)?.key)
     }
 
-    /// Whether the packet of a serial is in flight.
-    pub(crate) fn is_flying(&self, serial: u64) -> bool
-        ensures { result ≡ in_air (holds self.now serial) }
-    {
-        matches!(self.get(serial), Some(kept) if kept.in_flight)
-    }
-
     /// The lowest serial in flight above one, up to the last one.
     pub(crate) fn next_flying(&self, serial: u64, last: u64) -> Option<u64>
         ensures found { IfSome result (λ s. IsNext (holds self.now) serial s) }
@@ -68,7 +61,7 @@ impl Packets {
         let mut at = serial;
         while at < last {
             at += 1;
-            if self.is_flying(at) {
+            if matches!(self.get(at), Some(kept) if kept.in_flight) {
                 return Some(at);
             }
         }

@@ -90,15 +90,6 @@ impl Ring {
         if self.is_in_slot(serial) {
             return self.slot(slot_of(serial));
         }
-        self.get_older(serial)
-    }
-
-    /// The place of a serial among the older ones.
-    #[cold]
-    #[inline(never)]
-    fn get_older(&self, serial: u64) -> Option<&Place>
-        ensures { option_copied result ≡ older self.now.older.entries serial }
-    {
         self.older.get(&serial)
     }
 
@@ -147,6 +138,17 @@ impl Ring {
         if self.is_in_slot(serial) {
             return self.slots[slot_of(serial)].take();
         }
+        self.take_older(serial)
+    }
+
+    /// Takes out the place of a serial from among the older ones.
+    #[cold]
+    #[inline(never)]
+    fn take_older(&mut self, serial: u64) -> Option<Place>
+        ensures taken { result ≡ older self.old.older.entries serial }
+        ensures removed { (q : ℕ) → older self.new.older.entries q ≡ (if serial == q then None else older self.old.older.entries q) }
+        ensures slots { self.new.slots ≡ self.old.slots }
+    {
         self.older.remove(&serial)
     }
 }

@@ -14,9 +14,8 @@ use sbp_base::{Bytes, NoMemory};
 use std::alloc::Global;
 use std::marker::Model;
 
-/// Packets, with the serial of the last one that was put there, how many there are, and what is in
-/// flight of them. The bytes of sixteen packets that were taken out, at most, are set aside for
-/// others.
+/// Packets, with the last one's serial, how many there are, and what is in flight of them. The bytes of
+/// sixteen packets that were taken out, at most, are set aside for others.
 #[derive(Drop)]
 pub(crate) struct Shelf {
     packets: Packets,
@@ -75,7 +74,7 @@ impl Shelf {
     pub(crate) fn is_flying(&self, serial: u64) -> bool
         ensures { result ≡ in_air (found serial self.now) }
     {
-        self.packets.is_flying(serial)
+        matches!(self.get(serial), Some(kept) if kept.in_flight)
     }
 
     /// The lowest serial in flight.
@@ -138,12 +137,9 @@ impl Shelf {
         ensures none { IfNone result ((q : ℕ) → q ≢ serial → is_among transaction.now (found q self.old) ≡ false) }
         ensures same { IfNone result (self.new ≡ self.old) }
     {
-        let Some(kept) = self.packets.take_other(transaction, serial) else {
-            return None;
-        };
+        let kept = self.packets.take_other(transaction, serial)?;
         self.count -= 1;
-        let gone = kept.serial;
-        let flew = kept.in_flight;
+        let (gone, flew) = (kept.serial, kept.in_flight);
         set_aside(&mut self.spares, kept.sent.bytes);
         if flew {
             self.flights.land(&self.packets, gone, self.last);

@@ -1,4 +1,4 @@
-use Rattle.std.proofs.Common.{rules, ◌≡◌, ◌∙◌, refl, ap, subst, sym, ℕ, ◌-◌, ◌<◌, List, length, None, Some, cond}
+use Rattle.std.proofs.Common.{rules, ◌≡◌, ◌∙◌, refl, subst, sym, ℕ, ◌-◌, ◌<◌, List, length, None, Some, cond}
 use Rattle.std.specs.Prelude.{◌==◌}
 use Rattle.std.specs.Map.{lookup}
 use Rattle.packet_store.specs.declared.transaction.Transaction.{Transaction}
@@ -10,13 +10,13 @@ use Rattle.packet_store.proofs.bags.Bags.take_other.Goals as goal
 pub returns-in_default-other_of-clause-none : goal.returns-in_default-other_of-clause-none
 unfolding times
 returns-in_default-other_of-clause-none c =
-    let b : bag_at c.args.self.now.bags.entries c.args.transaction.now ≡ c.as_slice.result.now = search rules in
+    let b : bag_at c.args.self.now.bags.entries c.args.of.now ≡ c.as_slice.result.now = search rules in
     subst (λ (xs : List ℕ). (k : ℕ) → 0 < count_of k xs → c.args.except ≡ Some k) (sym b) c.in_default-other_of.ensures.none
 
 pub returns-in_default-other_of-clause-same : goal.returns-in_default-other_of-clause-same
 unfolding times
 returns-in_default-other_of-clause-same c = λ t k.
-    let u = c.args.transaction.now in
+    let u = c.args.of.now in
     let bag = c.in-Some.bag.now in
     let old = c.args.self.now.bags.entries in
     let was : lookup (is_same u) old ≡ Some bag = search rules in
@@ -25,7 +25,7 @@ returns-in_default-other_of-clause-same c = λ t k.
 
 pub returns-in_default-other_of-clause-full : goal.returns-in_default-other_of-clause-full
 returns-in_default-other_of-clause-full c =
-    let u = c.args.transaction.now in
+    let u = c.args.of.now in
     let bag = c.in-Some.bag.now in
     let old = c.args.self.now.bags.entries in
     let was : lookup (is_same u) old ≡ Some bag = search rules in
@@ -35,7 +35,7 @@ returns-in_default-other_of-clause-full c =
 pub returns-then-is_empty-clause-less : goal.returns-then-is_empty-clause-less
 unfolding times
 returns-then-is_empty-clause-less c = λ t k.
-    let u = c.args.transaction.now in
+    let u = c.args.of.now in
     let bag = c.in-Some.bag.now in
     let key = c.in-Some-other_of.key in
     let old = c.args.self.now.bags.entries in
@@ -47,14 +47,14 @@ returns-then-is_empty-clause-less c = λ t k.
 
 pub returns-then-is_empty-clause-full : goal.returns-then-is_empty-clause-full
 returns-then-is_empty-clause-full c =
-    let u = c.args.transaction.now in
+    let u = c.args.of.now in
     let old = c.args.self.now.bags.entries in
     let up : (q : Transaction) → lookup (is_same q) c.remove.new.self.entries ≡ cond (is_same u q) None (lookup (is_same q) old) = λ q. search rules in
     record { key = full_after (λ q. lookup (is_same q) old) (λ q. lookup (is_same q) c.remove.new.self.entries) u None (λ x e. cc e) c.requires.key up }
 
 pub returns-else-is_empty-clause-full : goal.returns-else-is_empty-clause-full
 returns-else-is_empty-clause-full c =
-    let u = c.args.transaction.now in
+    let u = c.args.of.now in
     let bag = c.take_out.new.bag in
     let old = c.args.self.now.bags.entries in
     let some : 0 < length bag.items = search rules in

@@ -1,10 +1,10 @@
-use Rattle.std.proofs.Common.{rules, ◌≡◌, ◌∙◌, ap, sym, refl, ℕ, ◌-◌, ◌<◌, None, Some}
+use Rattle.std.proofs.Common.{rules, ◌≡◌, ◌∙◌, ap, refl, ℕ, ◌<◌, Some}
 use Rattle.slab.specs.Slab.{get}
 use Rattle.packet_store.specs.Bags.{times}
 use Rattle.packet_store.specs.Packets.{holds, key_in, kept_in}
 use Rattle.packet_store.specs.Rings.{finds}
 use Rattle.packet_store.specs.Transactions.{transaction_of}
-use Rattle.packet_store.proofs.Keyed.{Takes, other_found, other_none, others_of, same_tied, take_holds, take_tied}
+use Rattle.packet_store.proofs.Keyed.{Takes, other_found, other_none, others_of, take_holds, take_tied}
 use Rattle.packet_store.proofs.Shelved.{on_none}
 use Rattle.packet_store.proofs.packets.Packets.take_other.Goals as goal
 

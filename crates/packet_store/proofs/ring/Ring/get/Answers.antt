@@ -17,4 +17,4 @@ unfolding finds
 returns c =
     let s = c.args.self.now in
     let elsewhere = sym c.is_in_slot.ensures ∙ c.if-is_in_slot.false in
-    c.get_older.ensures ∙ sym (pick_other c.args.serial (slot s.slots.items (slot_of c.args.serial)) (older s.older.entries c.args.serial) elsewhere)
+    c.get.ensures.value ∙ sym (pick_other c.args.serial (slot s.slots.items (slot_of c.args.serial)) (older s.older.entries c.args.serial) elsewhere)
