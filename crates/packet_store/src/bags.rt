@@ -86,9 +86,7 @@ impl Bags {
         ensures same { IfNone result ((t : Transaction) (k : ℕ) → times self.new t k ≡ times self.old t k) }
         ensures full { AreFull self.new }
     {
-        let Some(bag) = self.bags.get_mut(of) else {
-            return None;
-        };
+        let bag = self.bags.get_mut(of)?;
         let Some(key) = other_of(bag.as_slice(), except) else {
             return None;
         };

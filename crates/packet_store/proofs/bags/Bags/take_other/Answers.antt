@@ -7,26 +7,26 @@ use Rattle.packet_store.specs.Bags.{bag_at, count_of, one_if, times}
 use Rattle.packet_store.proofs.Bagged.{full_after, key_first, key_of_some, left, no_count, written}
 use Rattle.packet_store.proofs.bags.Bags.take_other.Goals as goal
 
-pub returns-in_default-other_of-clause-none : goal.returns-in_default-other_of-clause-none
+pub returns-in_default-clause-none : goal.returns-in_default-clause-none
 unfolding times
-returns-in_default-other_of-clause-none c =
+returns-in_default-clause-none c =
     let b : bag_at c.args.self.now.bags.entries c.args.of.now ≡ c.as_slice.result.now = search rules in
-    subst (λ (xs : List ℕ). (k : ℕ) → 0 < count_of k xs → c.args.except ≡ Some k) (sym b) c.in_default-other_of.ensures.none
+    subst (λ (xs : List ℕ). (k : ℕ) → 0 < count_of k xs → c.args.except ≡ Some k) (sym b) c.in_default.ensures.none
 
-pub returns-in_default-other_of-clause-same : goal.returns-in_default-other_of-clause-same
+pub returns-in_default-clause-same : goal.returns-in_default-clause-same
 unfolding times
-returns-in_default-other_of-clause-same c = λ t k.
+returns-in_default-clause-same c = λ t k.
     let u = c.args.of.now in
-    let bag = c.in-Some.bag.now in
+    let bag = c.in_ok-bag.bag.now in
     let old = c.args.self.now.bags.entries in
     let was : lookup (is_same u) old ≡ Some bag = search rules in
     let up : (q : Transaction) → lookup (is_same q) (c.get_mut.follows.lender bag).entries ≡ cond (is_same u q) (Some bag) (lookup (is_same q) old) = λ q. search rules in
     written (λ q. lookup (is_same q) old) (λ q. lookup (is_same q) (c.get_mut.follows.lender bag).entries) u bag bag t k was refl up
 
-pub returns-in_default-other_of-clause-full : goal.returns-in_default-other_of-clause-full
-returns-in_default-other_of-clause-full c =
+pub returns-in_default-clause-full : goal.returns-in_default-clause-full
+returns-in_default-clause-full c =
     let u = c.args.of.now in
-    let bag = c.in-Some.bag.now in
+    let bag = c.in_ok-bag.bag.now in
     let old = c.args.self.now.bags.entries in
     let was : lookup (is_same u) old ≡ Some bag = search rules in
     let up : (q : Transaction) → lookup (is_same q) (c.get_mut.follows.lender bag).entries ≡ cond (is_same u q) (Some bag) (lookup (is_same q) old) = λ q. search rules in
@@ -36,8 +36,8 @@ pub returns-then-is_empty-clause-less : goal.returns-then-is_empty-clause-less
 unfolding times
 returns-then-is_empty-clause-less c = λ t k.
     let u = c.args.of.now in
-    let bag = c.in-Some.bag.now in
-    let key = c.in-Some-other_of.key in
+    let bag = c.in_ok-bag.bag.now in
+    let key = c.in-Some.key in
     let old = c.args.self.now.bags.entries in
     let was : lookup (is_same u) old ≡ Some bag = search rules in
     let none : length c.take_out.new.bag.items ≡ 0 = search rules in
