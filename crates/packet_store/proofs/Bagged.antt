@@ -78,7 +78,7 @@ alike g r p l g2 r2 p2 l2 a b c d =
     ap (λ x. made x r p l) a ∙ ap (λ x. made g2 x p l) b ∙ ap (λ x. made g2 r2 x l) c ∙ ap (λ x. made g2 r2 p2 x) d
 
 -- the same transactions are one
-same_is : (u t : Transaction) → is_same u t ≡ true → u ≡ t
+pub same_is : (u t : Transaction) → is_same u t ≡ true → u ≡ t
 same_is u t e =
     let a = and_parts (u.generation == t.generation) _ e in
     let b = and_parts (u.requester == t.requester) _ a.1 in
@@ -106,6 +106,23 @@ written_by f g u bag after t k false e was same h = ap (λ o. count_of k (keys_o
 
 pub written : (f g : Transaction → Option (SmallVec ℕ)) (u : Transaction) (bag after : SmallVec ℕ) (t : Transaction) (k : ℕ) → f u ≡ Some bag → count_of k after.items ≡ count_of k bag.items → ((q : Transaction) → g q ≡ cond (is_same u q) (Some after) (f q)) → count_of k (keys_of (g t)) ≡ count_of k (keys_of (f t))
 written f g u bag after t k was same h = written_by f g u bag after t k (is_same u t) refl was same (h t)
+
+pub no_count : (keys : List ℕ) (k : ℕ) → length keys ≡ 0 → 0 ≡ count_of k keys
+no_count [] k e = refl
+no_count (x ∷ xs) k e = cc e
+
+-- a bag, or none, in place of one with a key more
+left_by : (f g : Transaction → Option (SmallVec ℕ)) (u : Transaction) (bag : SmallVec ℕ) (o : Option (SmallVec ℕ)) (key : ℕ) (t : Transaction) (k : ℕ) (b : Bool) → is_same u t ≡ b → f u ≡ Some bag → count_of k (keys_of o) ≡ count_of k bag.items - one_if (key == k) → g t ≡ cond b o (f t) → count_of k (keys_of (g t)) ≡ count_of k (keys_of (f t)) - one_if (b && (key == k))
+left_by f g u bag o key t k true e was less h =
+    let n : count_of k (keys_of (g t)) ≡ count_of k (keys_of o) = ap (λ x. count_of k (keys_of x)) h in
+    let m : count_of k (keys_of (f t)) ≡ count_of k bag.items = ap (λ v. count_of k (keys_of (f v))) (sym (same_is u t e)) ∙ ap (λ x. count_of k (keys_of x)) was in
+    omega (arith, n, m, less)
+left_by f g u bag o key t k false e was less h =
+    let n = ap (λ x. count_of k (keys_of x)) h in
+    omega (arith, n)
+
+pub left : (f g : Transaction → Option (SmallVec ℕ)) (u : Transaction) (bag : SmallVec ℕ) (o : Option (SmallVec ℕ)) (key : ℕ) (t : Transaction) (k : ℕ) → f u ≡ Some bag → count_of k (keys_of o) ≡ count_of k bag.items - one_if (key == k) → ((q : Transaction) → g q ≡ cond (is_same u q) o (f q)) → count_of k (keys_of (g t)) ≡ count_of k (keys_of (f t)) - one_if (is_same u t && (key == k))
+left f g u bag o key t k was less h = left_by f g u bag o key t k (is_same u t) refl was less (h t)
 
 pub on_error_of : {A E : Type 0} {X Y : Type 0} (r : Result A E) → OnErr r X → (X → Y) → OnErr r Y
 on_error_of (Ok a) x f = tt

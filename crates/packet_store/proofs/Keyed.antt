@@ -5,10 +5,11 @@ use Rattle.slab.specs.Slab.{Slab, get}
 use Rattle.packet_store.specs.declared.sent.Kept.{Kept}
 use Rattle.packet_store.specs.declared.ring.Place.{Place}
 use Rattle.packet_store.specs.declared.transaction.Transaction.{Transaction}
-use Rattle.packet_store.specs.Transactions.{belongs, is_that, transaction_of}
+use Rattle.packet_store.specs.Transactions.{belongs, is_same, is_that, transaction_of}
 use Rattle.packet_store.specs.Kept.{marked}
 use Rattle.packet_store.specs.Bags.{one_if}
 use Rattle.packet_store.specs.Packets.{AreTied, is_among, kept_in, key_in}
+use Rattle.packet_store.proofs.Bagged.{same_is}
 use Rattle.packet_store.proofs.Same.{and_false, and_true, differs, equal_of, same_test, unequal_of}
 use Rattle.std.proofs.lemmas.Option.{same_Some}
 
@@ -316,3 +317,12 @@ other_none_by slab f m t s q (Some x) true e h ties all ne =
 
 pub other_none : (slab : Slab Kept) (f : ℕ → Option Place) (m : Transaction → ℕ → ℕ) (t : Transaction) (s q : ℕ) → AreTied slab f m → ((key : ℕ) → 0 < m t key → key_in (f s) ≡ Some key) → q ≢ s → is_among t (kept_in slab (key_in (f q))) ≡ false
 other_none slab f m t s q ties all ne = other_none_by slab f m t s q (f q) (is_among t (kept_in slab (key_in (f q)))) refl refl ties all ne
+
+-- a key under a transaction less is one less of the packet that belongs to it
+less_of : (m n : Transaction → ℕ → ℕ) (t : Transaction) (key : ℕ) (o : Option Transaction) → is_that t o ≡ true → ((u : Transaction) (j : ℕ) → n u j ≡ m u j - one_if (is_same t u && (key == j))) → (u : Transaction) (j : ℕ) → n u j ≡ m u j - one_if (is_that u o && (key == j))
+less_of m n t key None b h u j = cc b
+less_of m n t key (Some v) b h u j = subst (λ (w : Transaction). n u j ≡ m u j - one_if (is_same w u && (key == j))) (sym (same_is v t b)) (h u j)
+
+pub others_of : (slab : Slab Kept) (f : ℕ → Option Place) (m n : Transaction → ℕ → ℕ) (t : Transaction) (key : ℕ) (k : Kept) → AreTied slab f m → get slab key ≡ Some k → 0 < m t key → ((u : Transaction) (j : ℕ) → n u j ≡ m u j - one_if (is_same t u && (key == j))) → (u : Transaction) (j : ℕ) → n u j ≡ m u j - one_if (is_that u (transaction_of k.sent) && (key == j))
+unfolding belongs
+others_of slab f m n t key k ties h l less = less_of m n t key (transaction_of k.sent) (among_of slab f m t key (Some k) h ties l) less

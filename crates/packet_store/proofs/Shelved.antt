@@ -1,16 +1,17 @@
 -- The fields of a shelf fit each other after each change of its packets.
 use Rattle.std.proofs.Common.{◌≡◌, ◌∙◌, refl, sym, subst, ap, ℕ, ◌+◌, ◌-◌, ◌<◌, ◌≤◌, Bool, true, false, List, [], ◌∷◌, ◌++◌, length, None, Some, cond, arith, length-append}
-use Rattle.std.specs.Prelude.{◌==◌, nat_lt, Option, IfSome, IfNone}
+use Rattle.std.specs.Prelude.{◌≢◌, ◌==◌, nat_lt, Option, IfNone}
 use Rattle.std.proofs.lemmas.Bool.Decides.{nat_tests}
 use Rattle.packet_store.specs.declared.sent.Kept.{Kept}
 use Rattle.packet_store.specs.declared.packets.Packets.{Packets}
+use Rattle.packet_store.specs.declared.transaction.Transaction.{Transaction}
 use Rattle.packet_store.specs.declared.aloft.Flights.{Flights}
-use Rattle.packet_store.specs.Kept.{without, with_delivered, flying, in_air, AreBelow, marked}
+use Rattle.packet_store.specs.Kept.{without, with_delivered, found, flying, in_air, AreBelow, marked}
 use Rattle.packet_store.specs.Flights.{AreFlights, Landed, Least, NoneAbove, lowest_with}
-use Rattle.packet_store.specs.Packets.{holds, Exact}
+use Rattle.packet_store.specs.Packets.{holds, is_among, Exact}
 use Rattle.packet_store.specs.Shelves.{listed, IsShelf}
 use Rattle.packet_store.proofs.Airborne.{landed_count, put_count, put_least, least_same, still_count, still_least}
-use Rattle.packet_store.proofs.Listed.{Puts, none_behind, listed_same, listed_pushed, named_put, first_put, ends_put, listed_without, named_less, none_less, listed_less, listed_few, listed_delivered, named_delivered, none_delivered, delivered_length}
+use Rattle.packet_store.proofs.Listed.{Puts, found_any, none_behind, listed_same, listed_pushed, named_put, first_put, ends_put, listed_without, named_less, none_less, listed_less, listed_few, listed_delivered, named_delivered, none_delivered, delivered_length}
 
 -- ---- the same under each serial
 pub same_shelf : (packets after : Packets) (last count : ℕ) → IsShelf packets last count → Exact after → ((q : ℕ) → holds after q ≡ holds packets q) → IsShelf after last count
@@ -55,6 +56,13 @@ pushed_shelf packets after k last count i p e l b =
 -- ---- a packet less
 pub removed_list : (packets after : Packets) (s last count : ℕ) → IsShelf packets last count → ((q : ℕ) → holds after q ≡ cond (s == q) None (holds packets q)) → listed (holds after) last ≡ without s (listed (holds packets) last)
 removed_list packets after s last count i e = listed_without (holds packets) (holds after) s last i.named e
+
+-- the one that was taken out stood in the list
+pub removed_other : (packets after : Packets) (t : Transaction) (s serial last count : ℕ) (k : Kept) (ks : List Kept) → IsShelf packets last count → listed (holds packets) last ≡ ks → (is_among t (holds packets s) ≡ true) × ((s ≢ serial) × (holds packets s ≡ Some k)) → ((q : ℕ) → holds after q ≡ cond (s == q) None (holds packets q)) → (is_among t (found s ks) ≡ true) × ((s ≢ serial) × (listed (holds after) last ≡ without s ks))
+removed_other packets after t s serial last count k ks i v was e = (
+  ap (is_among t) (ap (found s) (sym v) ∙ found_any (holds packets) s last i.named i.first i.ends) ∙ was.0,
+  (was.1.0, removed_list packets after s last count i e ∙ ap (without s) v),
+)
 
 inside_by : (packets : Packets) (s last count : ℕ) (k : Kept) (b : Bool) → nat_lt last s ≡ b → IsShelf packets last count → holds packets s ≡ Some k → s ≤ last
 inside_by packets s last count k true e i h =
@@ -144,10 +152,6 @@ few_flights packets last count flights i fl =
     omega (arith, n, i.counted, fl.counted)
 
 -- ---- what an answer says, said in another way
-pub on_some : {P Q : ℕ → Type 0} (o : Option ℕ) → IfSome o P → ((s : ℕ) → P s → Q s) → IfSome o Q
-on_some None p f = tt
-on_some (Some s) p f = f s p
-
-pub on_none : {X Y : Type 0} (o : Option ℕ) → IfNone o X → (X → Y) → IfNone o Y
+pub on_none : {A X Y : Type 0} (o : Option A) → IfNone o X → (X → Y) → IfNone o Y
 on_none None x f = f x
 on_none (Some s) x f = tt

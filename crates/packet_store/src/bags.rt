@@ -34,6 +34,7 @@ impl Bags {
     }
 
     /// Adds a key under a transaction, if there is one.
+    #[tactic(auto, unfolding(crate::specs::Bags::times))]
     pub(crate) fn insert(
         &mut self,
         transaction: Option<Transaction>,
@@ -44,19 +45,9 @@ impl Bags {
         ensures failed { OnErr result ((t : Transaction) (k : ℕ) → times self.new t k ≡ times self.old t k) }
         ensures full { AreFull self.new }
     {
-        match transaction {
-            Some(transaction) => self.put(transaction, key),
-            None => Ok(()),
-        }
-    }
-
-    #[tactic(auto, unfolding(crate::specs::Bags::times))]
-    fn put(&mut self, transaction: Transaction, key: usize) -> Result<(), NoMemory>
-        requires { AreFull self.old }
-        ensures added { OnOk result ((t : Transaction) (k : ℕ) → times self.new t k ≡ one_if (is_same transaction t && (key == k)) + times self.old t k) }
-        ensures failed { OnErr result ((t : Transaction) (k : ℕ) → times self.new t k ≡ times self.old t k) }
-        ensures full { AreFull self.new }
-    {
+        let Some(transaction) = transaction else {
+            return Ok(());
+        };
         if let Some(bag) = self.bags.get_mut(&transaction) {
             return add_to(bag, key, &mut self.spots);
         }
@@ -67,22 +58,15 @@ impl Bags {
     }
 
     /// Takes a key out from under a transaction, if there is one, and the bag with its last key.
+    #[tactic(auto, unfolding(crate::specs::Bags::times))]
     pub(crate) fn remove(&mut self, transaction: Option<Transaction>, key: usize)
         requires { AreFull self.old }
         ensures less { (t : Transaction) (k : ℕ) → times self.new t k ≡ times self.old t k - one_if (is_that t transaction && (key == k)) }
         ensures full { AreFull self.new }
     {
-        if let Some(transaction) = transaction {
-            self.take(transaction, key);
-        }
-    }
-
-    #[tactic(auto, unfolding(crate::specs::Bags::times))]
-    fn take(&mut self, transaction: Transaction, key: usize)
-        requires { AreFull self.old }
-        ensures less { (t : Transaction) (k : ℕ) → times self.new t k ≡ times self.old t k - one_if (is_same transaction t && (key == k)) }
-        ensures full { AreFull self.new }
-    {
+        let Some(transaction) = transaction else {
+            return
+        };
         let Some(bag) = self.bags.get_mut(&transaction) else {
             return
         };
@@ -92,14 +76,25 @@ impl Bags {
         }
     }
 
-    /// A key under a transaction other than one, if there is one.
+    /// Takes out a key of a transaction other than one, if there is one, and the bag with its last key.
     #[tactic(auto, unfolding(crate::specs::Bags::times))]
-    pub(crate) fn other(&self, transaction: &Transaction, except: Option<usize>) -> Option<usize>
-        ensures found { IfSome result (λ k. (0 < times self.now transaction.now k) × (except ≢ Some k)) }
-        ensures none { IfNone result ((k : ℕ) → 0 < times self.now transaction.now k → except ≡ Some k) }
+    pub(crate) fn take_other(&mut self, of: &Transaction, except: Option<usize>) -> Option<usize>
+        requires { AreFull self.old }
+        ensures found { IfSome result (λ k. (0 < times self.old of.now k) × (except ≢ Some k)) }
+        ensures less { IfSome result (λ key. (t : Transaction) (k : ℕ) → times self.new t k ≡ times self.old t k - one_if (is_same of.now t && (key == k))) }
+        ensures none { IfNone result ((k : ℕ) → 0 < times self.old of.now k → except ≡ Some k) }
+        ensures same { IfNone result ((t : Transaction) (k : ℕ) → times self.new t k ≡ times self.old t k) }
+        ensures full { AreFull self.new }
     {
-        let bag = self.bags.get(transaction)?;
-        other_of(bag.as_slice(), except)
+        let bag = self.bags.get_mut(of)?;
+        let Some(key) = other_of(bag.as_slice(), except) else {
+            return None;
+        };
+        take_out(bag, key, &mut self.spots);
+        if bag.is_empty() {
+            self.bags.remove(of);
+        }
+        Some(key)
     }
 }
 

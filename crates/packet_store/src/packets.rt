@@ -53,13 +53,6 @@ impl Packets {
         Some(self.ring.get(serial)?.key)
     }
 
-    /// Whether the packet of a serial is in flight.
-    pub(crate) fn is_flying(&self, serial: u64) -> bool
-        ensures { result ≡ in_air (holds self.now serial) }
-    {
-        matches!(self.get(serial), Some(kept) if kept.in_flight)
-    }
-
     /// The lowest serial in flight above one, up to the last one.
     pub(crate) fn next_flying(&self, serial: u64, last: u64) -> Option<u64>
         ensures found { IfSome result (λ s. IsNext (holds self.now) serial s) }
@@ -68,7 +61,7 @@ impl Packets {
         let mut at = serial;
         while at < last {
             at += 1;
-            if self.is_flying(at) {
+            if matches!(self.get(at), Some(kept) if kept.in_flight) {
                 return Some(at);
             }
         }
@@ -136,13 +129,19 @@ impl Packets {
         false
     }
 
-    /// A serial of a transaction other than one, if there is one.
-    pub(crate) fn other(&self, transaction: &Transaction, serial: u64) -> Option<u64>
-        requires { Exact self.now }
-        ensures found { IfSome result (λ s. (is_among transaction.now (holds self.now s) ≡ true) × (s ≢ serial)) }
-        ensures none { IfNone result ((q : ℕ) → q ≢ serial → is_among transaction.now (holds self.now q) ≡ false) }
+    /// Takes out a packet of a transaction under another serial than one, if there is one.
+    pub(crate) fn take_other(&mut self, transaction: &Transaction, serial: u64) -> Option<Kept>
+        requires { Exact self.old }
+        ensures found { IfSome result (λ k. (is_among transaction.now (holds self.old k.serial) ≡ true) × ((k.serial ≢ serial) × (holds self.old k.serial ≡ Some k))) }
+        ensures removed { IfSome result (λ k. (q : ℕ) → holds self.new q ≡ (if k.serial == q then None else holds self.old q)) }
+        ensures none { IfNone result ((q : ℕ) → q ≢ serial → is_among transaction.now (holds self.old q) ≡ false) }
+        ensures same { IfNone result ((q : ℕ) → holds self.new q ≡ holds self.old q) }
+        ensures exact { Exact self.new }
     {
-        let key = self.bags.other(transaction, self.key_of(serial))?;
-        Some(self.slab.get(key)?.serial)
+        let except = self.key_of(serial);
+        let key = self.bags.take_other(transaction, except)?;
+        let kept = self.slab.try_remove(key)?;
+        self.ring.take(kept.serial);
+        Some(kept)
     }
 }

@@ -1,6 +1,6 @@
 ghost use Rattle.std.specs.Prelude.{◌≡◌, ℕ, ◌^◌, ◌<◌, ◌≤◌, ◌==◌, if◌then◌else◌, length, false, true, None, Some, OnOk, OnErr, IfSome, IfNone};
 ghost use Rattle.std.specs.Option.{option_copied};
-ghost use Rattle.packet_store.specs.Rings.{slot_of, slot, is_of, finds, IsRing};
+ghost use Rattle.packet_store.specs.Rings.{slot_of, slot, is_of, older, finds, IsRing};
 
 use crate::transaction::Transaction;
 use sbp_base::NoMemory;
@@ -138,6 +138,17 @@ impl Ring {
         if self.is_in_slot(serial) {
             return self.slots[slot_of(serial)].take();
         }
+        self.take_older(serial)
+    }
+
+    /// Takes out the place of a serial from among the older ones.
+    #[cold]
+    #[inline(never)]
+    fn take_older(&mut self, serial: u64) -> Option<Place>
+        ensures taken { result ≡ older self.old.older.entries serial }
+        ensures removed { (q : ℕ) → older self.new.older.entries q ≡ (if serial == q then None else older self.old.older.entries q) }
+        ensures slots { self.new.slots ≡ self.old.slots }
+    {
         self.older.remove(&serial)
     }
 }

@@ -14,8 +14,8 @@ use sbp_base::{Bytes, NoMemory};
 use std::alloc::Global;
 use std::marker::Model;
 
-/// Packets, with the serial of the last one that was put there, how many there are, and what is in
-/// flight of them. The bytes of four packets that were taken out, at most, are set aside for others.
+/// Packets, with the last one's serial, how many there are, and what is in flight of them. The bytes of
+/// sixteen packets that were taken out, at most, are set aside for others.
 #[derive(Drop)]
 pub(crate) struct Shelf {
     packets: Packets,
@@ -36,7 +36,7 @@ impl Model for Shelf {
 
     ghost view = { λ a. listed (holds a.packets) a.last };
 
-    ghost invariant = { λ a. IsShelf a.packets a.last a.count × AreFlights a.packets a.last a.flights × (length a.spares.items ≤ 4) };
+    ghost invariant = { λ a. IsShelf a.packets a.last a.count × AreFlights a.packets a.last a.flights × (length a.spares.items ≤ 16) };
 }
 
 impl Shelf {
@@ -74,7 +74,7 @@ impl Shelf {
     pub(crate) fn is_flying(&self, serial: u64) -> bool
         ensures { result ≡ in_air (found serial self.now) }
     {
-        self.packets.is_flying(serial)
+        matches!(self.get(serial), Some(kept) if kept.in_flight)
     }
 
     /// The lowest serial in flight.
@@ -89,14 +89,6 @@ impl Shelf {
         ensures { result ≡ length (flying self.now) }
     {
         self.flights.count
-    }
-
-    /// Another serial of a transaction than this one, if there is one.
-    pub(crate) fn other(&self, transaction: &Transaction, serial: u64) -> Option<u64>
-        ensures found { IfSome result (λ s. (is_among transaction.now (found s self.now) ≡ true) × (s ≢ serial)) }
-        ensures none { IfNone result ((q : ℕ) → q ≢ serial → is_among transaction.now (found q self.now) ≡ false) }
-    {
-        self.packets.other(transaction, serial)
     }
 
     /// Puts a packet, which belongs to this transaction, in flight under a new serial, from 1 on, behind
@@ -139,6 +131,22 @@ impl Shelf {
         }
     }
 
+    /// Takes out a packet of a transaction under another serial than one, if there is one; its serial.
+    pub(crate) fn remove_other(&mut self, transaction: &Transaction, serial: u64) -> Option<u64>
+        ensures removed { IfSome result (λ s. (is_among transaction.now (found s self.old) ≡ true) × ((s ≢ serial) × (self.new ≡ without s self.old))) }
+        ensures none { IfNone result ((q : ℕ) → q ≢ serial → is_among transaction.now (found q self.old) ≡ false) }
+        ensures same { IfNone result (self.new ≡ self.old) }
+    {
+        let kept = self.packets.take_other(transaction, serial)?;
+        self.count -= 1;
+        let (gone, flew) = (kept.serial, kept.in_flight);
+        set_aside(&mut self.spares, kept.sent.bytes);
+        if flew {
+            self.flights.land(&self.packets, gone, self.last);
+        }
+        Some(gone)
+    }
+
     /// Bytes of a packet that was taken out, if there are any, for their room.
     pub(crate) fn take_spare(&mut self) -> Option<Bytes>
         ensures { self.new ≡ self.old }
@@ -157,11 +165,11 @@ impl Shelf {
     }
 }
 
-/// Sets bytes aside, where they are among the first four.
+/// Sets bytes aside, where they are among the first sixteen.
 fn set_aside(spares: &mut Vec<Bytes>, bytes: Bytes)
-    ensures { length spares.old.items ≤ 4 → length spares.new.items ≤ 4 }
+    ensures { length spares.old.items ≤ 16 → length spares.new.items ≤ 16 }
 {
-    if spares.len() < 4 {
+    if spares.len() < 16 {
         let _kept = spares.push(bytes);
     }
 }

@@ -3,10 +3,10 @@ ghost use Rattle.std.specs.Option.{option_copied};
 ghost use Rattle.packet_store.specs.Kept.{flying, found_sent, is_flying, first, recent, IsLowest, NoneFlies};
 ghost use Rattle.packet_store.specs.Stored.{empty, send_step, deliver_step, lose_step};
 
-use crate::role::role_of;
+use crate::role::{Role, role_of};
 use crate::sent::Sent;
 use crate::tables::Tables;
-use crate::transaction::{begun_by, transaction_of};
+use crate::transaction::transaction_of;
 use sbp_base::{Bytes, NoMemory};
 use std::alloc::Global;
 use std::marker::Model;
@@ -54,10 +54,11 @@ impl Store {
     {
         let role = role_of(packet.bytes.as_slice());
         let transaction = transaction_of(role, &packet);
-        let begun = begun_by(role, transaction);
         self.tables.add(packet, transaction)?;
-        if let Some(transaction) = begun {
-            self.tables.withdraw(transaction);
+        if let Role::Request(_) = role {
+            if let Some(transaction) = transaction {
+                self.tables.withdraw(transaction);
+            }
         }
         self.tables.drop_aged();
         self.calls += 1;

@@ -57,9 +57,7 @@ impl Tables {
         ensures last { self.new.last ≡ self.old.last }
         ensures sound { AreKept self.new.last (self.new.last - 1025) 0 self.new.shelf }
     {
-        while let Some(serial) = self.shelf.other(&transaction, self.last) {
-            self.drop_packet(serial);
-        }
+        while let Some(_serial) = self.shelf.remove_other(&transaction, self.last) {}
     }
 
     /// Puts a packet, which belongs to this transaction, in flight under the next serial.

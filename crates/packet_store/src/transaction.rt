@@ -1,6 +1,6 @@
 ghost use Rattle.std.specs.Prelude.{◌≡◌};
 ghost use Rattle.std.specs.Hash as fed;
-ghost use Rattle.packet_store.specs.Transactions.{transaction_by, begun_as, number_of, hashed_alike};
+ghost use Rattle.packet_store.specs.Transactions.{transaction_by, number_of, hashed_alike};
 
 use crate::role::Role;
 use crate::sent::Sent;
@@ -42,16 +42,6 @@ pub(crate) fn transaction_of(role: Role, sent: &Sent) -> Option<Transaction>
         }
         Role::Response(label) => Some(between(sent, sent.to, sent.from, label)),
         Role::NoPacket => None,
-    }
-}
-
-/// The transaction that a packet of this role begins: that of a request which was not injected.
-pub(crate) fn begun_by(role: Role, transaction: Option<Transaction>) -> Option<Transaction>
-    ensures { result ≡ begun_as role transaction }
-{
-    match role {
-        Role::Request(_) => transaction,
-        _ => None,
     }
 }
 
