@@ -9,6 +9,8 @@ pub mod Gots
 pub mod Effects
 pub mod Decisions
 pub mod Cleared
+pub mod CutNotes
+pub mod Cuts
 pub mod Subjects
 pub mod Logins
 pub mod ManagedSides

@@ -1,5 +1,6 @@
 //! The laws of turns, each of every run of the machine of up to four initiators with one to four units.
 ghost use Rattle.turn_laws.specs.Cleared.{ClearedLaw};
+ghost use Rattle.turn_laws.specs.Cuts.{CutsLaw};
 ghost use Rattle.turn_laws.specs.Login.{LoginRunLaw};
 ghost use Rattle.turn_laws.specs.Packets.{PacketsLaw};
 
@@ -8,6 +9,14 @@ ghost use Rattle.turn_laws.specs.Packets.{PacketsLaw};
 #[tactic(auto, using(crate::proofs::Cleared::cleared_law))]
 pub fn units_are_cleared_where_due()
     ensures { ClearedLaw }
+{}
+
+/// In each turn of every run exactly the lists are cut whose agents AGENT_RESET, the decision of the turn or a
+/// reset that the target sees puts into RESET, by rising place, each by the name that its pointer had as it
+/// was taken, whatever anybody injected: `cuts` of the cause law.
+#[tactic(auto, using(crate::proofs::Cuts::cuts_law))]
+pub fn lists_are_cut_where_due()
+    ensures { CutsLaw }
 {}
 
 /// The login law holds of every run, whatever anybody injected: in each turn the decisions stand that are

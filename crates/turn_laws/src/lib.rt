@@ -3,4 +3,6 @@
 
 mod laws;
 
-pub use laws::{logins_are_lawful, packets_are_lawful, units_are_cleared_where_due};
+pub use laws::{
+    lists_are_cut_where_due, logins_are_lawful, packets_are_lawful, units_are_cleared_where_due,
+};
