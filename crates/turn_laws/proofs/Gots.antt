@@ -1,9 +1,10 @@
 -- What a packet that comes to the target is for, by the terms of its place: a call of the management operation.
-use Rattle.std.proofs.Common.{arith, ◌≡◌, ◌∙◌, refl, ap, ℕ, suc, ◌<◌, nat_eq, is_some, Bool, true, false, cond, List, ◌∷◌, Option, Some, None, Ok}
+use Rattle.std.proofs.Common.{arith, ◌≡◌, ◌∙◌, refl, ap, ℕ, suc, ◌<◌, nat_eq, is_some, Bool, true, false, cond, List, ◌∷◌, Option, Some, None, Result, Ok}
 use Rattle.std.proofs.lemmas.Bool.Decides.{nat_tests}
 use Rattle.async_packet.specs.Labels.{LabelParts}
 use Rattle.async_packet.specs.Packet.{Packet, header_in}
 use Rattle.async_packet.specs.Reading.{reading}
+use Rattle.async_packet.specs.declared.fault.PacketFault.{PacketFault}
 use Rattle.bus_transactions.specs.Judging.{AreJudged}
 use Rattle.bus_transactions.specs.Wire.{as_sending}
 use Rattle.label_table.specs.Layer.{Layer, judging_step, of_response}
@@ -13,6 +14,7 @@ use Rattle.packet_store.specs.declared.sent.Sent.{Sent}
 use Rattle.packet_store.specs.Kept.{found_sent}
 use Rattle.rbc_disk.specs.Disk.{Disk}
 use Rattle.sbp_bus.specs.Packets.{judged_note}
+use Rattle.sbp_journal.specs.Addresses.{access_of}
 use Rattle.sbp_journal.specs.Run.{Moment, said}
 use Rattle.sbp_journal.specs.Transactions.{Sending}
 use Rattle.sbp_journal.specs.Wire.{Terms, terms}
@@ -20,7 +22,8 @@ use Rattle.sbp_journal.specs.declared.cause.Judged.{Judged}
 use Rattle.sbp_journal.specs.declared.cause.Judged.TheVariants as judgements
 use Rattle.sbp_journal.specs.declared.note.Note.TheVariants as notes
 use Rattle.sbp_laws.specs.Management.{answer_to, answers as call_answers, call_by, got_call, no_call, source_node, start_in}
-use Rattle.sbp_laws.specs.Packets.{access_at, answer_in as term_answer, answered_at, id_for, packet_at, receiver_in, sender_in}
+use Rattle.sbp_laws.specs.Agents.{event_by, got_in, nothing, write_in}
+use Rattle.sbp_laws.specs.Packets.{access_at, access_in, answer_in as term_answer, answered_at, id_for, packet_at, packet_in, receiver_in, sender_in, spelled_by}
 use Rattle.sbp_laws.specs.Targets.{Purpose as TermPurpose, Target, for_agent, for_manager, for_nobody, is_serial, over, purpose_of, target_at}
 use Rattle.sbp_target.specs.declared.purpose.Purpose.{Purpose}
 use Rattle.sbp_target.specs.declared.purpose.Purpose.TheVariants as purposes
@@ -70,10 +73,29 @@ module _ (units ready : ℕ) (has : 0 < units) (start : List Disk) (past : List 
   own_calls_nothing i to_is judgements.Got = got_own i to_is
   own_calls_nothing i to_is (judgements.Ignored cause) = refl
 
+  -- and what it is for an agent
+  event_to : (b : Bool) → is_serial (receiver_in (wire.sent serial)) 0 ≡ b → event_by (said (notes.Got serial)) T wire ≡ cond b (got_in (answered_at wire serial) T wire serial) nothing
+  event_to b e = ap (λ x. cond x (got_in (answered_at wire serial) T wire serial) nothing) e
+
+  pub own_brings_nothing : (i : ℕ) → one.to ≡ suc i → event_by (said (notes.Got serial)) T wire ≡ nothing
+  own_brings_nothing i to_is =
+      let away : nat_eq one.to 0 ≡ false = grind (arith, nat_tests) in event_to false (ap (λ so. is_serial (receiver_in so) 0) was_it ∙ away)
+
   -- of the target
   module _ (zero_to : one.to ≡ 0) where
     to_it : is_serial (receiver_in (wire.sent serial)) 0 ≡ true
     to_it = ap (λ so. is_serial (receiver_in so) 0) was_it ∙ (let same : nat_eq one.to 0 ≡ true = grind (arith, nat_tests) in same)
+
+    pub got_brings : event_by (said (notes.Got serial)) T wire ≡ got_in (answered_at wire serial) T wire serial
+    got_brings = event_to true to_it
+
+    pub access_is : (p : Packet) → reading one.bytes ≡ Ok p → access_at wire serial ≡ access_of p
+    access_is p read = ap (λ so. access_in (packet_in so)) was_it ∙ ap (λ (r : Result Packet PacketFault). access_in (spelled_by r)) read
+
+    pub request_brings : (p : Packet) → reading one.bytes ≡ Ok p → reply_kind p ≡ None → event_by (said (notes.Got serial)) T wire ≡ write_in (access_of p)
+    request_brings p read none =
+        let part = asks_part units ready has start w here.holds serial false one found zero_to p read none in
+        got_brings ∙ (ap (λ own. got_in own T wire serial) (answers_none wire serial q part.label part.kind was_it part.part) ∙ ap write_in (access_is p read))
 
     -- a request asks for a register
     pub request_calls : (p : Packet) → reading one.bytes ≡ Ok p → reply_kind p ≡ None → call_by (said (notes.Got serial)) T wire ≡ start_in (access_at wire serial) (id_for wire 0 (source_node (sender_in (wire.sent serial))))

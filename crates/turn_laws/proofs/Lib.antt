@@ -9,6 +9,8 @@ pub mod Gots
 pub mod Effects
 pub mod Decisions
 pub mod Cleared
+pub mod CutNotes
+pub mod Cuts
 pub mod OrderRanks
 pub mod OrderHanded
 pub mod OrderOwn

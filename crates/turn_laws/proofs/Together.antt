@@ -1,6 +1,7 @@
 -- The laws of turns of every run, together.
 use Rattle.turn_laws.specs.Together.{TurnsLaw}
 use Rattle.turn_laws.proofs.Cleared.{cleared_law}
+use Rattle.turn_laws.proofs.Cuts.{cuts_law}
 use Rattle.turn_laws.proofs.Judgements.{judgement_run_law}
 use Rattle.turn_laws.proofs.LoginRuns.{login_run_law}
 use Rattle.turn_laws.proofs.OrderRuns.{ordered_law}
@@ -12,6 +13,7 @@ turns_law = record {
     judgement = judgement_run_law.after_lines line run is some most size;
     login = login_run_law.after_lines line run is some most size;
     ordered = ordered_law.after_lines line run is some most size;
+    cuts = cuts_law.after_lines line run is some most size;
     cleared = cleared_law.after_lines line run is some most size;
     packets = packets_run_law.after_lines line run is some most size;
   };
@@ -19,6 +21,7 @@ turns_law = record {
     judgement = judgement_run_law.between line run is some most size next deliveries told may;
     login = login_run_law.between line run is some most size next deliveries told may;
     ordered = ordered_law.between line run is some most size next deliveries told may;
+    cuts = cuts_law.between line run is some most size next deliveries told may;
     cleared = cleared_law.between line run is some most size next deliveries told may;
     packets = packets_run_law.between line run is some most size next deliveries told may;
   };

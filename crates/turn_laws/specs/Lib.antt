@@ -1,5 +1,6 @@
 pub mod Runs
 pub mod Cleared
+pub mod Cuts
 pub mod Ordered
 pub mod Logins
 pub mod Decisions

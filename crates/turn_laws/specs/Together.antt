@@ -8,12 +8,14 @@ use Rattle.sbp_laws.specs.LoginLaw.{LoginLaw}
 use Rattle.sbp_laws.specs.SentPackets.{SentAt}
 use Rattle.sbp_laws.specs.Turns.{EachMoment, EachTurn}
 use Rattle.turn_laws.specs.Cleared.{ClearsWhereDue}
+use Rattle.turn_laws.specs.Cuts.{CutsWhereDue}
 use Rattle.turn_laws.specs.Runs.{OfEveryRun}
 
 pub record LawfulInTurns (start : List Disk) (past : List Moment) : Type 0 where
   pub judgement : JudgementLaw start past
   pub login : LoginLaw start past
   pub ordered : EachTurn Ordered past
+  pub cuts : EachTurn (CutsWhereDue start) past
   pub cleared : EachTurn (ClearsWhereDue start) past
   pub packets : EachMoment SentAt past
 

@@ -1,5 +1,6 @@
 //! The laws of turns, each of every run of the machine of up to four initiators with one to four units.
 ghost use Rattle.turn_laws.specs.Cleared.{ClearedLaw};
+ghost use Rattle.turn_laws.specs.Cuts.{CutsLaw};
 ghost use Rattle.turn_laws.specs.Judgement.{JudgementRunLaw};
 ghost use Rattle.turn_laws.specs.Login.{LoginRunLaw};
 ghost use Rattle.turn_laws.specs.Ordered.{OrderedLaw};
@@ -20,6 +21,14 @@ pub fn units_are_cleared_where_due()
 #[tactic(auto, using(crate::proofs::OrderRuns::ordered_law))]
 pub fn turns_are_in_order()
     ensures { OrderedLaw }
+{}
+
+/// In each turn of every run exactly the lists are cut whose agents AGENT_RESET, the decision of the turn or a
+/// reset that the target sees puts into RESET, by rising place, each by the name that its pointer had as it
+/// was taken, whatever anybody injected: `cuts` of the cause law.
+#[tactic(auto, using(crate::proofs::Cuts::cuts_law))]
+pub fn lists_are_cut_where_due()
+    ensures { CutsLaw }
 {}
 
 /// The login law holds of every run, whatever anybody injected: in each turn the decisions stand that are
