@@ -12,7 +12,7 @@ use Rattle.sbp_laws.specs.Packets.{access_at, answer_in, answered_at, id_for, pa
 use Rattle.sbp_laws.specs.Targets.{Agent, Target, agent_over, got_by, is_serial, known_at, over, purpose_of, target_at, target_by}
 use Rattle.std.specs.Prelude.{unwrap_or}
 use Rattle.sbp_world.specs.Agents.Crews.{agent_in}
-use Rattle.sbp_world.proofs.Lists.EarlyLines.{settled_same, stopped_same}
+use Rattle.sbp_world.proofs.Agents.CrewOthers.{settled_ends, stopped_ends}
 use Rattle.sbp_world.proofs.Lists.OrbWaits.{over_twice, taken_none}
 use Rattle.sbp_world.proofs.Lists.PointersGot.{AllRest, AllTaken, IsBehindFirst, all_then, effect_behind, hold_taken, map_rests, no_got, note_resting, requests_got, send_behind, taken_same}
 use Rattle.sbp_world.proofs.Lists.PointersHeld.{AllHold, ends_turn, note_goes, replies_to, stay, then_goes}
@@ -87,8 +87,8 @@ module _ (start : List Disk) where
   same a = λ p. self_taken (agent_in a p)
 
   ends_so : (done : Bool) (past : List Moment) → (over (at (said (end_note done) ∷ past))).agents ≡ (over (at past)).agents
-  ends_so true past = settled_same (at past)
-  ends_so false past = stopped_same (at past)
+  ends_so true past = settled_ends (at past)
+  ends_so false past = stopped_ends (at past)
 
   pub turn_taken : (before now : List Moment) → Shape before now → AllTaken (over (at before)).agents (over (at now)).agents
   turn_taken before now (as_before e) = subst (λ ms. AllTaken (over (at before)).agents (over (at ms)).agents) (sym e) (same (over (at before)).agents)
