@@ -6,12 +6,12 @@ use Rattle.command_agent.specs.Machine as agent
 use Rattle.command_agent.specs.declared.step.AgentStep.{AgentStep}
 use Rattle.sbp_journal.specs.Run.{Moment}
 use Rattle.sbp_journal.specs.declared.note.Note.{Note}
-use Rattle.sbp_laws.specs.Agents.{AgentTurn, agent_outcomes, ahead_due, body_of, end_notes, fifo_in, finds_first, initiator_at, is_answer, is_untold_chunk, lacks_label_told, list_taken, requests_of, requests_to, tried, unsent, wire_after, wire_before}
+use Rattle.sbp_laws.specs.Agents.{AgentTurn, agent_outcomes, ahead_due, body_of, end_notes, fifo_in, finds_first, is_answer, is_untold_chunk, lacks_label_told, list_taken, requests_of, requests_to, tried, unsent, wire_after, wire_before}
 use Rattle.sbp_laws.specs.Deaths.{ends_by}
 use Rattle.sbp_laws.specs.Lists.{named}
 use Rattle.sbp_laws.specs.Packets.{finds_label}
 use Rattle.sbp_laws.specs.SentRequests.{agent_requests}
-use Rattle.sbp_laws.specs.Targets.{Target, login_at}
+use Rattle.sbp_laws.specs.Targets.{Target, initiator_at, login_at}
 use Rattle.sbp_laws.specs.Turns.{turn}
 use Rattle.lawful_journal.specs.Telling.{DiesAsTold, LabelsAsTold, told_body}
 

@@ -13,7 +13,7 @@ use Rattle.sbp_journal.specs.Run.{Moment, said}
 use Rattle.sbp_journal.specs.Wire.{Terms, terms}
 use Rattle.sbp_journal.specs.declared.note.Note.{Note}
 use Rattle.sbp_journal.specs.declared.note.Note.TheVariants as notes
-use Rattle.sbp_laws.specs.Agents.{AgentTurn, Event, replies, writes, nothing, agent_event, agent_turn, initiator_at, target_before, told_among, untold_among, wire_before}
+use Rattle.sbp_laws.specs.Agents.{AgentTurn, Event, replies, writes, nothing, agent_event, agent_turn, target_before, told_among, untold_among, wire_before}
 use Rattle.sbp_laws.specs.CarriedLaw.{EndEachBy, Run, of_others, run_by, run_of, runs_due, runs_in}
 use Rattle.sbp_laws.specs.Deliveries.{is_run_note}
 use Rattle.sbp_laws.specs.DiskFold.{unit_at}
@@ -21,7 +21,7 @@ use Rattle.sbp_laws.specs.Lawful.{nobody}
 use Rattle.sbp_laws.specs.Lists.{list_in, named, number_in}
 use Rattle.sbp_laws.specs.MediaLaw.{load_in}
 use Rattle.sbp_laws.specs.NoteKinds.{of_kind}
-use Rattle.sbp_laws.specs.Targets.{Reply, Target, agent_at, plain_for, reply_of, told_by, unit_of}
+use Rattle.sbp_laws.specs.Targets.{Reply, Target, agent_at, initiator_at, plain_for, reply_of, told_by, unit_of}
 use Rattle.sbp_laws.specs.Turns.{Turn, turn}
 use Rattle.lawful_journal.specs.Telling.{EachEndsAsTold, EndsAsTold, OutcomesAsTold}
 use Rattle.lawful_journal.proofs.Alike.{View, view, reply_view}

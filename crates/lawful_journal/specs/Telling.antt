@@ -14,8 +14,8 @@ use Rattle.sbp_journal.specs.declared.note.Note.TheVariants as notes
 use Rattle.sbp_laws.specs.Turns.{Turn, EachMoment, EachTurn}
 use Rattle.sbp_laws.specs.DiskFold.{unit_at}
 use Rattle.sbp_laws.specs.Packets.{finds_label}
-use Rattle.sbp_laws.specs.Targets.{Target, login_at}
-use Rattle.sbp_laws.specs.Agents.{Request, AgentTurn, agent_turn, agent_event, body_of, fifo_in, initiator_at, is_untold_chunk, lacks_label_told, target_before, wire_after, wire_before}
+use Rattle.sbp_laws.specs.Targets.{Target, initiator_at, login_at}
+use Rattle.sbp_laws.specs.Agents.{Request, AgentTurn, agent_turn, agent_event, body_of, fifo_in, is_untold_chunk, lacks_label_told, target_before, wire_after, wire_before}
 use Rattle.sbp_laws.specs.SentRequests.{IsRequest, asks_by, before_requests, behind_answer}
 
 -- by how many commands ran before; by the serial of the write; and by how many statuses were taken before

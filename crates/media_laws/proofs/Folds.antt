@@ -33,7 +33,8 @@ use Rattle.sbp_journal.specs.declared.note.Note.TheVariants as notes
 use Rattle.sbp_laws.specs.DiskFold.{failed_runs, first_units, left_by_reset, left_by_run, marked, moves_disc, unit_at}
 use Rattle.sbp_laws.specs.Packets.{answered_at}
 use Rattle.sbp_laws.specs.Turns.{event_of}
-use Rattle.sbp_laws.specs.Targets.{Decided, Purpose, Reply, Target, effect_on, enters_in, entered_by, for_agent, for_manager, for_nobody, going_on, got_by, key_by, known_at, managed_by, manager_step, over, register_got, replied_to, request_got, reset_seen, sent_as, sent_for, start_got, started_by, taken_on, target_at, target_by, told_in, with_untold}
+use Rattle.sbp_laws.specs.Targets.{Decided, Purpose, Reply, Target, effect_on, enters_in, entered_by, for_agent, for_manager, for_nobody, going_on, got_by, key_by, known_at, managed_by, manager_step, over, register_got, replied_to, request_got, reset_seen, sent_as, sent_for, start_got, started_by, taken_on, target_at, target_by, is_own_run, ran_on}
+use Rattle.sbp_laws.proofs.Going.{going_alone, run_alone, taken_alone}
 use Rattle.media_laws.specs.Media.{LeavesMedia, left_by_note, media_after}
 
 -- ---- what leaves the units
@@ -46,15 +47,10 @@ same_if true x y z h i = h
 same_if false x y z h i = i
 
 takes_on : (told : Option Told) (reply : Option Reply) (x : Target) → Same x (taken_on told reply x)
-takes_on told None x = refl
-takes_on told (Some reply) x = refl
-
-untold_same : (note : Note) (reply : Option Reply) (x : Target) → Same x (with_untold note reply x)
-untold_same note None x = refl
-untold_same note (Some reply) x = refl
+takes_on told reply x = ap (λ (y : Target). y.units) (taken_alone told reply x)
 
 goes_on : (note : Note) (x : Target) → Same x (going_on note x)
-goes_on note x = takes_on (told_in x.reply note x) x.reply (with_untold note x.reply x) ∙ untold_same note x.reply x
+goes_on note x = ap (λ (y : Target). y.units) (going_alone note x)
 
 is_over : (x : Target) → Same x (over x)
 is_over x = takes_on None x.reply x
@@ -177,8 +173,9 @@ said_leaves (notes.TimedOut serial) past wire x = ap media_of (same_if _ x _ _ (
 said_leaves (notes.Seen node generation) past wire x = ap media_of (same_if (node == 0) x _ _ (resets (not (generation == wire.generation 0)) (over x) ∙ is_over x) (is_over x))
 said_leaves notes.Tick past wire x = ap media_of (is_over x)
 said_leaves (notes.Ran i n k unit cdb bytes check) past wire x =
-    let y = going_on (notes.Ran i n k unit cdb bytes check) x in
-    runs cdb bytes check _ unit y.table.places y.units ∙ ap (λ (units : List PlainDisk). set (media_of units) unit (medium_after cdb bytes check (disk_at (media_of units) unit))) (goes_on (notes.Ran i n k unit cdb bytes check) x)
+    let own = is_own_run x.reply i wire x in
+    let y = ran_on own (notes.Ran i n k unit cdb bytes check) x in
+    runs cdb bytes check _ unit y.table.places y.units ∙ ap (λ (units : List PlainDisk). set (media_of units) unit (medium_after cdb bytes check (disk_at (media_of units) unit))) (ap (λ (z : Target). z.units) (run_alone own (notes.Ran i n k unit cdb bytes check) x))
 said_leaves (notes.Sent serial generation from to bytes) past wire x =
     let settled = taken_on None x.reply x in
     ap media_of (same_if (from == 0) x _ settled (sends_as (part_of bytes) _ serial settled ∙ takes_on None x.reply x) (takes_on None x.reply x))

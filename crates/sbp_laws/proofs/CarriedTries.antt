@@ -32,6 +32,7 @@ use Rattle.std.specs.Prelude.{Some, None, slice_index, drop, length, true, false
 use Rattle.sbp_journal.specs.Run.{Moment}
 use Rattle.sbp_laws.specs.Terms.{appends}
 use Rattle.sbp_laws.specs.CarriedBytes.{before_sent, open_list, WasRead, IsRead, orb_read, buffer_in, reads_since, payload_at}
+use Rattle.sbp_laws.specs.Targets.{agent_at, target_at}
 use Rattle.sbp_journal.specs.Wire.{terms}
 use Rattle.page_table.specs.Buffer.{bytes_of}
 
@@ -53,6 +54,14 @@ run_unread = λ law. let bad = (law.carried.0 refl).read.got in cc bad
 run_left_out : CarriedLaw nobody journals.one_disk journals.run_left_out → ⊥
 unfolding reading fault_of tcode_of header_of offset_of rcode_of value_of length_of extended_of three four part_of is_to is_same asked_by begun_by belongs start_at lowest_from label_for free_from count_flying lowest_flying label_of with_label is_write kind_of slot_of window_at is_fifo point_step doorbell_step reset_step abort_step reply_step lost_step refusal verdict request_of check_of blank_bytes command_kind elements_from made block_head decide reads_eui live_login response_bytes start_step reply_step_of_manager decide_step fresh_id left_for enter_step back_step leave_step
 run_left_out = λ law. let bad = law.due.0 in cc bad
+
+goes_on_with_own : (agent_at (target_at journals.one_disk (refused.checks 0)) 0).machine.outgoing ≡ refused.checked_block
+unfolding reading fault_of tcode_of header_of offset_of rcode_of value_of length_of extended_of three four part_of is_to is_same asked_by begun_by belongs start_at lowest_from label_for free_from count_flying lowest_flying label_of with_label is_write kind_of slot_of window_at is_fifo point_step doorbell_step reset_step abort_step reply_step lost_step refusal verdict request_of check_of blank_bytes command_kind elements_from made block_head decide reads_eui live_login response_bytes start_step reply_step_of_manager decide_step fresh_id left_for enter_step back_step leave_step
+goes_on_with_own = refl
+
+goes_on_with_anothers : (agent_at (target_at journals.one_disk (refused.checks 1)) 0).machine.outgoing ≡ refused.checked_block → ⊥
+unfolding reading fault_of tcode_of header_of offset_of rcode_of value_of length_of extended_of three four part_of is_to is_same asked_by begun_by belongs start_at lowest_from label_for free_from count_flying lowest_flying label_of with_label is_write kind_of slot_of window_at is_fifo point_step doorbell_step reset_step abort_step reply_step lost_step refusal verdict request_of check_of blank_bytes command_kind elements_from made block_head decide reads_eui live_login response_bytes start_step reply_step_of_manager decide_step fresh_id left_for enter_step back_step leave_step
+goes_on_with_anothers = λ same. let bad = same in cc bad
 
 -- the data of the first run
 abbrev first_data : List Run → List ℕ
@@ -215,4 +224,4 @@ unfolding reading fault_of tcode_of header_of offset_of rcode_of value_of length
 read_named = record { response = 4; request = 3; got = refl; whole = refl; answers = refl; of_target = refl; of_initiator = refl; asks = record { read = refl; block = refl; from = refl; size = refl }; appended = first_of_one; opened = refl }
 
 pub tried : CarriedTried
-tried = record { accepts = accepts; answer_uncarried = answer_uncarried; run_unread = run_unread; run_left_out = run_left_out; answer_otherwise = answer_otherwise; other_data = other_data; dummy_unmade = dummy_unmade; good_of_dummy = good_of_dummy; other_command = other_command; other_length = other_length; short_orb = short_orb; read_elsewhere = read_elsewhere; other_direction = other_direction; read_too_early = read_too_early; read_unnamed = read_unnamed; read_named = read_named }
+tried = record { accepts = accepts; answer_uncarried = answer_uncarried; run_unread = run_unread; run_left_out = run_left_out; goes_on_with_own = goes_on_with_own; goes_on_with_anothers = goes_on_with_anothers; answer_otherwise = answer_otherwise; other_data = other_data; dummy_unmade = dummy_unmade; good_of_dummy = good_of_dummy; other_command = other_command; other_length = other_length; short_orb = short_orb; read_elsewhere = read_elsewhere; other_direction = other_direction; read_too_early = read_too_early; read_unnamed = read_unnamed; read_named = read_named }

@@ -1,6 +1,7 @@
 mod Orders
 mod Added
 pub mod Parts
+pub mod Going
 mod OnceTries
 mod OrderTries
 mod ExecutionTries

@@ -1,6 +1,6 @@
 -- What a turn brings of the target's agents: the run and the end of the present ORB, the death of an agent, and its requests (NCITS
 -- 325-1998, command block agents).
-use Rattle.std.specs.Prelude.{ℕ, zero, suc, ◌+◌, ◌==◌, ◌&&◌, not, nat_le, is_none, Bool, true, false, if◌then◌else◌, List, [], ◌∷◌, ◌++◌, Option, Some, None, Result, Ok, Err}
+use Rattle.std.specs.Prelude.{ℕ, suc, ◌+◌, ◌==◌, ◌&&◌, not, nat_le, is_none, Bool, true, false, if◌then◌else◌, List, [], ◌∷◌, ◌++◌, Option, Some, None, Result, Ok, Err}
 use Rattle.std.specs.List.{list_any}
 use Rattle.orb_layout.specs.declared.ask.Ask.{Ask}
 use Rattle.orb_layout.specs.declared.ask.Ask.TheVariants.{Read, Write, Nothing}
@@ -30,9 +30,9 @@ use Rattle.sbp_journal.specs.Wire.{Terms, terms}
 use Rattle.sbp_journal.specs.declared.note.Note.{Note}
 use Rattle.sbp_journal.specs.declared.note.Note.TheVariants as notes
 use Rattle.sbp_laws.specs.Turns.{Turn}
-use Rattle.sbp_laws.specs.Packets.{packet_at, access_at, answered_at, answer_in, sender_in, receiver_in, id_for, finds_label, free_labels}
+use Rattle.sbp_laws.specs.Packets.{packet_at, access_at, answered_at, answer_in, sender_in, receiver_in, finds_label, free_labels}
 use Rattle.sbp_laws.specs.Lists.{Orb, named, list_in, number_in}
-use Rattle.sbp_laws.specs.Targets.{Target, Agent, Reply, Purpose, for_agent, for_manager, for_nobody, purpose_of, target_at, over, agent_at, login_at, reply_of, plain_for, told_by, untold_by, is_serial}
+use Rattle.sbp_laws.specs.Targets.{Target, Agent, Reply, Purpose, for_agent, for_manager, for_nobody, purpose_of, target_at, over, agent_at, login_at, initiator_at, reply_of, plain_for, told_by, untold_by, is_serial}
 
 -- the target as a turn begins, and the wire before the turn and after its first moment
 abbrev pub target_before : List Disk → Turn → Target
@@ -44,26 +44,10 @@ wire_before t = terms t.past
 abbrev pub wire_after : Turn → Terms
 wire_after t = terms (t.start ∷ t.past)
 
--- ---- nodes and logins
--- the initiator whose node has an ID for the target, among the four; 4 where none has
-abbrev pub initiator_from : ℕ → ℕ → Terms → ℕ → ℕ
-initiator_from zero i wire id = i
-initiator_from (suc more) i wire id = if id_for wire 0 (i + 1) == id then i else initiator_from more (i + 1) wire id
-
-abbrev pub initiator_with : Terms → ℕ → ℕ
-initiator_with wire id = initiator_from 4 0 wire id
-
-abbrev pub node_in : Option Login → ℕ
-node_in None = 0
-node_in (Some login) = login.node
-
+-- ---- logins
 abbrev pub fifo_in : Option Login → ℕ
 fifo_in None = 0
 fifo_in (Some login) = login.fifo
-
--- the initiator of the login in a place
-abbrev pub initiator_at : Target → Terms → ℕ → ℕ
-initiator_at target wire place = initiator_with wire (node_in (login_at target place))
 
 -- ---- what a turn is for an agent: a reply to one of its transactions, or a register of it that was written
 pub data Event : Type 0 where

@@ -21,8 +21,8 @@ use Rattle.sbp_journal.specs.declared.note.Note.TheVariants as notes
 use Rattle.sbp_laws.specs.Terms.{appends}
 use Rattle.sbp_laws.specs.Packets.{access_at, packet_at, answered_at, answer_in, sender_in, receiver_in}
 use Rattle.sbp_laws.specs.Lists.{slot_at}
-use Rattle.sbp_laws.specs.Targets.{Target, Agent, target_at, is_serial}
-use Rattle.sbp_laws.specs.Agents.{initiator_at, list_taken}
+use Rattle.sbp_laws.specs.Targets.{Target, Agent, target_at, is_serial, initiator_at}
+use Rattle.sbp_laws.specs.Agents.{list_taken}
 use Rattle.sbp_laws.specs.Management.{is_open}
 
 -- what stood before a packet was sent, and whether one was got

@@ -26,8 +26,8 @@ use Rattle.sbp_laws.specs.Terms.{Request, request_at, plan_of}
 use Rattle.sbp_laws.specs.Turns.{Turn, EachMoment, EachTurn}
 use Rattle.sbp_laws.specs.Lists.{named, list_in, number_in, slot_at, command_at}
 use Rattle.sbp_laws.specs.DiskFold.{unit_at}
-use Rattle.sbp_laws.specs.Targets.{Target, unit_of}
-use Rattle.sbp_laws.specs.Agents.{AgentTurn, agent_turn, agent_event, target_before, wire_before, initiator_at}
+use Rattle.sbp_laws.specs.Targets.{Target, initiator_at, unit_of}
+use Rattle.sbp_laws.specs.Agents.{AgentTurn, agent_turn, agent_event, target_before, wire_before}
 use Rattle.sbp_laws.specs.CarriedBytes.{WasRead, orb_read, Moved, reads_since, writes_since, joined, buffer_in, pieces_of}
 
 -- ---- the law of an end and of a run

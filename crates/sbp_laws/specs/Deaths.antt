@@ -27,10 +27,10 @@ use Rattle.rbc_disk.specs.Disk.{Disk}
 use Rattle.sbp_journal.specs.declared.note.Note.{Note}
 use Rattle.sbp_journal.specs.declared.note.Note.TheVariants as notes
 use Rattle.sbp_laws.specs.Turns.{Turn, Where}
-use Rattle.sbp_laws.specs.Targets.{Target, Reply, agent_at, login_at}
+use Rattle.sbp_laws.specs.Targets.{Target, Reply, agent_at, login_at, initiator_at}
 use Rattle.sbp_journal.specs.Wire.{Terms}
 use Rattle.sbp_laws.specs.Packets.{access_at, finds_label}
-use Rattle.sbp_laws.specs.Agents.{initiator_at, is_untold_chunk, lacks_label_told, wire_before, wire_after, agent_notes_for, is_dead, Event, replies, writes, AgentTurn, agent_turn, agent_event, body_of, finds_first, fifo_in, target_before}
+use Rattle.sbp_laws.specs.Agents.{is_untold_chunk, lacks_label_told, wire_before, wire_after, agent_notes_for, is_dead, Event, replies, writes, AgentTurn, agent_turn, agent_event, body_of, finds_first, fifo_in, target_before}
 
 -- ---- the rows of `dead`
 -- a reply to the main transaction of an agent

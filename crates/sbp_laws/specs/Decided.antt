@@ -17,8 +17,8 @@ use Rattle.sbp_journal.specs.declared.operation.FunctionWord.TheVariants as func
 use Rattle.sbp_journal.specs.declared.note.Note.{Note}
 use Rattle.sbp_journal.specs.declared.note.Note.TheVariants as notes
 use Rattle.sbp_laws.specs.Turns.{Turn}
-use Rattle.sbp_laws.specs.Targets.{Target, Agent, agent_at, has_id, on_unit, unit_of}
-use Rattle.sbp_laws.specs.Agents.{Event, writes, agent_event, initiator_at, target_before, wire_before}
+use Rattle.sbp_laws.specs.Targets.{Target, Agent, agent_at, has_id, on_unit, unit_of, initiator_at}
+use Rattle.sbp_laws.specs.Agents.{Event, writes, agent_event, target_before, wire_before}
 use Rattle.sbp_laws.specs.Management.{cleared_from, is_open, sees_reset}
 use Rattle.sbp_laws.specs.NoteKinds.{is_cleared_note, of_kind}
 use Rattle.sbp_laws.specs.LoginLaw.{is_login_note}

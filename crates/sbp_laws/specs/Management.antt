@@ -33,8 +33,8 @@ use Rattle.sbp_journal.specs.declared.note.Note.{Note}
 use Rattle.sbp_journal.specs.declared.note.Note.TheVariants as notes
 use Rattle.sbp_laws.specs.Turns.{Turn}
 use Rattle.sbp_laws.specs.Packets.{packet_at, access_at, answered_at, answer_in, sender_in, receiver_in, id_for, finds_label}
-use Rattle.sbp_laws.specs.Targets.{Target, Agent, Purpose, for_agent, for_manager, for_nobody, purpose_of, agent_at, login_at, manager_step, on_unit, is_serial, target_at}
-use Rattle.sbp_laws.specs.Agents.{Event, writes, agent_event, Request, requests_to, initiator_at, initiator_with, list_taken, wire_before, wire_after}
+use Rattle.sbp_laws.specs.Targets.{Target, Agent, Purpose, for_agent, for_manager, for_nobody, purpose_of, agent_at, login_at, manager_step, on_unit, is_serial, target_at, initiator_at, initiator_with}
+use Rattle.sbp_laws.specs.Agents.{Event, writes, agent_event, Request, requests_to, list_taken, wire_before, wire_after}
 
 -- ---- lists that are cut
 -- the list of an agent is open where the agent is not in RESET

@@ -17,8 +17,8 @@ use Rattle.sbp_journal.specs.declared.note.Note.TheVariants as notes
 use Rattle.sbp_laws.specs.Turns.{Turn, EachTurn}
 use Rattle.sbp_laws.specs.Packets.{id_for, finds_label, is_under_way, has_resting_label, receiver_in}
 use Rattle.sbp_laws.specs.DiskFold.{moves_disc, unit_at}
-use Rattle.sbp_laws.specs.Targets.{Target, place_on, is_serial}
-use Rattle.sbp_laws.specs.Agents.{Request, requests_to, target_before, wire_before, wire_after, initiator_with}
+use Rattle.sbp_laws.specs.Targets.{Target, place_on, is_serial, initiator_with}
+use Rattle.sbp_laws.specs.Agents.{Request, requests_to, target_before, wire_before, wire_after}
 use Rattle.sbp_laws.specs.NoteKinds.{of_kind}
 
 -- ---- the logins that are to be told

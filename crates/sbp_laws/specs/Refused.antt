@@ -12,6 +12,7 @@ use Rattle.orb_layout.specs.QueryResponses.{query_bytes}
 use Rattle.orb_layout.specs.declared.management.ManagementOrb.{ManagementOrb}
 use Rattle.media_bay.specs.Unsolicited.{block}
 use Rattle.rbc_command.specs.declared.sense.Sense.{Sense}
+use Rattle.rbc_command.specs.SenseData.{no_command}
 use Rattle.config_rom.specs.Make.{made}
 use Rattle.sbp_journal.specs.Run.{Run, Entry, Moment, asked, said}
 use Rattle.sbp_journal.specs.declared.cause.Cause.TheVariants as ignored
@@ -449,6 +450,13 @@ abbrev pub wild_ends : Option Sense → List Moment
 wild_ends check =
     told (till_orb ++ asked 5 (events.Inject 0 rom_read) ∷ said (notes.Injected 5) ∷ said (notes.Sent 5 0 1 0 rom_read)
     ∷ asked 6 (events.Deliver 4) ∷ said (notes.Got 4) ∷ ran check ∷ [])
+
+-- the ORB of initiator 0 comes, and a run of an initiator is told, with a check; the status block of an ORB that ended so
+abbrev pub checks : (i : ℕ) → List Moment
+checks i = told (till_orb ++ said (notes.Got 4) ∷ said (notes.Ran i (Some 0) (Some 0) 0 ready_block [] (Some no_command)) ∷ [])
+
+abbrev pub checked_block : List ℕ
+checked_block = status_bytes (record { src = 1; kind = kinds.Check no_command; orb = 0x10000000 })
 
 -- ---- own words: the read of an ORB times out; an ORB that another one is linked behind comes, and ends with a status block of this head; an ORB
 -- ends with another block

@@ -122,6 +122,22 @@ unit_in (Some login) = login.unit
 abbrev pub unit_of : Target → ℕ → ℕ
 unit_of target place = unit_in (login_at target place)
 
+-- the initiator whose node has an ID for the target, among the four; 4 where none has
+abbrev pub initiator_from : ℕ → ℕ → Terms → ℕ → ℕ
+initiator_from zero i wire id = i
+initiator_from (suc more) i wire id = if id_for wire 0 (i + 1) == id then i else initiator_from more (i + 1) wire id
+
+abbrev pub initiator_with : Terms → ℕ → ℕ
+initiator_with wire id = initiator_from 4 0 wire id
+
+abbrev pub node_in : Option Login → ℕ
+node_in None = 0
+node_in (Some login) = login.node
+
+-- the initiator of the login in a place
+abbrev pub initiator_at : Target → Terms → ℕ → ℕ
+initiator_at target wire place = initiator_with wire (node_in (login_at target place))
+
 -- the initiators log in at the start: initiator i in place i with ID i + 1, on unit 0, with hold 3 and FIFO number 0
 abbrev pub eui_of : ℕ → ℕ
 eui_of i = 0x0200000000000001 + i
@@ -239,6 +255,15 @@ with_untold note (Some reply) target =
 
 abbrev pub going_on : Note → Target → Target
 going_on note target = taken_on (told_in target.reply note target) target.reply (with_untold note target.reply target)
+
+-- A run takes the agent whose reply waits on with what it tells where it is of the initiator of the login in that place, and else with nothing.
+abbrev pub is_own_run : Option Reply → (i : ℕ) → Terms → Target → Bool
+is_own_run None i wire target = false
+is_own_run (Some reply) i wire target = i == initiator_at target wire reply.place
+
+abbrev pub ran_on : (is_own : Bool) → Note → Target → Target
+ran_on true note target = going_on note target
+ran_on false note target = taken_on None target.reply target
 
 -- what an agent asked for and did not get a label for: it loses its main transaction, and forgets its read ahead
 abbrev pub is_nothing : Ask → Bool
@@ -454,7 +479,8 @@ target_by (notes.Seen node generation) past wire target =
     if node == 0 then reset_seen (not (generation == wire.generation 0)) (over target) else over target
 target_by notes.Tick past wire target = let ended = over target in record ended { table = record ended.table { places = map second_gone ended.table.places } }
 target_by (notes.Ran i n k unit cdb bytes check) past wire target =
-    ran_by i unit (place_on target unit (id_for wire 0 (i + 1))) cdb bytes check (going_on (notes.Ran i n k unit cdb bytes check) target)
+    ran_by i unit (place_on target unit (id_for wire 0 (i + 1))) cdb bytes check
+    (ran_on (is_own_run target.reply i wire target) (notes.Ran i n k unit cdb bytes check) target)
 target_by (notes.Sent serial generation from to bytes) past wire target =
     let settled = taken_on None target.reply target in
     if from == 0 then sent_as (part_of bytes) (is_write_access (access_in_bytes bytes)) serial settled else settled

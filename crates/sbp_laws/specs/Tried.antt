@@ -111,6 +111,8 @@ pub record CarriedTried : Type 0 where
   pub answer_uncarried : CarriedLaw nobody journals.one_disk (journals.capacity_taken (quad_bytes (0 ∷ 512 ∷ []))) → ⊥
   pub run_unread : CarriedLaw nobody journals.one_disk journals.run_unread → ⊥
   pub run_left_out : CarriedLaw nobody journals.one_disk journals.run_left_out → ⊥
+  pub goes_on_with_own : (agent_at (target_at journals.one_disk (refused.checks 0)) 0).machine.outgoing ≡ refused.checked_block
+  pub goes_on_with_anothers : (agent_at (target_at journals.one_disk (refused.checks 1)) 0).machine.outgoing ≡ refused.checked_block → ⊥
   pub answer_otherwise : CarriedLaw nobody journals.one_disk refused.answer_otherwise → ⊥
   pub other_data : CarriedLaw nobody journals.one_disk refused.other_data → ⊥
   pub dummy_unmade : CarriedLaw nobody journals.one_disk (refused.orb_brought (refused.orb_of 0x82900000 0) (refused.ends_as_dummy 0)) → ⊥

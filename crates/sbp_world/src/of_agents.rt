@@ -45,7 +45,8 @@ pub fn requests_ask_of_the_agents()
 {}
 
 /// What the target hands out behind the first note of a turn changes the agents of the terms as what it
-/// tells and its packets do, in this order; a reply that waits takes its agent on before.
+/// tells and its packets do, in this order; a reply that waits takes its agent on before, with the run that
+/// is told first, which has to be of the initiator of the login in that place.
 #[tactic(auto, using(crate::proofs::Agents::Hands::hands_law))]
 pub fn hand_outs_change_the_agents()
     ensures { HandsLaw }

@@ -44,12 +44,12 @@ use Rattle.sbp_journal.specs.declared.note.Note.{Note}
 use Rattle.sbp_journal.specs.declared.note.Note.TheVariants as notes
 use Rattle.sbp_journal.specs.declared.side.Side.{Side}
 use Rattle.sbp_journal.specs.declared.side.Side.TheVariants as sides
-use Rattle.sbp_laws.specs.Agents.{Event, event_by, got_in, initiator_at, list_taken, nothing, reply_to, write_in, write_of, writes}
+use Rattle.sbp_laws.specs.Agents.{Event, event_by, got_in, list_taken, nothing, reply_to, write_in, write_of, writes}
 use Rattle.sbp_laws.specs.Management.{Call, call_by, cut_note, cuts_by_effect, cuts_by_event, cuts_due, cuts_from, cuts_where, no_call}
 use Rattle.sbp_laws.specs.Management as laws
 use Rattle.sbp_laws.specs.NoteKinds.{is_cut_note, of_kind}
 use Rattle.sbp_laws.specs.Packets.{access_at, answer_in as term_answer, answered_at, packet_at, sender_in}
-use Rattle.sbp_laws.specs.Targets.{Agent, Purpose as TermPurpose, Target, agent_at, for_agent, for_manager, for_nobody, is_serial, on_unit, over, purpose_of, target_at}
+use Rattle.sbp_laws.specs.Targets.{Agent, Purpose as TermPurpose, Target, agent_at, for_agent, for_manager, for_nobody, initiator_at, is_serial, on_unit, over, purpose_of, target_at}
 use Rattle.sbp_laws.specs.Turns.{turn}
 use Rattle.sbp_target.specs.Calls.{receives}
 use Rattle.sbp_target.specs.Histories.Judgements.{asked_at, asked_of}

@@ -1,5 +1,5 @@
 -- What leaves the agents of the terms alone.
-use Rattle.std.proofs.Common.{arith, ◌≡◌, ◌∙◌, refl, sym, ap, ℕ, ◌<◌, nat_eq, not, Bool, false, cond, List, [], ◌∷◌, Option, Some, None}
+use Rattle.std.proofs.Common.{arith, ◌≡◌, ◌∙◌, refl, sym, ap, ℕ, ◌<◌, nat_eq, not, false, cond, List, [], ◌∷◌, Option, Some, None}
 use Rattle.std.proofs.lemmas.Bool.Decides.{nat_tests}
 use Rattle.orb_layout.specs.declared.ask.Ask.{Ask}
 use Rattle.orb_layout.specs.declared.ask.Ask.TheVariants.{Nothing, Read, Write}
@@ -7,8 +7,6 @@ use Rattle.orb_layout.specs.declared.ask.FailCause.TheVariants as causes
 use Rattle.orb_layout.specs.Replies.{Expired}
 use Rattle.command_agent.specs.declared.step.Which.TheVariants.{Ahead}
 use Rattle.command_agent.specs.Steps.{lost_step}
-use Rattle.rbc_disk.specs.Runs.{Told}
-use Rattle.rbc_disk.specs.Units.{PlainDisk}
 use Rattle.sbp_journal.specs.Run.{Moment}
 use Rattle.sbp_journal.specs.Transactions.{part_of}
 use Rattle.sbp_journal.specs.Wire.{Terms}
@@ -17,13 +15,12 @@ use Rattle.sbp_journal.specs.declared.event.Event.TheVariants as events
 use Rattle.sbp_journal.specs.declared.note.Note.{Note}
 use Rattle.sbp_journal.specs.declared.note.Note.TheVariants as notes
 use Rattle.sbp_laws.specs.Packets.{access_in_bytes, answered_at, receiver_in, sender_in}
-use Rattle.sbp_laws.specs.Targets.{Agent, Reply, Target, agent_over, going_on, got_by, is_nothing, is_serial, is_write_access, key_by, main_lost, over, plain_for, replied, reset_seen, sent_as, taken_on, target_by, told_by, told_in, untold_by, with_untold}
+use Rattle.sbp_laws.specs.Targets.{Agent, Reply, Target, agent_over, going_on, got_by, is_nothing, is_serial, is_write_access, key_by, main_lost, over, replied, reset_seen, sent_as, taken_on, target_by}
 use Rattle.sbp_laws.specs.Turns.{event_of}
+use Rattle.sbp_laws.proofs.Going.{TellsNone, going_rests, quiet_on, taken_rests}
 use Rattle.sbp_world.specs.Agents.Asides.{AsidesLaw, IsAside, MayGoOn}
-use Rattle.sbp_world.specs.Agents.Calls.{changed}
-use Rattle.sbp_world.specs.Agents.Crews.{answered, crew_over}
+use Rattle.sbp_world.specs.Agents.Crews.{crew_over}
 use Rattle.sbp_world.proofs.Agents.Follows.{over_idle}
-use Rattle.sbp_world.proofs.Agents.Hands.{no_reply, taken_agents}
 use Rattle.sbp_world.proofs.Agents.Notes.{notes_law}
 
 -- ---- the end of a turn, twice
@@ -40,7 +37,7 @@ crew_twice [] = refl
 crew_twice (a ∷ agents) = ap (λ x. x ∷ crew_over (crew_over agents)) (one_twice a) ∙ ap (λ xs. agent_over a ∷ xs) (crew_twice agents)
 
 over_none : (t : Target) → (over t).reply ≡ None
-over_none t = no_reply t.reply t refl
+over_none t = taken_rests None t.reply t refl
 
 twice : (t : Target) → (over (over t)).agents ≡ (over t).agents
 twice t = notes_law.ends (over t) (over_none t) ∙ crew_twice (taken_on None t.reply t).agents
@@ -54,25 +51,8 @@ taken_as : (t now : Target) → now.agents ≡ (taken_on None t.reply t).agents 
 taken_as t now e n = notes_law.ends now n ∙ ap crew_over e
 
 -- ---- a note that tells of no run
-record TellsNone (note : Note) : Type 0 where
-  told : (plain : PlainDisk) → told_by note plain ≡ None
-  untold : (plain : PlainDisk) (before : Bool) → untold_by note plain before ≡ before
-
-goes_by : (note : Note) (t : Target) (reply : Option Reply) → t.reply ≡ reply → TellsNone note → MayGoOn reply t.agents → (going_on note t).agents ≡ (taken_on None t.reply t).agents
-goes_by note t None e n m =
-    ap (λ (r : Option Reply). (taken_on (told_in r note t) r (with_untold note r t)).agents) e ∙ sym (ap (λ (r : Option Reply). (taken_on None r t).agents) e)
-goes_by note t (Some reply) e n m =
-    let plain = plain_for t reply in
-    notes_law.replies note t reply e m.0 m.1
-    ∙ ap (λ (told : Option Told). changed reply.place (λ a. answered told (untold_by note plain a.untold) reply.place plain reply.which reply.answer a) t.agents) (n.told plain)
-    ∙ sym (taken_agents t reply e)
-
-goes_none : (note : Note) (t : Target) (reply : Option Reply) → t.reply ≡ reply → (going_on note t).reply ≡ None
-goes_none note t None e = ap (λ (r : Option Reply). (taken_on (told_in r note t) r (with_untold note r t)).reply) e ∙ e
-goes_none note t (Some reply) e = ap (λ (r : Option Reply). (taken_on (told_in r note t) r (with_untold note r t)).reply) e
-
-goes : (note : Note) (t : Target) → TellsNone note → MayGoOn t.reply t.agents → (over (going_on note t)).agents ≡ (over t).agents
-goes note t n m = taken_as t (going_on note t) (goes_by note t t.reply refl n m) (goes_none note t t.reply refl)
+goes : (note : Note) (t : Target) → TellsNone note → (over (going_on note t)).agents ≡ (over t).agents
+goes note t n = taken_as t (going_on note t) (ap (λ (x : Target). x.agents) (quiet_on note n t)) (going_rests note t)
 
 -- ---- a key
 keyed : (event : Option Event) (unit : ℕ) (t : Target) → key_by event unit t ≡ record t { keys = (key_by event unit t).keys }
@@ -102,23 +82,23 @@ keys_by event unit t = ap (λ (x : Target). (over x).agents) (keyed event unit t
 -- ---- each note
 note_leaves : (note : Note) (past : List Moment) (wire : Terms) (t : Target) → IsAside note → MayGoOn t.reply t.agents → (over (target_by note past wire t)).agents ≡ (over t).agents
 note_leaves (notes.Begin initiators ready) past wire t h m = absurd h
-note_leaves (notes.Append i list orb cdb buffer) past wire t h m = goes (notes.Append i list orb cdb buffer) t (record { told = λ p. refl; untold = λ p b. refl }) m
-note_leaves (notes.Low i list orb) past wire t h m = goes (notes.Low i list orb) t (record { told = λ p. refl; untold = λ p b. refl }) m
-note_leaves (notes.Linked i list orb) past wire t h m = goes (notes.Linked i list orb) t (record { told = λ p. refl; untold = λ p b. refl }) m
-note_leaves (notes.Rung i list orb) past wire t h m = goes (notes.Rung i list orb) t (record { told = λ p. refl; untold = λ p b. refl }) m
-note_leaves (notes.Dummied i list orb) past wire t h m = goes (notes.Dummied i list orb) t (record { told = λ p. refl; untold = λ p b. refl }) m
+note_leaves (notes.Append i list orb cdb buffer) past wire t h m = goes (notes.Append i list orb cdb buffer) t (record { told = λ p. refl; untold = λ p b. refl })
+note_leaves (notes.Low i list orb) past wire t h m = goes (notes.Low i list orb) t (record { told = λ p. refl; untold = λ p b. refl })
+note_leaves (notes.Linked i list orb) past wire t h m = goes (notes.Linked i list orb) t (record { told = λ p. refl; untold = λ p b. refl })
+note_leaves (notes.Rung i list orb) past wire t h m = goes (notes.Rung i list orb) t (record { told = λ p. refl; untold = λ p b. refl })
+note_leaves (notes.Dummied i list orb) past wire t h m = goes (notes.Dummied i list orb) t (record { told = λ p. refl; untold = λ p b. refl })
 note_leaves (notes.Sent serial generation from to bytes) past wire t h m = absurd h
-note_leaves (notes.Injected serial) past wire t h m = goes (notes.Injected serial) t (record { told = λ p. refl; untold = λ p b. refl }) m
+note_leaves (notes.Injected serial) past wire t h m = goes (notes.Injected serial) t (record { told = λ p. refl; untold = λ p b. refl })
 note_leaves (notes.Got serial) past wire t h m = absurd h
 note_leaves (notes.Ignored serial cause) past wire t h m = twice t
-note_leaves (notes.Lost serial) past wire t h m = goes (notes.Lost serial) t (record { told = λ p. refl; untold = λ p b. refl }) m
+note_leaves (notes.Lost serial) past wire t h m = goes (notes.Lost serial) t (record { told = λ p. refl; untold = λ p b. refl })
 note_leaves (notes.TimedOut serial) past wire t h m = absurd h
 note_leaves (notes.Ran i n k unit cdb bytes check) past wire t h m = absurd h
 note_leaves (notes.Ended i n k status) past wire t h m = absurd h
-note_leaves (notes.Taken i n k status answer) past wire t h m = goes (notes.Taken i n k status answer) t (record { told = λ p. refl; untold = λ p b. refl }) m
+note_leaves (notes.Taken i n k status answer) past wire t h m = goes (notes.Taken i n k status answer) t (record { told = λ p. refl; untold = λ p b. refl })
 note_leaves (notes.Cut i n cause) past wire t h m = absurd h
 note_leaves (notes.Dead i n cause) past wire t h m = absurd h
-note_leaves (notes.Drop i list) past wire t h m = goes (notes.Drop i list) t (record { told = λ p. refl; untold = λ p b. refl }) m
+note_leaves (notes.Drop i list) past wire t h m = goes (notes.Drop i list) t (record { told = λ p. refl; untold = λ p b. refl })
 note_leaves (notes.Managed i word subject status login) past wire t h m = absurd h
 note_leaves (notes.ManageFailed i cause) past wire t h m = absurd h
 note_leaves (notes.Held id) past wire t h m = absurd h
@@ -126,22 +106,22 @@ note_leaves (notes.Expired id) past wire t h m = absurd h
 note_leaves (notes.Back id) past wire t h m = absurd h
 note_leaves (notes.Left id) past wire t h m = absurd h
 note_leaves (notes.Cleared unit) past wire t h m = absurd h
-note_leaves (notes.Op i operation word) past wire t h m = goes (notes.Op i operation word) t (record { told = λ p. refl; untold = λ p b. refl }) m
-note_leaves (notes.Stuck i) past wire t h m = goes (notes.Stuck i) t (record { told = λ p. refl; untold = λ p b. refl }) m
-note_leaves (notes.Reset generation) past wire t h m = goes (notes.Reset generation) t (record { told = λ p. refl; untold = λ p b. refl }) m
+note_leaves (notes.Op i operation word) past wire t h m = goes (notes.Op i operation word) t (record { told = λ p. refl; untold = λ p b. refl })
+note_leaves (notes.Stuck i) past wire t h m = goes (notes.Stuck i) t (record { told = λ p. refl; untold = λ p b. refl })
+note_leaves (notes.Reset generation) past wire t h m = goes (notes.Reset generation) t (record { told = λ p. refl; untold = λ p b. refl })
 note_leaves (notes.Seen node generation) past wire t h m = absurd h
 note_leaves notes.Tick past wire t h m = over_as t (target_by notes.Tick past wire t) refl (over_none t)
-note_leaves (notes.Refused line number) past wire t h m = goes (notes.Refused line number) t (record { told = λ p. refl; untold = λ p b. refl }) m
-note_leaves notes.Settled past wire t h m = goes notes.Settled t (record { told = λ p. refl; untold = λ p b. refl }) m
-note_leaves notes.Stopped past wire t h m = goes notes.Stopped t (record { told = λ p. refl; untold = λ p b. refl }) m
+note_leaves (notes.Refused line number) past wire t h m = goes (notes.Refused line number) t (record { told = λ p. refl; untold = λ p b. refl })
+note_leaves notes.Settled past wire t h m = goes notes.Settled t (record { told = λ p. refl; untold = λ p b. refl })
+note_leaves notes.Stopped past wire t h m = goes notes.Stopped t (record { told = λ p. refl; untold = λ p b. refl })
 note_leaves (notes.Key unit) past wire t h m = keys_by (event_of past) unit t
 note_leaves (notes.Unsolicited i) past wire t h m = absurd h
 note_leaves (notes.Unsent i) past wire t h m = absurd h
-note_leaves (notes.Told i) past wire t h m = goes (notes.Told i) t (record { told = λ p. refl; untold = λ p b. refl }) m
+note_leaves (notes.Told i) past wire t h m = goes (notes.Told i) t (record { told = λ p. refl; untold = λ p b. refl })
 
 -- ---- other nodes
 pub settled_over : (t : Target) → (over (taken_on None t.reply t)).agents ≡ (over t).agents
-settled_over t = taken_as t (taken_on None t.reply t) refl (no_reply t.reply t refl)
+settled_over t = taken_as t (taken_on None t.reply t) refl (taken_rests None t.reply t refl)
 
 sends : (serial generation from to : ℕ) (bytes : List ℕ) (past : List Moment) (wire : Terms) (t : Target) → 0 < from → (over (target_by (notes.Sent serial generation from to bytes) past wire t)).agents ≡ (over t).agents
 sends serial generation from to bytes past wire t l =

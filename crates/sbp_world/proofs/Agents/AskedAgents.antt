@@ -18,10 +18,10 @@ use Rattle.bus_transactions.proofs.Fits.{no_bytes}
 use Rattle.sbp_journal.specs.Addresses.{Access}
 use Rattle.sbp_journal.specs.Run.{Moment}
 use Rattle.sbp_journal.specs.Wire.{Terms, terms}
-use Rattle.sbp_laws.specs.Agents.{fifo_in, initiator_at, initiator_with, node_in}
+use Rattle.sbp_laws.specs.Agents.{fifo_in}
 use Rattle.sbp_laws.specs.Packets.{access_at}
 use Rattle.sbp_laws.specs.Targets as laws
-use Rattle.sbp_laws.specs.Targets.{Agent, Target, over, target_at}
+use Rattle.sbp_laws.specs.Targets.{Agent, Target, initiator_at, initiator_with, node_in, over, target_at}
 use Rattle.sbp_target.specs.declared.desk.Desk.{Desk}
 use Rattle.sbp_target.specs.declared.purpose.Sent.{Sent}
 use Rattle.sbp_target.specs.Nodes.{desk_at, login_at}

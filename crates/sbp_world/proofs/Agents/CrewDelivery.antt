@@ -33,6 +33,7 @@ use Rattle.sbp_world.specs.Agents.Management.Calls as management
 use Rattle.sbp_world.specs.Agents.Calls.{AreOf, delivered}
 use Rattle.sbp_world.specs.Agents.Crews.{Request, with_requests}
 use Rattle.sbp_world.specs.Agents.Hands.{AllLeave}
+use Rattle.sbp_world.specs.Agents.Holders.{AreHeldAt}
 use Rattle.sbp_world.specs.Agents.Serials.{AreKnown}
 use Rattle.sbp_world.proofs.Agents.CrewFirsts.{IsToldFor, Lands, T, agrees, before, crew_keeps, found_lands, noted, o}
 use Rattle.sbp_world.proofs.Agents.CrewTurns.{doing_behind, turned_crew}
@@ -40,7 +41,7 @@ use Rattle.sbp_world.proofs.Agents.Leaving.{packets_leave}
 use Rattle.sbp_world.proofs.Agents.Purposes.{g}
 use Rattle.sbp_world.proofs.Agents.ToldAlike.{told_alike_received}
 
-module _ (units ready : ℕ) (has : 0 < units) (start : List Disk) {past : List Moment} {lines : ℕ} (w : WorldState) (h : Holding units ready start past lines w) (serial : ℕ) (again : Bool) (sent : Sent) (found : found_sent serial w.store.kept ≡ Some sent) (zero_to : sent.to ≡ 0) (requests : List Request) (are : AreOf requests (T units ready has start w h).agents w.target) (known : AreKnown requests w.target w.requests) (run : Option Told) (media : Held) (units_are : (unit : ℕ) → unit_at (before units ready has start w h).units unit ≡ plain_in w.target.units media.disks unit) where
+module _ (units ready : ℕ) (has : 0 < units) (start : List Disk) {past : List Moment} {lines : ℕ} (w : WorldState) (h : Holding units ready start past lines w) (serial : ℕ) (again : Bool) (sent : Sent) (found : found_sent serial w.store.kept ≡ Some sent) (zero_to : sent.to ≡ 0) (requests : List Request) (are : AreOf requests (T units ready has start w h).agents w.target) (known : AreKnown requests w.target w.requests) (run : Option Told) (media : Held) (units_are : (unit : ℕ) → unit_at (before units ready has start w h).units unit ≡ plain_in w.target.units media.disks unit) (held : AreHeldAt start (hist past w) w) where
   abbrev r : Judged × Whole
   r = received run sent.generation sent.bytes (whole_of w.target media)
 
@@ -66,13 +67,13 @@ module _ (units ready : ℕ) (has : 0 < units) (start : List Disk) {past : List 
   abbrev found_now : Finding Purpose × Layer Purpose
   found_now = judging_step w.target.layer sent.generation sent.bytes
 
-  lands : IsToldFor units ready has start w h serial again sent found zero_to requests are known run media units_are found_now.0 found_now.1 → AreJudged (hist past v) → Lands units ready has start w h serial again sent found zero_to requests are known run media units_are found_now.0 r.0 r.1
+  lands : IsToldFor units ready has start w h serial again sent found zero_to requests are known run media units_are held found_now.0 found_now.1 → AreJudged (hist past v) → Lands units ready has start w h serial again sent found zero_to requests are known run media units_are held found_now.0 r.0 r.1
   unfolding received
   lands told j =
-      found_lands units ready has start w h serial again sent found zero_to requests are known run media units_are found_now.0 found_now.1 refl
+      found_lands units ready has start w h serial again sent found zero_to requests are known run media units_are held found_now.0 found_now.1 refl
       (found_as w.target.layer sent.generation sent.bytes) told j
 
-  told_for : (faults now : List ℕ) → TellsIn run found_now.0 (with_layer found_now.1 (whole_of w.target media)) faults now → IsToldFor units ready has start w h serial again sent found zero_to requests are known run media units_are found_now.0 found_now.1
+  told_for : (faults now : List ℕ) → TellsIn run found_now.0 (with_layer found_now.1 (whole_of w.target media)) faults now → IsToldFor units ready has start w h serial again sent found zero_to requests are known run media units_are held found_now.0 found_now.1
   unfolding received
   told_for faults now tells = told_alike_received w.target (g units ready has start w h) run media.disks sent.generation sent.bytes faults now tells
 

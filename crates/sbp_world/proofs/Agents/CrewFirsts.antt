@@ -31,11 +31,12 @@ use Rattle.rbc_disk.specs.Held.{Held}
 use Rattle.rbc_disk.specs.Runs.{Told}
 use Rattle.rbc_disk.specs.Units.{PlainDisk}
 use Rattle.sbp_bus.specs.Packets.{judged_note}
+use Rattle.sbp_bus.specs.Places.{holder_at, or_nobody}
 use Rattle.sbp_journal.specs.Addresses.{Access, Register, Start, access_of, agent_reset, agent_state, doorbell, management_agent, no_start, orb_pointer, register, rom_start, start_at, start_serves, unsolicited_enable}
 use Rattle.sbp_journal.specs.Outgoings.{empty_outbox}
 use Rattle.sbp_journal.specs.Run.{Moment, said}
 use Rattle.sbp_journal.specs.Transactions.{Kind, Sending, between, is_same_kind, locking, part_of, request}
-use Rattle.sbp_journal.specs.Wire.{Terms, terms, waits}
+use Rattle.sbp_journal.specs.Wire.{Terms, gets, terms, waits}
 use Rattle.sbp_journal.specs.declared.cause.Cause.{Cause}
 use Rattle.sbp_journal.specs.declared.cause.Cause.TheVariants as causes
 use Rattle.sbp_journal.specs.declared.cause.Judged.{Judged}
@@ -43,7 +44,8 @@ use Rattle.sbp_journal.specs.declared.cause.Judged.TheVariants as judgements
 use Rattle.sbp_journal.specs.declared.side.Side.{Side}
 use Rattle.sbp_laws.specs.DiskFold.{unit_at}
 use Rattle.sbp_laws.specs.Packets as laws
-use Rattle.sbp_laws.specs.Targets.{Agent, Purpose as TermPurpose, Reply, Target, agent_at, for_agent, for_manager, for_nobody, got_by, managed_by, manager_step, over, points, purpose_of, register_got, replied_to, request_got, start_got, started_by, taken_on, target_at, unit_in, with_agent}
+use Rattle.sbp_laws.specs.Targets.{Agent, Purpose as TermPurpose, Reply, Target, agent_at, for_agent, for_manager, for_nobody, got_by, initiator_at, initiator_with, managed_by, manager_step, node_in, over, points, purpose_of, register_got, replied_to, request_got, start_got, started_by, taken_on, target_at, unit_in, with_agent}
+use Rattle.sbp_laws.proofs.Going.{initiators_same}
 use Rattle.sbp_target.specs.declared.purpose.Purpose.{Purpose}
 use Rattle.sbp_target.specs.declared.purpose.Purpose.TheVariants as purposes
 use Rattle.sbp_target.specs.Agents.{sent_to}
@@ -53,6 +55,7 @@ use Rattle.sbp_target.specs.Receiving.{answer_in, judged_scene, received_as, wit
 use Rattle.sbp_target.specs.Replies.{Whole, plain_in, served_login}
 use Rattle.sbp_target.specs.Serving.{answered, is_barred, request_step, serve}
 use Rattle.sbp_world.specs.Delivering.{marked, whole_of}
+use Rattle.sbp_world.specs.Telling.{holder}
 use Rattle.sbp_world.specs.Worlds.{WorldState, with_note, with_target}
 use Rattle.sbp_world.specs.Wire.Wires.{Stands}
 use Rattle.target_base.specs.declared.address.Demand.{Demand}
@@ -72,11 +75,12 @@ use Rattle.sbp_world.proofs.Agents.Management.Hearing.{IsAnswer, answers, answer
 use Rattle.sbp_world.proofs.Agents.Management.Holding.{Holding, is_of, marked_hist, was_sent}
 use Rattle.sbp_world.proofs.Agents.Management.Idle.{managed_idle, managed_office, over_idle}
 use Rattle.sbp_world.proofs.Agents.Management.Offices.{over_keeps}
-use Rattle.sbp_world.proofs.Agents.Management.Still.{hist}
+use Rattle.sbp_world.proofs.Agents.Management.Still.{gets_clock, hist}
 use Rattle.sbp_world.proofs.Agents.Management.Told.{term_in}
 use Rattle.sbp_world.specs.Agents.Calls.{AgentsKeep, AreOf, changed, delivered, demanded, managed, replied, requested}
 use Rattle.sbp_world.specs.Agents.Crews.{Request, ToldAlike, agent_in, answered as term_answered}
 use Rattle.sbp_world.specs.Agents.Hands.{run_told, run_untold}
+use Rattle.sbp_world.specs.Agents.Holders.{AreHeldAt}
 use Rattle.sbp_world.specs.Agents.Serials.{AreKnown, IsForAgent, IsHanded}
 use Rattle.sbp_world.proofs.Agents.CrewLocks.{is_lock, lockless, none_locks}
 use Rattle.sbp_world.proofs.Agents.CrewSeats.{IsServing, serves_it, state_of}
@@ -86,7 +90,8 @@ use Rattle.sbp_world.proofs.Agents.Handed.{are_handed}
 use Rattle.sbp_world.proofs.Agents.Keeping.{agents_law}
 use Rattle.sbp_world.proofs.Agents.Notes.{notes_law}
 use Rattle.sbp_world.proofs.Agents.Purposes.{g, labels, law}
-use Rattle.sbp_world.proofs.Agents.ToldAlike.{IsToldOf, ToldBy, ToldFor}
+use Rattle.sbp_world.proofs.Agents.Seats.{marked_same}
+use Rattle.sbp_world.proofs.Agents.ToldAlike.{IsToldOf, ToldBy, ToldFor, run_of_place}
 
 -- ---- what a request asks for
 pub record AccessIs (p : Packet) : Type 0 where
@@ -191,10 +196,10 @@ module _ (units ready : ℕ) (has : 0 < units) (start : List Disk) {past : List 
       abbrev pub answers_it : List Side → List Agent
       answers_it told = changed place (term_answered (run_told told plain) (run_untold told plain (agent_in T.agents place).untold) place plain which answer) T.agents
 
-      pub reply_begins : (told : List Side) (run : Option Told) → length T.agents ≡ 8 → place < 8 → login_at w.target place ≡ Some login → IsToldOf told plain run → Begins o (answers_it told) told waiting
-      reply_begins told run size b e tells = record {
+      pub reply_begins : (v : WorldState) (wire : Terms) (told : List Side) (run : Option Told) → length T.agents ≡ 8 → place < 8 → login_at w.target place ≡ Some login → IsToldOf place told plain run → (holder v place).initiator ≡ initiator_at T wire place → Begins v wire o (answers_it told) told waiting
+      reply_begins v wire told run size b e tells own = record {
         office = refl;
-        may = (size, b, tells.of_step);
+        may = (size, b, (tells.of_step, run_of_place told plain v place (initiator_at T wire place) tells.at (λ ran. own)));
         resumes =
             ap (λ (x : PlainDisk). changed place (λ a. term_answered (run_told told x) (run_untold told x a.untold) place x which answer a) T.agents) (plain_there place login e);
       }
@@ -213,16 +218,19 @@ module _ (units ready : ℕ) (has : 0 < units) (start : List Disk) {past : List 
     abbrev pub noted : Judged → NodeState → WorldState
     noted judged now = with_note (judged_note serial judged) (marked serial again (with_target now w))
 
+    abbrev pub BeginsAt : Judged → NodeState → Office → List Agent → List Side → Target → Type 0
+    BeginsAt judged now = Begins (noted judged now) (terms (hist past (noted judged now)))
+
     note_hist : (judged : Judged) (now : NodeState) → hist past (noted judged now) ≡ said (judged_note serial judged) ∷ hist past w
     note_hist judged now = ap (λ ms. said (judged_note serial judged) ∷ ms) (marked_hist past serial again (with_target now w))
 
     pub was : t.sent serial ≡ Some q
     was = was_sent w stands serial sent found
 
-    term_begins : (judged : Judged) (now : NodeState) (first : Office) (agents : List Agent) (told : List Side) (x : Target) → term_in start past (noted judged now) ≡ x → Begins first agents told x → Begins first agents told (term_in start past (noted judged now))
-    term_begins judged now first agents told x e b = subst (Begins first agents told) (sym e) b
+    term_begins : (judged : Judged) (now : NodeState) (first : Office) (agents : List Agent) (told : List Side) (x : Target) → term_in start past (noted judged now) ≡ x → BeginsAt judged now first agents told x → BeginsAt judged now first agents told (term_in start past (noted judged now))
+    term_begins judged now first agents told x e b = subst (BeginsAt judged now first agents told) (sym e) b
 
-    pub ignored_begins : (cause : Cause) (now : NodeState) (told : List Side) → Begins o T.agents told (term_in start past (noted (judgements.Ignored cause) now))
+    pub ignored_begins : (cause : Cause) (now : NodeState) (told : List Side) → BeginsAt (judgements.Ignored cause) now o T.agents told (term_in start past (noted (judgements.Ignored cause) now))
     ignored_begins cause now told =
         term_begins (judgements.Ignored cause) now o T.agents told T (ap (target_at start) (note_hist (judgements.Ignored cause) now)) (quiet_begins o T.agents told T none_waits refl refl)
 
@@ -291,10 +299,10 @@ module _ (units ready : ℕ) (has : 0 < units) (start : List Disk) {past : List 
         got_for : (now : NodeState) (for : TermPurpose) → purpose_of T a.own ≡ for → term_in start past (noted judgements.Got now) ≡ replied_to for (answer_in p) T
         got_for now for f = got_is now ∙ ap (λ x. replied_to x (answer_in p) T) f
 
-        pub nobody_begins : (now : NodeState) (told : List Side) → purpose_of T a.own ≡ for_nobody → Begins o T.agents told (term_in start past (noted judgements.Got now))
+        pub nobody_begins : (now : NodeState) (told : List Side) → purpose_of T a.own ≡ for_nobody → BeginsAt judgements.Got now o T.agents told (term_in start past (noted judgements.Got now))
         nobody_begins now told f = term_begins judgements.Got now o T.agents told T (got_for now for_nobody f) (quiet_begins o T.agents told T none_waits refl refl)
 
-        pub manager_begins : (now : NodeState) (told : List Side) → purpose_of T a.own ≡ for_manager → Begins (office_replied (answer_in p) o) (managed (answer_in p) o T.agents) told (term_in start past (noted judgements.Got now))
+        pub manager_begins : (now : NodeState) (told : List Side) → purpose_of T a.own ≡ for_manager → BeginsAt judgements.Got now (office_replied (answer_in p) o) (managed (answer_in p) o T.agents) told (term_in start past (noted judgements.Got now))
         manager_begins now told f =
             let x = managed_by (manager_step T (answer_in p)) (answer_in p) T in
             term_begins judgements.Got now (office_replied (answer_in p) o) (managed (answer_in p) o T.agents) told x (got_for now for_manager f)
@@ -318,10 +326,24 @@ module _ (units ready : ℕ) (has : 0 < units) (start : List Disk) {past : List 
                 (record { kind = closing.kind; life = closing.life ∙ ap (λ x. under_way closing.kind x) mine })
                 (record { sent = k.sent; is = k.is; peer_is = k.peer_is ∙ sym source_is; number_is = k.number_is ∙ sym number_is })
 
-            pub agent_begins : (disks : List Disk) (units_are : (unit : ℕ) → unit_at before.units unit ≡ plain_in w.target.units disks unit) (now : NodeState) (told : List Side) (run : Option Told) → IsToldOf told (plain_in w.target.units disks serving_it.login.unit) run → Begins o (answers_it disks units_are place for_it.which (answer_in p) serving_it.login told) told (term_in start past (noted judgements.Got now))
-            agent_begins disks units_are now told run tells =
+            -- who has the place is the initiator of its login
+            holder_there : AreHeldAt start (hist past w) w → (now : NodeState) → (holder (noted judgements.Got now) place).initiator ≡ initiator_at T (terms (hist past (noted judgements.Got now))) place
+            holder_there held now =
+                let s = serving_it in
+                let hold = held.held place s.login s.login_is in
+                let node = node_in (place_at T.table.places place) in
+                let c = gets_clock (t.sent serial) serial t in
+                ap (λ places. (holder_at places place).initiator) (marked_same serial again (with_target now w))
+                ∙ ap (λ who. (or_nobody who).initiator) hold.there
+                ∙ sym (hold.live s.live).terms_are
+                ∙ sym (ap (λ (x : Table). initiator_with t (node_in (place_at x.places place))) (ap (λ (x : Office). x.table) (over_keeps before)))
+                ∙ sym (initiators_same t (gets (t.sent serial) serial t) node (λ n. ap (λ x. (gets (t.sent serial) serial t).ids x n) c.generation ∙ c.ids n))
+                ∙ ap (λ ms. initiator_with (terms ms) node) (sym (note_hist judgements.Got now))
+
+            pub agent_begins : (disks : List Disk) (units_are : (unit : ℕ) → unit_at before.units unit ≡ plain_in w.target.units disks unit) (now : NodeState) (told : List Side) (run : Option Told) → AreHeldAt start (hist past w) w → IsToldOf place told (plain_in w.target.units disks serving_it.login.unit) run → BeginsAt judgements.Got now o (answers_it disks units_are place for_it.which (answer_in p) serving_it.login told) told (term_in start past (noted judgements.Got now))
+            agent_begins disks units_are now told run held tells =
                 term_begins judgements.Got now o (answers_it disks units_are place for_it.which (answer_in p) serving_it.login told) told (waiting disks units_are place for_it.which (answer_in p) serving_it.login) (got_for now (for_agent place for_it.which) for_it.is)
-                (reply_begins disks units_are place for_it.which (answer_in p) serving_it.login told run are.size small serving_it.login_is tells)
+                (reply_begins disks units_are place for_it.which (answer_in p) serving_it.login (noted judgements.Got now) (terms (hist past (noted judgements.Got now))) told run are.size small serving_it.login_is tells (holder_there held now))
 
     -- ---- a request
     module _ (p : Packet) (read : reading sent.bytes ≡ Ok p) (none : reply_kind p ≡ None) where
@@ -359,7 +381,7 @@ module _ (units ready : ℕ) (has : 0 < units) (start : List Disk) {past : List 
       abbrev demand : Demand
       demand = demand_of (length w.target.rom) p
 
-      got_begins : (now : NodeState) (told : List Side) → AreJudged (hist past (noted judgements.Got now)) → Begins (management.demanded demand (header_in p).source o) (demanded demand T.agents) told (term_in start past (noted judgements.Got now))
+      got_begins : (now : NodeState) (told : List Side) → AreJudged (hist past (noted judgements.Got now)) → BeginsAt judgements.Got now (management.demanded demand (header_in p).source o) (demanded demand T.agents) told (term_in start past (noted judgements.Got now))
       got_begins now told j =
           term_begins judgements.Got now (management.demanded demand (header_in p).source o) (demanded demand T.agents) told asked (got_request now j)
           (quiet_begins (management.demanded demand (header_in p).source o) (demanded demand T.agents) told asked
@@ -379,7 +401,7 @@ module _ (units ready : ℕ) (has : 0 < units) (start : List Disk) {past : List 
 
         abbrev Asked : Bool → Judged × Whole → Type 0
         Asked b (judged, x) =
-            AreJudged (hist past (noted judged x.node)) → Begins (management.requested b p w.target o) (requested b p w.target T.agents) x.outbox.sides (term_in start past (noted judged x.node))
+            AreJudged (hist past (noted judged x.node)) → BeginsAt judged x.node (management.requested b p w.target o) (requested b p w.target T.agents) x.outbox.sides (term_in start past (noted judged x.node))
 
         asked_by : (b : Bool) → Asked b (judged_scene (given b) before_whole)
         asked_by true j = ignored_begins causes.Login _ _
@@ -392,12 +414,12 @@ module _ (units ready : ℕ) (has : 0 < units) (start : List Disk) {past : List 
             subst (λ b. Asked (is_barred w.target p) (judged_scene (given b) before_whole)) (sym barred) (asked_by (is_barred w.target p))
 
     -- ---- whatever it is found to be
-    module _ (requests : List Request) (are : AreOf requests T.agents w.target) (known : AreKnown requests w.target w.requests) (run : Option Told) (media : Held) (units_are : (unit : ℕ) → unit_at before.units unit ≡ plain_in w.target.units media.disks unit) where
+    module _ (requests : List Request) (are : AreOf requests T.agents w.target) (known : AreKnown requests w.target w.requests) (run : Option Told) (media : Held) (units_are : (unit : ℕ) → unit_at before.units unit ≡ plain_in w.target.units media.disks unit) (held : AreHeldAt start (hist past w) w) where
       pub record Lands (f : Finding Purpose) (judged : Judged) (x : Whole) : Type 0 where
         pub term_told : Option Told
         pub untold : Bool
         pub alike : ToldAlike untold term_told run
-        pub begins : Begins (management.delivered f w.target o) (delivered term_told untold f w.target media.disks o T.agents) x.outbox.sides (term_in start past (noted judged x.node))
+        pub begins : BeginsAt judged x.node (management.delivered f w.target o) (delivered term_told untold f w.target media.disks o T.agents) x.outbox.sides (term_in start past (noted judged x.node))
 
       none_alike : run ≡ None → ToldAlike false None run
       none_alike e = subst (ToldAlike false None) (sym e) (record { both = refl; alike = record { outcome = refl; size = refl; answer = λ f. refl } })
@@ -473,15 +495,15 @@ module _ (units ready : ℕ) (has : 0 < units) (start : List Disk) {past : List 
 
             abbrev Replied : Option Login → Option Which → Type 0
             Replied login which =
-                Begins o (replied (run_told left.outbox.sides its_plain) (run_untold left.outbox.sides its_plain (agent_in T.agents place).untold) place (answer_in p) w.target media.disks login which T.agents) left.outbox.sides (term_in start past (noted judgements.Got left.node))
+                BeginsAt judgements.Got left.node o (replied (run_told left.outbox.sides its_plain) (run_untold left.outbox.sides its_plain (agent_in T.agents place).untold) place (answer_in p) w.target media.disks login which T.agents) left.outbox.sides (term_in start past (noted judgements.Got left.node))
 
-            its_begins : IsToldOf left.outbox.sides its_plain run → Replied (served_login w.target place) (which_in (desk_at w.target place) (header_in p).source label)
+            its_begins : IsToldOf place left.outbox.sides its_plain run → Replied (served_login w.target place) (which_in (desk_at w.target place) (header_in p).source label)
             its_begins tells =
                 subst (λ l. Replied l (which_in (desk_at w.target place) (header_in p).source label)) (sym its.served_is)
                 (subst (λ k. Replied (Some its.login) k) (sym its.which_is)
-                (agent_begins p read some label (Some (purposes.Agent place)) layer e a requests are known place refl media.disks units_are left.node left.outbox.sides run tells))
+                (agent_begins p read some label (Some (purposes.Agent place)) layer e a requests are known place refl media.disks units_are left.node left.outbox.sides run held tells))
 
-            its_lands : IsToldOf left.outbox.sides its_plain run → Lands Mine judgements.Got left
+            its_lands : IsToldOf place left.outbox.sides its_plain run → Lands Mine judgements.Got left
             its_lands tells = record {
               term_told = run_told left.outbox.sides its_plain;
               untold = run_untold left.outbox.sides its_plain (agent_in T.agents place).untold;
@@ -490,7 +512,7 @@ module _ (units ready : ℕ) (has : 0 < units) (start : List Disk) {past : List 
             }
 
           abbrev Tells : Option Login → Option Which → Type 0
-          Tells login which = ToldBy login which w.target media.disks left.outbox.sides run
+          Tells login which = ToldBy place login which w.target media.disks left.outbox.sides run
 
           agent_lands : IsToldFor Mine layer → LandsAs Mine (given_of Mine layer)
           agent_lands tells j =

@@ -66,7 +66,7 @@ use Rattle.sbp_world.proofs.Agents.CrewTurns.{Begins, doing_behind, quiet_begins
 use Rattle.sbp_world.proofs.Agents.Handed.{are_handed}
 use Rattle.sbp_world.proofs.Agents.Leaving.{packets_leave}
 use Rattle.sbp_world.proofs.Agents.Notes.{notes_law}
-use Rattle.sbp_world.proofs.Agents.ToldAlike.{IsToldOf, told_alike_expired}
+use Rattle.sbp_world.proofs.Agents.ToldAlike.{IsToldOf, run_of_place, told_alike_expired}
 use Rattle.sbp_world.proofs.Agents.Purposes.{Waits, g, held_waits, labels, law}
 
 -- a time-out is a loss, whatever the unit
@@ -79,9 +79,12 @@ none_there : (x : Option Told) → is_some x ≡ false → x ≡ None
 none_there None e = refl
 none_there (Some told) e = absurd (let no : true ≡ false = e in cc)
 
+none_told : (x : Option Told) → is_some x ≡ true → is_some x ≡ false → ⊥
+none_told x e f = let no : true ≡ false = sym e ∙ f in cc
+
 -- a reply that waits, where nothing is told of a run
-lapse_resumes : (told : List Side) → ((plain : PlainDisk) → IsToldOf told plain None) → (place : ℕ) (which : Which) (t : Target) (plain : PlainDisk) → resumed (Some (record { place = place; which = which; answer = Expired })) told t ≡ changed place (term_answered None false place plain which Expired) t.agents
-lapse_resumes told tells place which t plain =
+lapse_resumes : (told : List Side) (place : ℕ) → ((plain : PlainDisk) → IsToldOf place told plain None) → (which : Which) (t : Target) (plain : PlainDisk) → resumed (Some (record { place = place; which = which; answer = Expired })) told t ≡ changed place (term_answered None false place plain which Expired) t.agents
+lapse_resumes told place tells which t plain =
     let own = plain_for t (record { place = place; which = which; answer = Expired }) in
     let a = agent_in t.agents place in
     ap (λ (run : Option Told). slice_set t.agents place (term_answered run (run_untold told own a.untold) place own which Expired a)) (none_there (run_told told own) ((tells own).alike a.untold).both)
@@ -123,6 +126,9 @@ module _ (units ready : ℕ) (has : 0 < units) (start : List Disk) {past : List 
 
   abbrev pub v : WorldState
   v = lapsed_world x.node
+
+  abbrev BeginsAt : NodeState → Office → List Agent → List Side → Target → Type 0
+  BeginsAt now = Begins (lapsed_world now) (terms (hist past (lapsed_world now)))
 
   abbrev entered : IsLatest w.requests (terms stands.wire.past).ids (terms stands.wire.past).current (terms stands.wire.past).bus serial request
   entered = entry start w stands G L h.at serial request found
@@ -185,15 +191,15 @@ module _ (units ready : ℕ) (has : 0 < units) (start : List Disk) {past : List 
     lapsed_for : (now : NodeState) (for : TermPurpose) → purpose_of own_terms serial ≡ for → term_in start past (lapsed_world now) ≡ replied_to for Expired own_terms
     lapsed_for now for f = asked.lapses now ∙ ap (λ x. replied_to x Expired own_terms) f
 
-    nobody_begins : (now : NodeState) (told : List Side) → purpose_of own_terms serial ≡ for_nobody → Begins own_office own_terms.agents told (term_in start past (lapsed_world now))
+    nobody_begins : (now : NodeState) (told : List Side) → purpose_of own_terms serial ≡ for_nobody → BeginsAt now own_office own_terms.agents told (term_in start past (lapsed_world now))
     nobody_begins now told f =
-        subst (Begins own_office own_terms.agents told) (sym (lapsed_for now for_nobody f))
+        subst (BeginsAt now own_office own_terms.agents told) (sym (lapsed_for now for_nobody f))
         (quiet_begins own_office own_terms.agents told own_terms (none_waits units ready has start w h) refl refl)
 
-    manager_begins : (now : NodeState) (told : List Side) → purpose_of own_terms serial ≡ for_manager → Begins (office_replied Expired own_office) (managed Expired own_office own_terms.agents) told (term_in start past (lapsed_world now))
+    manager_begins : (now : NodeState) (told : List Side) → purpose_of own_terms serial ≡ for_manager → BeginsAt now (office_replied Expired own_office) (managed Expired own_office own_terms.agents) told (term_in start past (lapsed_world now))
     manager_begins now told f =
         let y = managed_by (manager_step own_terms Expired) Expired own_terms in
-        subst (Begins (office_replied Expired own_office) (managed Expired own_office own_terms.agents) told) (sym (lapsed_for now for_manager f))
+        subst (BeginsAt now (office_replied Expired own_office) (managed Expired own_office own_terms.agents) told) (sym (lapsed_for now for_manager f))
         (quiet_begins (office_replied Expired own_office) (managed Expired own_office own_terms.agents) told y (managed_idle (manager_step own_terms Expired) Expired own_terms (over_idle (before units ready has start w h))).reply (notes_law.manages Expired own_terms) (managed_office (manager_step own_terms Expired) Expired own_terms))
 
     module _ (requests : List Request) (are : AreOf requests own_terms.agents w.target) (known : AreKnown requests w.target w.requests) where
@@ -218,24 +224,24 @@ module _ (units ready : ℕ) (has : 0 < units) (start : List Disk) {past : List 
         late = record own_terms { reply = Some (record { place = place; which = for_it.which; answer = Expired }) }
 
         abbrev Replied : List Side → Option Login → Option Which → NodeState → Type 0
-        Replied told login which now = Begins own_office (replied None false place Expired w.target [] login which own_terms.agents) told (term_in start past (lapsed_world now))
+        Replied told login which now = BeginsAt now own_office (replied None false place Expired w.target [] login which own_terms.agents) told (term_in start past (lapsed_world now))
 
-        agent_begins : (now : NodeState) (told : List Side) → ((plain : PlainDisk) → IsToldOf told plain None) → Replied told (login_at w.target place) (which_in (desk_at w.target place) request.peer request.label) now
+        agent_begins : (now : NodeState) (told : List Side) → ((plain : PlainDisk) → IsToldOf place told plain None) → Replied told (login_at w.target place) (which_in (desk_at w.target place) request.peer request.label) now
         agent_begins now told tells =
             let s = serving_it in
             let plain = plain_in w.target.units [] s.login.unit in
             subst (λ l. Replied told l (which_in (desk_at w.target place) request.peer request.label) now) (sym s.login_is)
             (subst (λ k. Replied told (Some s.login) k now) (sym s.which_is)
-            (subst (Begins own_office (changed place (term_answered None false place plain for_it.which Expired) own_terms.agents) told) (sym (lapsed_for now (for_agent place for_it.which) for_it.is))
-            (record { office = refl; may = (are.size, small, (tells plain).of_step); resumes = lapse_resumes told tells place for_it.which late plain })))
+            (subst (BeginsAt now own_office (changed place (term_answered None false place plain for_it.which Expired) own_terms.agents) told) (sym (lapsed_for now (for_agent place for_it.which) for_it.is))
+            (record { office = refl; may = (are.size, small, ((tells plain).of_step, run_of_place told plain (lapsed_world now) place _ (tells plain).at (λ e. absurd (none_told (run_told told plain) e ((tells plain).alike false).both)))); resumes = lapse_resumes told place tells for_it.which late plain })))
 
-      agent_tells : (place : ℕ) → purpose ≡ Some (purposes.Agent place) → (plain : PlainDisk) → IsToldOf x.outbox.sides plain None
+      agent_tells : (place : ℕ) → purpose ≡ Some (purposes.Agent place) → (plain : PlainDisk) → IsToldOf place x.outbox.sides plain None
       agent_tells place own plain =
           told_alike_expired w.target request.peer request.label place plain (ap (λ (f : Result (Option Purpose) Stale × Layer Purpose). f.0) e ∙ ap Ok own)
 
       abbrev BeginsFor : Option Purpose → Type 0
       BeginsFor p =
-          Begins (management.lapsed (Ok p) own_office) (lapsed (Ok p) request.peer request.label w.target own_office own_terms.agents) x.outbox.sides (term_in start past v)
+          BeginsAt x.node (management.lapsed (Ok p) own_office) (lapsed (Ok p) request.peer request.label w.target own_office own_terms.agents) x.outbox.sides (term_in start past v)
 
       begins_for : (p : Option Purpose) → purpose ≡ p → BeginsFor p
       begins_for None own = nobody_begins x.node x.outbox.sides (handed.nobody own)

@@ -48,16 +48,16 @@ use Rattle.sbp_world.specs.Agents.Crews.{with_requests}
 use Rattle.sbp_world.proofs.Agents.Asides.{asides_law}
 use Rattle.sbp_world.proofs.Agents.CrewDelivery.{delivered_crew}
 use Rattle.sbp_world.proofs.Agents.CrewOthers.{got_out, settled_ends, stopped_ends}
-use Rattle.sbp_world.proofs.Agents.CrewPass.{AllUnits, Crewed, UnitsAre, acts, injects, keys_line, loses, not_zero, own_crew, refuses, resets, same_crew, sights, ticks_line, times_out}
+use Rattle.sbp_world.proofs.Agents.CrewPass.{AllSites, Crewed, IsSite, acts, injects, keys_line, loses, not_zero, own_crew, refuses, resets, same_crew, sights, ticks_line, times_out}
 use Rattle.sbp_world.proofs.Agents.Known.{known_over_delivery}
 
 -- what a line tells of runs, as its deliveries begin
-abbrev pub LineUnits : Event → List Disk → List Moment → List (Option Told) → Scene → Type 0
-LineUnits (events.Deliver serial) start past told s = UnitsAre start past s
-LineUnits (events.Repeat serial) start past told s = UnitsAre start past s
-LineUnits (events.Step count) start past told s = AllUnits start past told s
-LineUnits events.Settle start past told s = AllUnits start past told s
-LineUnits event start past told s = Unit {0}
+abbrev pub LineSites : Event → List Disk → List Moment → List (Option Told) → Scene → Type 0
+LineSites (events.Deliver serial) start past told s = IsSite start past s
+LineSites (events.Repeat serial) start past told s = IsSite start past s
+LineSites (events.Step count) start past told s = AllSites start past told s
+LineSites events.Settle start past told s = AllSites start past told s
+LineSites event start past told s = Unit {0}
 
 marked_requests : (serial : ℕ) (again : Bool) (w : WorldState) → (marked serial again w).requests ≡ w.requests
 marked_requests serial again w = by (again || not (is_flying serial w.store.kept))
@@ -81,7 +81,7 @@ module _ (units ready : ℕ) (has : 0 < units) (start : List Disk) where
   H past lines w = Holding units ready start past lines w
 
   -- ---- a packet is delivered
-  module _ {past : List Moment} {lines : ℕ} (s : Scene) (h : H past lines s.world) (c : C past s.world) (serial : ℕ) (again : Bool) (run : Option Told) (bytes : BytesTold run) (may : MayReceive run serial s) (u : UnitsAre start past s) where
+  module _ {past : List Moment} {lines : ℕ} (s : Scene) (h : H past lines s.world) (c : C past s.world) (serial : ℕ) (again : Bool) (run : Option Told) (bytes : BytesTold run) (may : MayReceive run serial s) (u : IsSite start past s) where
     module _ (sent : Sent) (found : found_sent serial s.world.store.kept ≡ Some sent) where
       -- to the target
       module _ (zero_to : sent.to ≡ 0) where
@@ -96,7 +96,7 @@ module _ (units ready : ℕ) (has : 0 < units) (start : List Disk) where
 
         are_now : (faults now : List ℕ) → TellsIn run (judging_step w.target.layer sent.generation sent.bytes).0 (with_layer (judging_step w.target.layer sent.generation sent.bytes).1 (whole_of w.target s.media)) faults now → Sound past lines (handed_out 0 0 r.1.outbox v) → AreOf (with_requests v.store.last r.1.outbox.packets c.requests) (over (term_in start past (handed_out 0 0 r.1.outbox v))).agents r.1.node
         are_now faults now t sound =
-            delivered_crew units ready has start w h serial again sent found zero_to c.requests c.are c.sent.known run s.media u.each bytes faults now t sound
+            delivered_crew units ready has start w h serial again sent found zero_to c.requests c.are c.sent.known run s.media u.units.each u.held bytes faults now t sound
 
         are_left : MayTell run sent w.target s.media → Sound past lines (handed_out 0 0 r.1.outbox v) → AreOf (with_requests v.store.last r.1.outbox.packets c.requests) (over (term_in start past (handed_out 0 0 r.1.outbox v))).agents r.1.node
         unfolding MayTell
@@ -172,17 +172,17 @@ module _ (units ready : ℕ) (has : 0 < units) (start : List Disk) where
     heard : Sound past lines (delivered serial again run s).world → C past (delivered serial again run s).world
     heard sound = heard_by (found_sent serial s.world.store.kept) refl sound
 
-  delivers_if : {past : List Moment} {lines : ℕ} (b : Bool) (line serial : ℕ) (again : Bool) (told : List (Option Told)) (s : Scene) → AreTold told → MayIf b serial told s → UnitsAre start past s → H past lines s.world → (term_in start past s.world).reply ≡ None → C past s.world → Sound past lines (delivered_if b line serial again told s).world → C past (delivered_if b line serial again told s).world
+  delivers_if : {past : List Moment} {lines : ℕ} (b : Bool) (line serial : ℕ) (again : Bool) (told : List (Option Told)) (s : Scene) → AreTold told → MayIf b serial told s → IsSite start past s → H past lines s.world → (term_in start past s.world).reply ≡ None → C past s.world → Sound past lines (delivered_if b line serial again told s).world → C past (delivered_if b line serial again told s).world
   delivers_if true line serial again [] s t m u h idle c sound = absurd m
   delivers_if true line serial again (run ∷ []) s t m u h idle c sound = heard s h c serial again run t.0 m u sound
   delivers_if true line serial again (run ∷ (other ∷ more)) s t m u h idle c sound = absurd m
   delivers_if false line serial again told s t m u h idle c sound = refuses units ready has start s.world h idle c line no_packet
 
-  next_heard : {past : List Moment} {lines : ℕ} (run : Option Told) → BytesTold run → (s : Scene) → H past lines s.world → C past s.world → UnitsAre start past s → (o : Option ℕ) → settling.MayAt o run s → Sound past lines (delivered_at o run s).world → C past (delivered_at o run s).world
+  next_heard : {past : List Moment} {lines : ℕ} (run : Option Told) → BytesTold run → (s : Scene) → H past lines s.world → C past s.world → IsSite start past s → (o : Option ℕ) → settling.MayAt o run s → Sound past lines (delivered_at o run s).world → C past (delivered_at o run s).world
   next_heard run t s h c u None m sound = absurd m
   next_heard run t s h c u (Some serial) m sound = heard s h c serial false run t m u sound
 
-  pub all_crew : {past : List Moment} {lines : ℕ} (told : List (Option Told)) → AreTold told → (s : Scene) → MayAll told s → AllUnits start past told s → H past lines s.world → C past s.world → (terms past).repeats ≡ false → C past (after_all told s).world
+  pub all_crew : {past : List Moment} {lines : ℕ} (told : List (Option Told)) → AreTold told → (s : Scene) → MayAll told s → AllSites start past told s → H past lines s.world → C past s.world → (terms past).repeats ≡ false → C past (after_all told s).world
   unfolding delivered_next MayNext
   all_crew [] t s m u h c r = c
   all_crew (run ∷ before) t s m u h c r =
@@ -201,7 +201,7 @@ module _ (units ready : ℕ) (has : 0 < units) (start : List Disk) where
     opened_idle : (term_in start (asked line event ∷ hist past w) (without_notes w)).reply ≡ None
     opened_idle = (over_idle (term_in start past w)).reply
 
-  goes : {past : List Moment} {lines : ℕ} (line : ℕ) (event : Event) (told : List (Option Told)) (s : Scene) → IsLine event (length s.world.initiators) → AreTold told → MayHappen event told s → LineUnits event start (asked line event ∷ hist past s.world) told (begun s) → H past lines s.world → C past s.world → Sound (asked line event ∷ hist past s.world) (lines + 1) (happens line event told s).world → C (asked line event ∷ hist past s.world) (happens line event told s).world
+  goes : {past : List Moment} {lines : ℕ} (line : ℕ) (event : Event) (told : List (Option Told)) (s : Scene) → IsLine event (length s.world.initiators) → AreTold told → MayHappen event told s → LineSites event start (asked line event ∷ hist past s.world) told (begun s) → H past lines s.world → C past s.world → Sound (asked line event ∷ hist past s.world) (lines + 1) (happens line event told s).world → C (asked line event ∷ hist past s.world) (happens line event told s).world
   unfolding happens MayHappen
   goes line (events.Begin initiators is_ready) told s l t m u h c sound = absurd l
   goes {past} line (events.Act initiator action) told s l t m u h c sound =
@@ -242,5 +242,5 @@ module _ (units ready : ℕ) (has : 0 < units) (start : List Disk) where
       let e = events.Key unit key in
       keys_line units ready has start (without_notes s.world) (opens units ready has start line e s.world refl h) (opened_idle line e s.world past) (opened line e s.world past c) line unit key
 
-  pub line_crew : {past : List Moment} {lines : ℕ} (line : ℕ) (event : Event) (told : List (Option Told)) (s : Scene) → IsLine event (length s.world.initiators) → AreTold told → MayHappen event told s → LineUnits event start (asked line event ∷ hist past s.world) told (begun s) → lines + 1 < 2 ^ 32 → H past lines s.world → C past s.world → C (asked line event ∷ hist past s.world) (happens line event told s).world
+  pub line_crew : {past : List Moment} {lines : ℕ} (line : ℕ) (event : Event) (told : List (Option Told)) (s : Scene) → IsLine event (length s.world.initiators) → AreTold told → MayHappen event told s → LineSites event start (asked line event ∷ hist past s.world) told (begun s) → lines + 1 < 2 ^ 32 → H past lines s.world → C past s.world → C (asked line event ∷ hist past s.world) (happens line event told s).world
   line_crew line event told s l t m u few h c = goes line event told s l t m u h c (line_holds units ready has start line event told s l t few h).sound

@@ -1,6 +1,5 @@
 -- What others do leaves the terms of the target as they are, once a turn of it is over; and so does the note at the end of a line.
-use Rattle.std.proofs.Common.{arith, ◌≡◌, ◌∙◌, refl, sym, ap, ℕ, zero, suc, ◌+◌, not, nat_eq, false, cond, List, [], ◌∷◌, Option, Some, None}
-use Rattle.std.specs.Prelude.{slice_index_or, slice_set}
+use Rattle.std.proofs.Common.{arith, ◌≡◌, ◌∙◌, refl, ap, ℕ, suc, ◌+◌, not, nat_eq, false, cond, List, [], ◌∷◌, Option, Some, None}
 use Rattle.async_packet.specs.Labels.{LabelParts}
 use Rattle.orb_layout.specs.Replies.{Expired}
 use Rattle.rbc_disk.specs.Disk.{Disk}
@@ -15,7 +14,8 @@ use Rattle.sbp_journal.specs.declared.side.Side.{Side}
 use Rattle.sbp_journal.specs.declared.side.Side.TheVariants as sides
 use Rattle.sbp_journal.specs.Outgoings.{OutboxState}
 use Rattle.sbp_laws.specs.Packets.{access_in_bytes, answered_at, receiver_in, sender_in}
-use Rattle.sbp_laws.specs.Targets.{Agent, Reply, Target, agent_at, going_on, got_by, is_serial, is_write_access, known_at, new_agent, over, replied, reset_seen, sent_as, taken_on, target_at, target_by, told_in, with_agent, with_untold}
+use Rattle.sbp_laws.specs.Targets.{Reply, Target, going_on, got_by, is_serial, is_write_access, known_at, over, replied, reset_seen, sent_as, taken_on, target_at, target_by}
+use Rattle.sbp_laws.proofs.Going.{going_still, quiet_on}
 use Rattle.sbp_world.specs.Handing.{handed_out}
 use Rattle.sbp_world.specs.Sending.{asked, posted, sent, sent_all, sent_to}
 use Rattle.sbp_world.specs.Telling.{told, told_all}
@@ -26,9 +26,6 @@ use Rattle.sbp_world.proofs.Agents.Management.Told.{term_in}
 use Rattle.sbp_world.proofs.Agents.Asides.{settled_over}
 
 -- ---- a note of another node, where no reply waits
-pub going_still : (note : Note) (t : Target) → t.reply ≡ None → going_on note t ≡ t
-going_still note t e = ap (λ (r : Option Reply). taken_on (told_in r note t) r (with_untold note r t)) e
-
 own_still : (note : Note) (past : List Moment) (wire : Terms) (t : Target) → IsNoRun note → t.reply ≡ None → target_by note past wire t ≡ t
 own_still (notes.Append i list orb cdb buffer) past wire t h e = going_still (notes.Append i list orb cdb buffer) t e
 own_still (notes.Low i list orb) past wire t h e = going_still (notes.Low i list orb) t e
@@ -149,30 +146,8 @@ module _ (start : List Disk) (ms : List Moment) where
   seen_out node generation e = ap (λ b. cond b (reset_seen (not (nat_eq generation ((known_at start ms).wire.generation 0))) (over T)) (over T)) e
 
 -- ---- the note at the end of a line
-set_self : (agents : List Agent) (k : ℕ) → slice_set agents k (slice_index_or agents k new_agent) ≡ agents
-set_self [] k = refl
-set_self (a ∷ agents) zero = refl
-set_self (a ∷ agents) (suc k) = ap (λ xs. a ∷ xs) (set_self agents k)
-
-same_with : (t : Target) (place : ℕ) → with_agent t place (agent_at t place) ≡ t
-same_with t place = ap (λ xs. record t { agents = xs }) (set_self t.agents place)
-
-settled_by : (t : Target) (reply : Option Reply) → t.reply ≡ reply → going_on notes.Settled t ≡ taken_on None t.reply t
-settled_by t None e = going_still notes.Settled t e ∙ sym (ap (λ (r : Option Reply). taken_on None r t) e)
-settled_by t (Some reply) e =
-    ap (λ (r : Option Reply). taken_on (told_in r notes.Settled t) r (with_untold notes.Settled r t)) e
-    ∙ ap (λ (x : Target). taken_on None (Some reply) x) (same_with t reply.place)
-    ∙ sym (ap (λ (r : Option Reply). taken_on None r t) e)
-
-stopped_by : (t : Target) (reply : Option Reply) → t.reply ≡ reply → going_on notes.Stopped t ≡ taken_on None t.reply t
-stopped_by t None e = going_still notes.Stopped t e ∙ sym (ap (λ (r : Option Reply). taken_on None r t) e)
-stopped_by t (Some reply) e =
-    ap (λ (r : Option Reply). taken_on (told_in r notes.Stopped t) r (with_untold notes.Stopped r t)) e
-    ∙ ap (λ (x : Target). taken_on None (Some reply) x) (same_with t reply.place)
-    ∙ sym (ap (λ (r : Option Reply). taken_on None r t) e)
-
 pub settled_ends : (t : Target) → (over (going_on notes.Settled t)).agents ≡ (over t).agents
-settled_ends t = ap (λ (x : Target). (over x).agents) (settled_by t t.reply refl) ∙ settled_over t
+settled_ends t = ap (λ (x : Target). (over x).agents) (quiet_on notes.Settled (record { told = λ p. refl; untold = λ p b. refl }) t) ∙ settled_over t
 
 pub stopped_ends : (t : Target) → (over (going_on notes.Stopped t)).agents ≡ (over t).agents
-stopped_ends t = ap (λ (x : Target). (over x).agents) (stopped_by t t.reply refl) ∙ settled_over t
+stopped_ends t = ap (λ (x : Target). (over x).agents) (quiet_on notes.Stopped (record { told = λ p. refl; untold = λ p b. refl }) t) ∙ settled_over t

@@ -22,6 +22,7 @@ use Rattle.sbp_journal.specs.declared.note.Note.TheVariants as notes
 use Rattle.sbp_laws.specs.Packets.{sender_in}
 use Rattle.sbp_laws.specs.Targets.{Target, is_serial, key_by, known_at, over}
 use Rattle.sbp_laws.specs.Turns.{event_of}
+use Rattle.sbp_laws.proofs.Going.{going_still}
 use Rattle.sbp_target.specs.declared.purpose.Purpose.{Purpose}
 use Rattle.sbp_target.specs.Calls.{alone, lets_expire, sees, ticks}
 use Rattle.sbp_target.specs.Nodes.{Scene as TargetScene, scene}
@@ -47,23 +48,25 @@ use Rattle.sbp_world.proofs.Agents.Management.Told.{term_in}
 use Rattle.sbp_world.specs.Agents.Asides.{MayGoOn}
 use Rattle.sbp_world.specs.Agents.Calls.{AreOf}
 use Rattle.sbp_world.specs.Agents.Crews.{Request, with_requests}
+use Rattle.sbp_world.specs.Agents.Holders.{AreHeldAt}
 use Rattle.sbp_world.specs.Agents.Units.{AreUnitsAt}
 use Rattle.sbp_world.proofs.Agents.Asides.{asides_law}
 use Rattle.sbp_world.proofs.Agents.CrewLapse.{lapsed_crew}
 use Rattle.sbp_world.proofs.Agents.CrewOthers as others
-use Rattle.sbp_world.proofs.Agents.CrewOthers.{going_still, lapsed_out, posts_still, seen_out}
+use Rattle.sbp_world.proofs.Agents.CrewOthers.{lapsed_out, posts_still, seen_out}
 use Rattle.sbp_world.proofs.Agents.CrewSights.{key_crew, second_crew, sight_crew}
 use Rattle.sbp_world.proofs.Agents.Known.{AreSent, known_over_key, known_over_lapse, known_over_own, known_over_second, known_over_sight}
 use Rattle.sbp_world.proofs.Agents.Purposes.{g, law}
 
--- the units of the terms are those of the target, with its media
-abbrev pub UnitsAre : List Disk → List Moment → Scene → Type 0
-UnitsAre start past s = AreUnitsAt start (hist past s.world) s.world.target s.media.disks
+-- what is known as a delivery begins: the units of the terms are those of the target, with its media, and who has a place is its login's initiator
+pub record IsSite (start : List Disk) (past : List Moment) (s : Scene) : Type 0 where
+  pub units : AreUnitsAt start (hist past s.world) s.world.target s.media.disks
+  pub held : AreHeldAt start (hist past s.world) s.world
 
 -- as each of these deliveries begins
-abbrev pub AllUnits : List Disk → List Moment → List (Option Told) → Scene → Type 0
-AllUnits start past [] s = Unit {0}
-AllUnits start past (told ∷ before) s = UnitsAre start past (after_all before s) × AllUnits start past before s
+abbrev pub AllSites : List Disk → List Moment → List (Option Told) → Scene → Type 0
+AllSites start past [] s = Unit {0}
+AllSites start past (told ∷ before) s = IsSite start past (after_all before s) × AllSites start past before s
 
 -- ---- what is kept
 pub record Crewed (start : List Disk) (past : List Moment) (w : WorldState) : Type 0 where

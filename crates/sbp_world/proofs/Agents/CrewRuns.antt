@@ -1,10 +1,14 @@
 -- In every run the agents of the terms are the target's.
-use Rattle.std.proofs.Common.{arith, ◌≡◌, ◌∙◌, sym, ap, subst, refl, ℕ, suc, ◌+◌, ◌^◌, ◌<◌, ◌≤◌, Bool, List, [], ◌∷◌, ◌++◌, map, length, Option}
+use Rattle.std.proofs.Common.{arith, ◌≡◌, ◌∙◌, sym, ap, subst, refl, ℕ, suc, ◌+◌, ◌^◌, ◌<◌, ◌≤◌, Bool, List, [], ◌∷◌, ◌++◌, map, length, Option, true, false}
+use Rattle.login_table.specs.declared.login.Login.{Login}
 use Rattle.rbc_disk.specs.Disk.{Disk}
 use Rattle.rbc_disk.specs.Runs.{Told}
+use Rattle.sbp_bus.specs.declared.places.Holder.{Holder}
 use Rattle.sbp_journal.specs.Run.{Moment, asked, said}
+use Rattle.sbp_journal.specs.Wire.{Terms, terms}
 use Rattle.sbp_journal.specs.declared.event.Event.{Event}
 use Rattle.sbp_journal.specs.declared.event.Event.TheVariants as events
+use Rattle.sbp_laws.specs.Targets.{Target, target_at}
 use Rattle.sbp_world.specs.Histories.{history_of, moments_behind}
 use Rattle.sbp_world.specs.Lines.{MayHappen, happens}
 use Rattle.sbp_world.specs.Making.{new_world, ready_logins}
@@ -20,8 +24,10 @@ use Rattle.sbp_world.proofs.Agents.Management.Lines.{line_holds, opens}
 use Rattle.sbp_world.proofs.Agents.Management.Runs.{are_told, no_repeats, not_reset}
 use Rattle.sbp_world.proofs.Agents.Management.Still.{hist}
 use Rattle.sbp_world.specs.Agents.Agents.{AgentsBetweenLaw, AgentsRunLaw, AreAgentsAt, ArePurposedAt, SerialsBetweenLaw, SerialsLaw}
-use Rattle.sbp_world.proofs.Agents.CrewLines.{LineUnits, all_crew, line_crew, opened}
-use Rattle.sbp_world.proofs.Agents.CrewPass.{AllUnits, Crewed, UnitsAre}
+use Rattle.sbp_world.specs.Agents.Holders.{IsHeld, IsOf}
+use Rattle.sbp_world.proofs.Agents.CrewLines.{LineSites, all_crew, line_crew, opened}
+use Rattle.sbp_world.proofs.Agents.CrewPass.{AllSites, Crewed, IsSite}
+use Rattle.sbp_world.proofs.Agents.Holders.{holders_between_law}
 use Rattle.sbp_world.proofs.Agents.Known.{sent_first}
 use Rattle.sbp_world.proofs.Agents.Notes.{notes_law}
 use Rattle.sbp_world.specs.Agents.Serials.{AreHandedAt}
@@ -37,30 +43,59 @@ first_crew line n ready units start = record {
   sent = sent_first units (ready_logins n ready) _;
 }
 
--- ---- the units, as each delivery of a line begins
-all_units : (start : List Disk) (past : List Moment) (s : Scene) → ((told : List (Option Told)) → MayAll told s → UnitsAre start past (after_all told s)) → (told : List (Option Told)) → MayAll told s → AllUnits start past told s
-all_units start past s u [] m = tt
-all_units start past s u (told ∷ before) m = (u before m.1, all_units start past s u before m.1)
+-- ---- what is known as each delivery of a line begins
+all_sites : (start : List Disk) (past : List Moment) (s : Scene) → ((told : List (Option Told)) → MayAll told s → IsSite start past (after_all told s)) → (told : List (Option Told)) → MayAll told s → AllSites start past told s
+all_sites start past s u [] m = tt
+all_sites start past s u (told ∷ before) m = (u before m.1, all_sites start past s u before m.1)
 
 -- a line that delivers once
-one_units : (start : List Disk) (past : List Moment) (line next : ℕ) (event : Event) (s : Scene) → UnitsAre start (asked next events.Settle ∷ past) (begun s) → UnitsAre start (asked line event ∷ past) (begun s)
-one_units start past line next event s u = record { count = u.count; each = u.each }
+of_repeats : (t : Terms) (repeats : Bool) (initiators initiator id : ℕ) → IsOf t initiators initiator id → IsOf (record t { repeats = repeats }) initiators initiator id
+of_repeats t repeats initiators initiator id x = record { small = x.small; node_is = x.node_is }
 
-line_units : (start : List Disk) (past : List Moment) (line : ℕ) (event : Event) (told : List (Option Told)) (s : Scene) → MayHappen event told s → ((next : ℕ) (other : Event) → DeliversMore other → (run : List (Option Told)) → MayAll run (begun s) → UnitsAre start (asked next other ∷ past) (after_all run (begun s))) → LineUnits event start (asked line event ∷ past) told (begun s)
+held_repeats : (t : Terms) (repeats : Bool) (initiators : ℕ) (target : Target) (places : List (Option Holder)) (place : ℕ) (login : Login) → IsHeld t initiators target places place login → IsHeld (record t { repeats = repeats }) initiators target places place login
+held_repeats t repeats initiators target places place login x = record {
+  holder = x.holder;
+  there = x.there;
+  login_is = x.login_is;
+  unit_is = x.unit_is;
+  live = λ e.
+      let of = x.live e in
+      record { of = of_repeats t repeats initiators x.holder.initiator login.node of.of; terms_are = of.terms_are; place_is = of.place_is };
+}
+
+one_site : (start : List Disk) (past : List Moment) (line : ℕ) (event : Event) (s : Scene) (repeats : Bool) → terms (asked line event ∷ past) ≡ record (terms past) { repeats = repeats } → IsSite start (asked 0 events.Settle ∷ past) (begun s) → IsSite start (asked line event ∷ past) (begun s)
+one_site start past line event s repeats same u =
+    let t = terms (asked 0 events.Settle ∷ past) in
+    let w = (begun s).world in
+    let target = target_at start (asked 0 events.Settle ∷ past) in
+    record {
+      units = record { count = u.units.count; each = u.units.each };
+      held = record {
+        held = λ place login e.
+            subst (λ x. IsHeld x (length w.initiators) target w.places place login) (sym same) (held_repeats t repeats (length w.initiators) target w.places place login (u.held.held place login e));
+        free = u.held.free;
+        operation = λ source e.
+            let x = u.held.operation source e in
+            (x.0, subst (λ y. IsOf y (length w.initiators) x.0 source) (sym same) (of_repeats t repeats (length w.initiators) x.0 source x.1));
+        leaves = u.held.leaves;
+      };
+    }
+
+line_sites : (start : List Disk) (past : List Moment) (line : ℕ) (event : Event) (told : List (Option Told)) (s : Scene) → MayHappen event told s → ((next : ℕ) (other : Event) → DeliversMore other → (run : List (Option Told)) → MayAll run (begun s) → IsSite start (asked next other ∷ past) (after_all run (begun s))) → LineSites event start (asked line event ∷ past) told (begun s)
 unfolding MayHappen
-line_units start past line (events.Begin initiators ready) told s m u = tt
-line_units start past line (events.Act initiator action) told s m u = tt
-line_units start past line (events.Reset physical) told s m u = tt
-line_units start past line (events.See node) told s m u = tt
-line_units start past line (events.Deliver serial) told s m u = one_units start past line 0 (events.Deliver serial) s (u 0 events.Settle tt [] tt)
-line_units start past line (events.Repeat serial) told s m u = one_units start past line 0 (events.Repeat serial) s (u 0 events.Settle tt [] tt)
-line_units start past line (events.Lose serial) told s m u = tt
-line_units start past line (events.Timeout serial) told s m u = tt
-line_units start past line (events.Step count) told s m u = all_units start (asked line (events.Step count) ∷ past) (begun s) (λ run may. u line (events.Step count) tt run may) told m.may
-line_units start past line events.Settle told s m u = all_units start (asked line events.Settle ∷ past) (begun s) (λ run may. u line events.Settle tt run may) told m.may
-line_units start past line events.Tick told s m u = tt
-line_units start past line (events.Inject initiator bytes) told s m u = tt
-line_units start past line (events.Key unit key) told s m u = tt
+line_sites start past line (events.Begin initiators ready) told s m u = tt
+line_sites start past line (events.Act initiator action) told s m u = tt
+line_sites start past line (events.Reset physical) told s m u = tt
+line_sites start past line (events.See node) told s m u = tt
+line_sites start past line (events.Deliver serial) told s m u = one_site start past line (events.Deliver serial) s false refl (u 0 events.Settle tt [] tt)
+line_sites start past line (events.Repeat serial) told s m u = one_site start past line (events.Repeat serial) s true refl (u 0 events.Settle tt [] tt)
+line_sites start past line (events.Lose serial) told s m u = tt
+line_sites start past line (events.Timeout serial) told s m u = tt
+line_sites start past line (events.Step count) told s m u = all_sites start (asked line (events.Step count) ∷ past) (begun s) (λ run may. u line (events.Step count) tt run may) told m.may
+line_sites start past line events.Settle told s m u = all_sites start (asked line events.Settle ∷ past) (begun s) (λ run may. u line events.Settle tt run may) told m.may
+line_sites start past line events.Tick told s m u = tt
+line_sites start past line (events.Inject initiator bytes) told s m u = tt
+line_sites start past line (events.Key unit key) told s m u = tt
 
 -- ---- runs
 -- with other lines
@@ -88,11 +123,16 @@ crew_first line run few has small size = record {
 }
 
 module _ (line : ℕ) (run : Run) (few : run.initiators ≤ 4) (has : 0 < run.units) (small : run.units ≤ 4) (size : length run.start.disks ≡ run.units) where
-  -- the units behind some lines
-  units_behind : (entries : List Entry) → length entries + 2 < 2 ^ 32 → AreEntries (beginning run) entries → AreLines run entries → (c : CrewAfter line run entries (after (beginning run) entries).world) → (next : ℕ) (event : Event) → DeliversMore event → (told : List (Option Told)) → MayAll told (begun (after (beginning run) entries)) → UnitsAre run.start.disks (asked next event ∷ hist c.past (after (beginning run) entries).world) (after_all told (begun (after (beginning run) entries)))
-  units_behind entries short all fit c next event d told may =
-      subst (λ ms. UnitsAre run.start.disks (asked next event ∷ ms) (after_all told (begun (after (beginning run) entries)))) (moments_same line run entries entries ∙ sym c.is)
-      (units_between_law line (record run { entries = entries }) few has small size short all (lines_same run entries entries fit) next event d told may)
+  -- and behind some lines
+  sites_behind : (entries : List Entry) → length entries + 2 < 2 ^ 32 → AreEntries (beginning run) entries → AreLines run entries → (c : CrewAfter line run entries (after (beginning run) entries).world) → (next : ℕ) (event : Event) → DeliversMore event → (told : List (Option Told)) → MayAll told (begun (after (beginning run) entries)) → IsSite run.start.disks (asked next event ∷ hist c.past (after (beginning run) entries).world) (after_all told (begun (after (beginning run) entries)))
+  sites_behind entries short all fit c next event d told may =
+      let all_of = record run { entries = entries } in
+      let lines = lines_same run entries entries fit in
+      subst (λ ms. IsSite run.start.disks (asked next event ∷ ms) (after_all told (begun (after (beginning run) entries)))) (moments_same line run entries entries ∙ sym c.is)
+      (record {
+        units = units_between_law line all_of few has small size short all lines next event d told may;
+        held = holders_between_law line all_of few has small size short all lines next event d told may;
+      })
 
   pub crew_after : (entries : List Entry) → length entries + 2 < 2 ^ 32 → AreEntries (beginning run) entries → AreLines run entries → CrewAfter line run entries (after (beginning run) entries).world
   crew_after [] short all fit = crew_first line run few has small size
@@ -108,7 +148,7 @@ module _ (line : ℕ) (run : Run) (few : run.initiators ≤ 4) (has : 0 < run.un
         is = ap (λ ns. map said ns ++ asked e.line e.event ∷ hist b.past s.world) (sym all.0.notes_are)
             ∙ ap (λ ms. map said e.notes ++ asked e.line e.event ∷ ms) b.is;
         crew = line_crew run.units logins has run.start.disks e.line e.event e.told s fit.0 t all.0.may
-            (line_units run.start.disks (hist b.past s.world) e.line e.event e.told s all.0.may (λ next other d told may. units_behind before (omega arith) all.1 fit.1 b next other d told may))
+            (line_sites run.start.disks (hist b.past s.world) e.line e.event e.told s all.0.may (λ next other d told may. sites_behind before (omega arith) all.1 fit.1 b next other d told may))
             (omega arith) b.holds b.crew;
       }
 
@@ -130,7 +170,7 @@ agents_between_law line run few has small size short all fit next event d told m
     let past = asked next event ∷ hist r.past s.world in
     let begins = opens run.units logins has start next event s.world (not_reset event d) r.holds in
     let first = opened run.units logins has start next event s.world r.past r.crew in
-    let u = all_units start past (begun s) (λ run_told m. units_behind line run few has small size run.entries short all fit r next event d run_told m) told may in
+    let u = all_sites start past (begun s) (λ run_told m. sites_behind line run few has small size run.entries short all fit r next event d run_told m) told may in
     let c = all_crew run.units logins has start told (are_told told s may) (begun s) may u begins first (no_repeats event (hist r.past s.world) next d) in
     let w = (after_all told (begun s)).world in
     subst (λ ms. AreAgentsAt start (map said w.fresh ++ asked next event ∷ ms) w) r.is (crew_at start past w c)

@@ -9,6 +9,7 @@ use Rattle.label_table.proofs.Calls.{after_kept}
 use Rattle.async_packet.specs.Labels.{LabelParts}
 use Rattle.label_table.specs.History.{under_way}
 use Rattle.login_table.specs.declared.login.Login.{Login}
+use Rattle.login_table.specs.Table.{is_live}
 use Rattle.rbc_disk.specs.Disk.{Disk}
 use Rattle.command_agent.specs.declared.step.Which.{Which}
 use Rattle.command_agent.specs.declared.step.Which.TheVariants.{Ahead, Main}
@@ -61,9 +62,10 @@ pub record IsServing (node : NodeState) (place : ℕ) (x : Sent) (which : Which)
   pub login : Login
   pub login_is : login_at node place ≡ Some login
   pub served_is : served_login node place ≡ Some login
+  pub live : is_live login ≡ true
 
 serving : (node : NodeState) (place : ℕ) (x : Sent) (which : Which) → which_in (desk_at node place) x.peer x.label ≡ Some which → IsServed node place → IsServing node place x which
-serving node place x which w i = record { which_is = w; login = i.login; login_is = i.is; served_is = served_there node place i }
+serving node place x which w i = record { which_is = w; login = i.login; login_is = i.is; served_is = served_there node place i; live = i.live }
 
 module _ (units ready : ℕ) (has : 0 < units) (start : List Disk) {past : List Moment} {lines : ℕ} (w : WorldState) (h : Holding units ready start past lines w) (place : ℕ) (b : place < 8) where
   abbrev G : Good w.target

@@ -87,7 +87,7 @@ module _ (units ready : ℕ) (has : 0 < units) (start : List Disk) {past : List 
   abbrev second_world : WorldState
   second_world = with_target second.node (with_note notes.Tick w)
 
-  second_begins : Begins (ticked own_office) own_terms.agents second.outbox.sides (term_in start past second_world)
+  second_begins : Begins second_world (terms (hist past second_world)) (ticked own_office) own_terms.agents second.outbox.sides (term_in start past second_world)
   second_begins = quiet_begins (ticked own_office) own_terms.agents second.outbox.sides (term_in start past second_world) (none_waits units ready has start w h) refl refl
 
   pub second_crew : (requests : List Request) → AreOf requests own_terms.agents w.target → AreOf (with_requests second_world.store.last second.outbox.packets requests) (over (term_in start past (handed_out 0 0 second.outbox second_world))).agents second.node
@@ -137,9 +137,9 @@ module _ (units ready : ℕ) (has : 0 < units) (start : List Disk) {past : List 
       ap (λ (x : Terms). target_by (notes.Seen 0 now) (hist past w) x (before units ready has start w h)) (wire_is start (hist past w))
       ∙ ap (λ b. reset_seen b own_terms) later_is
 
-  sight_begins : Begins (management.seen is_later own_office) (seen is_later own_terms.agents) sight.outbox.sides (term_in start past sight_world)
+  sight_begins : Begins sight_world (terms (hist past sight_world)) (management.seen is_later own_office) (seen is_later own_terms.agents) sight.outbox.sides (term_in start past sight_world)
   sight_begins =
-      subst (Begins (management.seen is_later own_office) (seen is_later own_terms.agents) sight.outbox.sides) (sym sight_is)
+      subst (Begins sight_world (terms (hist past sight_world)) (management.seen is_later own_office) (seen is_later own_terms.agents) sight.outbox.sides) (sym sight_is)
       (quiet_begins (management.seen is_later own_office) (seen is_later own_terms.agents) sight.outbox.sides (reset_seen is_later own_terms)
       (seen_rests is_later own_terms ∙ none_waits units ready has start w h) (notes_law.resets is_later own_terms) (seen_office is_later own_terms))
 

@@ -2,6 +2,7 @@
 use Rattle.std.proofs.Common.{◌≡◌, ◌∙◌, sym, ap, subst, ℕ, List, [], ◌∷◌, Option, None}
 use Rattle.rbc_disk.specs.Disk.{Disk}
 use Rattle.sbp_journal.specs.Run.{Moment}
+use Rattle.sbp_journal.specs.Wire.{Terms, terms}
 use Rattle.sbp_journal.specs.declared.outbox.Outgoing.{Outgoing}
 use Rattle.sbp_journal.specs.declared.side.Side.{Side}
 use Rattle.sbp_journal.specs.declared.side.Side.TheVariants as sides
@@ -14,6 +15,7 @@ use Rattle.sbp_world.specs.Agents.Management.Offices.{Office, office_of}
 use Rattle.sbp_world.proofs.Agents.Management.Calls.{Doing, calmly, managing}
 use Rattle.sbp_world.proofs.Agents.Management.Managing.{quiet_says}
 use Rattle.sbp_world.proofs.Agents.Management.Sides.{AllBehind}
+use Rattle.sbp_world.proofs.Agents.Management.Still.{hist}
 use Rattle.sbp_world.proofs.Agents.Management.Told.{term_in}
 use Rattle.sbp_world.specs.Agents.Calls.{AreOf, Follow}
 use Rattle.sbp_world.specs.Agents.Crews.{Request, crew_over, crew_packets, crew_sides, with_requests}
@@ -44,22 +46,21 @@ doing_behind {Quiet} {May} {node} {lives} {o} {first} s (calmly q e c) = (quiet_
 doing_behind s (managing source before old may none turned r) = turned.says.behind
 
 -- ---- what the first note of a turn makes of the terms, over what the turn tells
-
-pub record Begins (first : Office) (agents : List Agent) (told : List Side) (t : Target) : Type 0 where
+pub record Begins (w : WorldState) (wire : Terms) (first : Office) (agents : List Agent) (told : List Side) (t : Target) : Type 0 where
   pub office : office_of t ≡ first
-  pub may : MayResume t.reply told t.agents
+  pub may : MayResume t.reply told w wire t
   pub resumes : resumed t.reply told t ≡ agents
 
 -- no reply waits
-pub quiet_begins : (first : Office) (agents : List Agent) (told : List Side) (t : Target) → t.reply ≡ None → t.agents ≡ agents → office_of t ≡ first → Begins first agents told t
-quiet_begins first agents told t none same office = record {
+pub quiet_begins : {w : WorldState} {wire : Terms} (first : Office) (agents : List Agent) (told : List Side) (t : Target) → t.reply ≡ None → t.agents ≡ agents → office_of t ≡ first → Begins w wire first agents told t
+quiet_begins {w} {wire} first agents told t none same office = record {
   office = office;
-  may = subst (λ (r : Option Reply). MayResume r told t.agents) (sym none) tt;
+  may = subst (λ (r : Option Reply). MayResume r told w wire t) (sym none) tt;
   resumes = ap (λ (r : Option Reply). resumed r told t) none ∙ same;
 }
 
 -- ---- the turn
-module _ (start : List Disk) (past : List Moment) (requests : List Request) (first : Office) (agents : List Agent) (x : TargetScene) (v : WorldState) (b : Begins first agents x.outbox.sides (term_in start past v)) (told : AllBehind x.outbox.sides) (leave : AllLeave v.generations x.outbox.packets) where
+module _ (start : List Disk) (past : List Moment) (requests : List Request) (first : Office) (agents : List Agent) (x : TargetScene) (v : WorldState) (b : Begins v (terms (hist past v)) first agents x.outbox.sides (term_in start past v)) (told : AllBehind x.outbox.sides) (leave : AllLeave v.generations x.outbox.packets) where
   abbrev now : WorldState
   now = handed_out 0 0 x.outbox v
 

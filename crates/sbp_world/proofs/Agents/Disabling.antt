@@ -32,8 +32,9 @@ use Rattle.sbp_journal.specs.declared.outbox.Outgoing.{Outgoing}
 use Rattle.sbp_journal.specs.declared.side.Side.{Side}
 use Rattle.sbp_journal.specs.declared.side.Side.TheVariants as sides
 use Rattle.sbp_laws.specs.Packets.{access_in_bytes}
-use Rattle.sbp_laws.specs.Targets.{Decided, Purpose, Reply, Target, disabled_at, effect_on, enters_in, entered_by, for_agent, for_manager, for_nobody, going_on, has_id, is_write_access, key_by, known_at, managed_by, manager_step, over, purpose_of, register_got, replied, replied_to, request_got, sent_as, sent_for, start_got, started_by, taken_on, target_by, told_in, wants, wants_it, with_untold}
+use Rattle.sbp_laws.specs.Targets.{Decided, Purpose, Reply, Target, disabled_at, effect_on, enters_in, entered_by, for_agent, for_manager, for_nobody, going_on, has_id, is_write_access, key_by, known_at, managed_by, manager_step, over, purpose_of, register_got, replied, replied_to, request_got, sent_as, sent_for, start_got, started_by, taken_on, target_by, wants, wants_it, is_own_run}
 use Rattle.sbp_laws.specs.Turns.{event_of}
+use Rattle.sbp_laws.proofs.Going.{AgentsAlone, going_alone, run_alone, taken_alone}
 use Rattle.sbp_world.specs.Sending.{asked, posted, sent, sent_all, sent_to}
 use Rattle.sbp_world.specs.Telling.{holder, initiator_of, told, told_all}
 use Rattle.sbp_world.specs.Worlds.{WorldState, with_note}
@@ -46,6 +47,9 @@ pub record Keeps (t now : Target) : Type 0 where
   pub enabled : now.enabled ≡ t.enabled
   pub table : now.table ≡ t.table
 
+alone_keeps : (t now : Target) → AgentsAlone t now → Keeps t now
+alone_keeps t now e = record { enabled = ap (λ (x : Target). x.enabled) e; table = ap (λ (x : Target). x.table) e }
+
 keeps_self : (t : Target) → Keeps t t
 keeps_self t = record { enabled = refl; table = refl }
 
@@ -53,17 +57,10 @@ keeps_then : (t u v : Target) → Keeps t u → Keeps u v → Keeps t v
 keeps_then t u v a b = record { enabled = b.enabled ∙ a.enabled; table = b.table ∙ a.table }
 
 taken_keeps : (run : Option Told) (reply : Option Reply) (t : Target) → Keeps t (taken_on run reply t)
-taken_keeps run None t = keeps_self t
-taken_keeps run (Some reply) t = record { enabled = refl; table = refl }
-
-untold_keeps : (note : Note) (reply : Option Reply) (t : Target) → Keeps t (with_untold note reply t)
-untold_keeps note None t = keeps_self t
-untold_keeps note (Some reply) t = record { enabled = refl; table = refl }
+taken_keeps run reply t = alone_keeps t (taken_on run reply t) (taken_alone run reply t)
 
 going_keeps : (note : Note) (t : Target) → Keeps t (going_on note t)
-going_keeps note t =
-    let u = with_untold note t.reply t in
-    keeps_then t u (going_on note t) (untold_keeps note t.reply t) (taken_keeps (told_in t.reply note t) t.reply u)
+going_keeps note t = alone_keeps t (going_on note t) (going_alone note t)
 
 pub over_same : (t : Target) → Keeps t (over t)
 over_same t = let k = taken_keeps None t.reply t in record { enabled = k.enabled; table = k.table }
@@ -211,7 +208,8 @@ note_still (notes.Got serial) past wire t h = absurd h
 note_still (notes.Ignored serial cause) past wire t h = (over_same t).enabled
 note_still (notes.Lost serial) past wire t h = (going_keeps _ t).enabled
 note_still (notes.TimedOut serial) past wire t h = absurd h
-note_still (notes.Ran i n k unit cdb bytes check) past wire t h = (going_keeps (notes.Ran i n k unit cdb bytes check) t).enabled
+note_still (notes.Ran i n k unit cdb bytes check) past wire t h =
+    ap (λ (x : Target). x.enabled) (run_alone (is_own_run t.reply i wire t) (notes.Ran i n k unit cdb bytes check) t)
 note_still (notes.Ended i n k status) past wire t h = (going_keeps _ t).enabled
 note_still (notes.Taken i n k status answer) past wire t h = (going_keeps _ t).enabled
 note_still (notes.Cut i n cause) past wire t h = (going_keeps _ t).enabled

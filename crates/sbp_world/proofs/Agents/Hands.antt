@@ -9,25 +9,29 @@ use Rattle.orb_layout.specs.declared.ask.FailCause.TheVariants as causes
 use Rattle.packet_store.specs.Stored.{Stored}
 use Rattle.rbc_disk.specs.Disk.{Disk}
 use Rattle.sbp_bus.specs.Generations.{GenerationsState}
-use Rattle.sbp_bus.specs.Words.{check_of, function_word, login_if}
+use Rattle.sbp_bus.specs.Telling.{ran_note}
+use Rattle.sbp_bus.specs.Words.{function_word, login_if}
 use Rattle.sbp_journal.specs.Run.{Moment, said}
 use Rattle.sbp_journal.specs.Transactions.{Part, part_of}
+use Rattle.sbp_journal.specs.Wire.{Terms, terms}
 use Rattle.sbp_journal.specs.declared.note.Note.{Note}
 use Rattle.sbp_journal.specs.declared.note.Note.TheVariants as notes
 use Rattle.sbp_journal.specs.declared.outbox.Outgoing.{Outgoing}
 use Rattle.sbp_journal.specs.declared.side.Side.{Side}
 use Rattle.sbp_journal.specs.declared.side.Side.TheVariants as sides
 use Rattle.sbp_laws.specs.Packets.{access_in_bytes}
-use Rattle.sbp_laws.specs.Targets.{Agent, Reply, Target, going_on, is_write_access, known_at, main_lost, over, plain_for, sent_as, sent_for, taken_on, target_at, told_in, wants, wants_it, with_untold}
+use Rattle.sbp_laws.specs.Targets.{Agent, Reply, Target, initiator_at, is_own_run, is_write_access, known_at, main_lost, over, plain_for, ran_on, sent_as, sent_for, taken_on, target_at, wants, wants_it}
+use Rattle.sbp_laws.proofs.Going.{going_rests, own_run, run_rests, taken_rests, taken_still}
 use Rattle.sbp_world.specs.Sending.{asked, posted, sent, sent_all, sent_to}
-use Rattle.sbp_world.specs.Telling.{holder, initiator_of, told, told_all}
+use Rattle.sbp_world.specs.Telling.{holder, initiator_of, ticket_at, told, told_all}
 use Rattle.sbp_world.specs.Worlds.{WorldState, with_note}
 use Rattle.sbp_world.specs.Agents.Management.Offices.{Office, by_side, office_of}
+use Rattle.sbp_world.proofs.Agents.Management.Firsts.{wire_is}
 use Rattle.sbp_world.proofs.Agents.Management.Sides.{AllBehind, TellsBehind}
 use Rattle.sbp_world.proofs.Agents.Management.Told.{one_side, term_in}
 use Rattle.sbp_world.specs.Agents.Calls.{changed}
 use Rattle.sbp_world.specs.Agents.Crews.{answered, crew_over, crew_packet, crew_packets, crew_side, crew_sides, sent_among}
-use Rattle.sbp_world.specs.Agents.Hands.{AllLeave, AreTold, HandsLaw, IsOfStep, IsPart, Leaves, MayResume, resumed}
+use Rattle.sbp_world.specs.Agents.Hands.{AllLeave, AreTold, HandsLaw, IsOfStep, IsPart, IsRunOf, Leaves, MayResume, resumed}
 use Rattle.sbp_world.specs.Agents.Notes.{IsBehind, by_note}
 use Rattle.sbp_world.proofs.Agents.Notes.{notes_law, sends_for}
 
@@ -54,10 +58,6 @@ all_told (sides.Unsent place ∷ later) h = (tt, all_told later h)
 pub record Crew (t : Target) (agents : List Agent) : Type 0 where
   pub are : t.agents ≡ agents
   pub none : t.reply ≡ None
-
-pub no_reply : (reply : Option Reply) (t : Target) → t.reply ≡ reply → (taken_on None reply t).reply ≡ None
-no_reply None t e = e
-no_reply (Some reply) t e = refl
 
 -- with a reply that waits it is taken on
 pub taken_agents : (t : Target) (reply : Reply) → t.reply ≡ Some reply → (taken_on None t.reply t).agents ≡ (let plain = plain_for t reply in changed reply.place (λ a. answered None a.untold reply.place plain reply.which reply.answer a) t.agents)
@@ -170,7 +170,7 @@ module _ (start : List Disk) (past : List Moment) where
       record {
         generations = refl;
         last = refl;
-        crew = part_crew packet.label packet.bytes (w.store.last + 1) (taken_on None t.reply t) p (no_reply t.reply t refl);
+        crew = part_crew packet.label packet.bytes (w.store.last + 1) (taken_on None t.reply t) p (taken_rests None t.reply t refl);
       }
 
   sent_left : (packet : Outgoing) (w : WorldState) → Leaves w.generations packet → Left packet w (sent 0 packet w)
@@ -178,9 +178,6 @@ module _ (start : List Disk) (past : List Moment) where
   sent_left packet w l =
       subst (λ (o : Option ℕ). Left packet w (sent_to o 0 packet w)) (sym l.there)
       (asked_left packet (w.store.last + 1) l.to packet.to packet.label w (posted 0 l.to false packet.bytes w) (posted_left packet l.to w l.part))
-
-  same_taken : (t : Target) → t.reply ≡ None → taken_on None t.reply t ≡ t
-  same_taken t e = ap (λ (r : Option Reply). taken_on None r t) e
 
   packets_crew : (packets : List Outgoing) (w : WorldState) (agents : List Agent) → AllLeave w.generations packets → Crew (term_in start past w) agents → Crew (term_in start past (sent_all 0 packets w)) (crew_packets w.store.last packets agents)
   unfolding sent_all
@@ -190,7 +187,7 @@ module _ (start : List Disk) (past : List Moment) where
       let l = sent_left packet w h.0 in
       let now = crew_packet packet.label (is_write packet.bytes) (w.store.last + 1) agents in
       let crew : Crew (term_in start past v) now = subst (λ (xs : List Agent). Crew (term_in start past v) (crew_packet packet.label (is_write packet.bytes) (w.store.last + 1) xs))
-      (ap (λ (x : Target). x.agents) (same_taken (term_in start past w) c.none) ∙ c.are) l.crew in
+      (ap (λ (x : Target). x.agents) (taken_still None (term_in start past w) c.none) ∙ c.are) l.crew in
       subst (λ n. Crew (term_in start past (sent_all 0 later v)) (crew_packets n later now)) l.last
       (packets_crew later v now (subst (λ (g : GenerationsState). AllLeave g later) (sym l.generations) h.1) crew)
 
@@ -212,41 +209,44 @@ module _ (start : List Disk) (past : List Moment) where
       (packets_crew packets v agents (subst (λ (g : GenerationsState). AllLeave g packets) (sym same.0) l) (sides_crew weight later w h e))
 
   -- ---- a reply takes its agent on with the first note
-  going_reply : (note : Note) (t : Target) (reply : Reply) → t.reply ≡ Some reply → (going_on note t).reply ≡ None
-  going_reply note t reply e = ap (λ (r : Option Reply). (taken_on (told_in r note t) r (with_untold note r t)).reply) e
-
-  first_crew : (weight : ℕ) (side : Side) (later : List Side) (w : WorldState) (reply : Reply) → (term_in start past w).reply ≡ Some reply → length (term_in start past w).agents ≡ 8 → reply.place < 8 → IsOfStep (side ∷ later) → Crew (term_in start past (told weight side w)) (crew_side side (office_of (term_in start past w)) (resumed (Some reply) (side ∷ later) (term_in start past w)))
+  first_crew : (weight : ℕ) (side : Side) (later : List Side) (w : WorldState) (reply : Reply) → (term_in start past w).reply ≡ Some reply → length (term_in start past w).agents ≡ 8 → reply.place < 8 → IsOfStep (side ∷ later) × IsRunOf (side ∷ later) w (initiator_at (term_in start past w) (terms (map said w.fresh ++ past)) reply.place) → Crew (term_in start past (told weight side w)) (crew_side side (office_of (term_in start past w)) (resumed (Some reply) (side ∷ later) (term_in start past w)))
   unfolding told
-  first_crew weight (sides.Own note) later w reply e size b h = absurd h
-  first_crew weight (sides.Opened place orb) later w reply e size b h = absurd h
+  first_crew weight (sides.Own note) later w reply e size b h = absurd h.0
+  first_crew weight (sides.Opened place orb) later w reply e size b h = absurd h.0
   first_crew weight (sides.Ran place orb cdb payload outcome) later w reply e size b h =
+      let ms = map said w.fresh ++ past in
       let t = term_in start past w in
-      record { are = notes_law.replies (notes.Ran _ _ _ _ cdb payload (check_of outcome)) t reply e size b; none = going_reply (notes.Ran _ _ _ _ cdb payload (check_of outcome)) t reply e }
+      let note = ran_note (holder w place) (ticket_at w place orb) cdb payload outcome in
+      let own = own_run reply (holder w place).initiator (known_at start ms).wire t e (h.1 ∙ ap (λ (x : Terms). initiator_at t x reply.place) (sym (wire_is start ms))) in
+      record {
+        are = ap (λ is_own. (ran_on is_own note t).agents) own ∙ notes_law.replies note t reply e size b;
+        none = run_rests (is_own_run t.reply (holder w place).initiator (known_at start ms).wire t) note t;
+      }
   first_crew weight (sides.Ended place orb status) later w reply e size b h =
       let t = term_in start past w in
-      record { are = notes_law.replies (notes.Ended _ _ _ status) t reply e size b; none = going_reply (notes.Ended _ _ _ status) t reply e }
+      record { are = notes_law.replies (notes.Ended _ _ _ status) t reply e size b; none = going_rests (notes.Ended _ _ _ status) t }
   first_crew weight (sides.Dead place causes.Timeout) later w reply e size b h =
       let t = term_in start past w in
-      record { are = notes_law.replies (notes.Dead _ _ causes.Timeout) t reply e size b; none = going_reply (notes.Dead _ _ causes.Timeout) t reply e }
+      record { are = notes_law.replies (notes.Dead _ _ causes.Timeout) t reply e size b; none = going_rests (notes.Dead _ _ causes.Timeout) t }
   first_crew weight (sides.Dead place causes.Label) later w reply e size b h =
       let t = term_in start past w in
-      record { are = ap (map main_lost) (taken_agents t reply e); none = no_reply t.reply t refl }
+      record { are = ap (map main_lost) (taken_agents t reply e); none = taken_rests None t.reply t refl }
   first_crew weight (sides.Dead place causes.Refused) later w reply e size b h =
       let t = term_in start past w in
-      record { are = notes_law.replies (notes.Dead _ _ causes.Refused) t reply e size b; none = going_reply (notes.Dead _ _ causes.Refused) t reply e }
+      record { are = notes_law.replies (notes.Dead _ _ causes.Refused) t reply e size b; none = going_rests (notes.Dead _ _ causes.Refused) t }
   first_crew weight (sides.Dead place causes.Grammar) later w reply e size b h =
       let t = term_in start past w in
-      record { are = notes_law.replies (notes.Dead _ _ causes.Grammar) t reply e size b; none = going_reply (notes.Dead _ _ causes.Grammar) t reply e }
-  first_crew weight (sides.Cut place cause) later w reply e size b h = absurd h
-  first_crew weight (sides.Managed node function subject status login) later w reply e size b h = absurd h
-  first_crew weight (sides.ManageFailed node cause) later w reply e size b h = absurd h
-  first_crew weight (sides.Held login) later w reply e size b h = absurd h
-  first_crew weight (sides.Expired login) later w reply e size b h = absurd h
-  first_crew weight (sides.Back login) later w reply e size b h = absurd h
-  first_crew weight (sides.Left login) later w reply e size b h = absurd h
-  first_crew weight (sides.Cleared unit) later w reply e size b h = absurd h
-  first_crew weight (sides.Unsolicited place) later w reply e size b h = absurd h
-  first_crew weight (sides.Unsent place) later w reply e size b h = absurd h
+      record { are = notes_law.replies (notes.Dead _ _ causes.Grammar) t reply e size b; none = going_rests (notes.Dead _ _ causes.Grammar) t }
+  first_crew weight (sides.Cut place cause) later w reply e size b h = absurd h.0
+  first_crew weight (sides.Managed node function subject status login) later w reply e size b h = absurd h.0
+  first_crew weight (sides.ManageFailed node cause) later w reply e size b h = absurd h.0
+  first_crew weight (sides.Held login) later w reply e size b h = absurd h.0
+  first_crew weight (sides.Expired login) later w reply e size b h = absurd h.0
+  first_crew weight (sides.Back login) later w reply e size b h = absurd h.0
+  first_crew weight (sides.Left login) later w reply e size b h = absurd h.0
+  first_crew weight (sides.Cleared unit) later w reply e size b h = absurd h.0
+  first_crew weight (sides.Unsolicited place) later w reply e size b h = absurd h.0
+  first_crew weight (sides.Unsent place) later w reply e size b h = absurd h.0
 
   -- ---- the end of the turn
   abbrev Ends : (weight : ℕ) → List Side → List Outgoing → WorldState → List Agent → Type 0
@@ -268,7 +268,7 @@ module _ (start : List Disk) (past : List Moment) where
       let rest = packets_crew later v now (subst (λ (g : GenerationsState). AllLeave g later) (sym one.generations) l.1) crew in
       crew_ends (term_in start past (sent_all 0 later v)) (crew_packets v.store.last later now) rest ∙ ap (λ n. crew_over (crew_packets n later now)) one.last
 
-  replied_ends : (weight : ℕ) (told : List Side) (packets : List Outgoing) (w : WorldState) (reply : Reply) → (term_in start past w).reply ≡ Some reply → AllBehind told → AllLeave w.generations packets → length (term_in start past w).agents ≡ 8 → reply.place < 8 → IsOfStep told → Ends weight told packets w (resumed (Some reply) told (term_in start past w))
+  replied_ends : (weight : ℕ) (told : List Side) (packets : List Outgoing) (w : WorldState) (reply : Reply) → (term_in start past w).reply ≡ Some reply → AllBehind told → AllLeave w.generations packets → length (term_in start past w).agents ≡ 8 → reply.place < 8 → IsOfStep told × IsRunOf told w (initiator_at (term_in start past w) (terms (map said w.fresh ++ past)) reply.place) → Ends weight told packets w (resumed (Some reply) told (term_in start past w))
   unfolding told_all
   replied_ends weight [] packets w reply e h l size b i = silent_ends packets w reply e l
   replied_ends weight (side ∷ later) packets w reply e h l size b i =
@@ -282,7 +282,7 @@ module _ (start : List Disk) (past : List Moment) where
       ∙ ap (λ o. crew_over (crew_packets w.store.last packets (crew_sides later o (term_in start past v).agents))) (one_side start past weight side w h.0)
       ∙ ap (λ xs. crew_over (crew_packets w.store.last packets (crew_sides later (by_side side (office_of (term_in start past w))) xs))) one.are
 
-  ends_by : (reply : Option Reply) (weight : ℕ) (told : List Side) (packets : List Outgoing) (w : WorldState) → (term_in start past w).reply ≡ reply → AllBehind told → AllLeave w.generations packets → MayResume reply told (term_in start past w).agents → Ends weight told packets w (resumed reply told (term_in start past w))
+  ends_by : (reply : Option Reply) (weight : ℕ) (told : List Side) (packets : List Outgoing) (w : WorldState) → (term_in start past w).reply ≡ reply → AllBehind told → AllLeave w.generations packets → MayResume reply told w (terms (map said w.fresh ++ past)) (term_in start past w) → Ends weight told packets w (resumed reply told (term_in start past w))
   ends_by None weight told packets w e h l m =
       crew_ends (term_in start past (sent_all 0 packets (told_all weight told w))) (crew_packets w.store.last packets (crew_sides told (office_of (term_in start past w)) (term_in start past w).agents)) (quiet_hands weight told packets w h l e)
   ends_by (Some reply) weight told packets w e h l m = replied_ends weight told packets w reply e h l m.0 m.1 m.2

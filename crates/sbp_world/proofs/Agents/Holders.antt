@@ -17,9 +17,8 @@ use Rattle.sbp_bus.specs.Places.{holder_of, new_places, place_in}
 use Rattle.sbp_bus.proofs.Making.{ids_size}
 use Rattle.sbp_journal.specs.Run.{Moment, asked, said}
 use Rattle.sbp_journal.specs.Wire.{Terms, local_id, terms}
-use Rattle.sbp_laws.specs.Agents.{initiator_from, initiator_with, node_in}
 use Rattle.sbp_laws.specs.Packets.{id_for}
-use Rattle.sbp_laws.specs.Targets.{Target, first_login, first_table, place_on, target_at}
+use Rattle.sbp_laws.specs.Targets.{Target, first_login, first_table, initiator_from, initiator_with, node_in, place_on, target_at}
 use Rattle.sbp_world.specs.FitTarget.{FitsOperation, Holds}
 use Rattle.sbp_world.specs.Making.{new_world, ready_logins}
 use Rattle.sbp_world.specs.Runs.{AreEntries, Entry, Run, after, beginning}

@@ -7,7 +7,6 @@ use Rattle.orb_layout.specs.declared.ask.Ask.TheVariants.{Nothing}
 use Rattle.orb_layout.specs.declared.ask.FailCause.{FailCause}
 use Rattle.orb_layout.specs.declared.ask.FailCause.TheVariants as causes
 use Rattle.rbc_disk.specs.Disk.{Disk}
-use Rattle.rbc_disk.specs.Runs.{Told}
 use Rattle.rbc_disk.specs.Units.{PlainDisk}
 use Rattle.login_table.specs.Table.{Table}
 use Rattle.mgmt_agent.specs.declared.decision.Effect.{Effect}
@@ -31,7 +30,8 @@ use Rattle.sbp_journal.specs.declared.note.Note.TheVariants as notes
 use Rattle.sbp_journal.specs.declared.operation.FunctionWord.{FunctionWord}
 use Rattle.sbp_journal.specs.declared.operation.FunctionWord.TheVariants as functions
 use Rattle.sbp_laws.specs.Packets.{access_in_bytes}
-use Rattle.sbp_laws.specs.Targets.{Agent, Decided, Reply, Target, agent_at, closed, cut_where, effect_on, entered_by, enters_in, going_on, is_write_access, main_lost, managed_by, manager_step, moved, new_agent, new_target, on_unit, plain_for, pointed_by, points, register_got, reset_seen, sent_as, sent_for, taken_on, target_by, told_by, told_in, untold_by, wants, wants_it, with_agent, with_untold}
+use Rattle.sbp_laws.specs.Targets.{Agent, Decided, Reply, Target, agent_at, closed, cut_where, effect_on, entered_by, enters_in, going_on, is_own_run, is_write_access, main_lost, managed_by, manager_step, moved, new_agent, new_target, on_unit, plain_for, pointed_by, points, ran_on, register_got, reset_seen, sent_as, sent_for, taken_on, target_by, told_by, told_in, untold_by, wants, wants_it, with_agent, with_untold}
+use Rattle.sbp_laws.proofs.Going.{going_still, run_still, taken_still}
 use Rattle.sbp_target.specs.declared.desk.Desk.{Desk}
 use Rattle.sbp_target.specs.Desks.{new_desk}
 use Rattle.sbp_target.specs.Nodes.{desk_at}
@@ -44,18 +44,15 @@ use Rattle.sbp_world.specs.Agents.Notes.{IsBehind, NotesLaw, by_note}
 use Rattle.sbp_world.proofs.Agents.Lists.{at_own, set_twice}
 
 -- ---- no reply waits
-taken_none : (told : Option Told) (t : Target) → t.reply ≡ None → taken_on told t.reply t ≡ t
-taken_none told t e = ap (λ (r : Option Reply). taken_on told r t) e
-
-going_none : (note : Note) (t : Target) → t.reply ≡ None → going_on note t ≡ t
-going_none note t e = ap (λ (r : Option Reply). taken_on (told_in r note t) r (with_untold note r t)) e
-
 record Moves (t now : Target) (agents : List Agent) : Type 0 where
   agents_are : now.agents ≡ agents
   none : now.reply ≡ None
 
 goes : (note : Note) (t : Target) → t.reply ≡ None → Moves t (going_on note t) t.agents
-goes note t e = subst (λ (x : Target). Moves t x t.agents) (sym (going_none note t e)) (record { agents_are = refl; none = e })
+goes note t e = subst (λ (x : Target). Moves t x t.agents) (sym (going_still note t e)) (record { agents_are = refl; none = e })
+
+runs : (is_own : Bool) (note : Note) (t : Target) → t.reply ≡ None → Moves t (ran_on is_own note t) t.agents
+runs is_own note t e = subst (λ (x : Target). Moves t x t.agents) (sym (run_still is_own note t e)) (record { agents_are = refl; none = e })
 
 hires_in : (place : Option ℕ) (decided : Option Decided) (id : ℕ) (t : Target) → t.reply ≡ None → Moves t (enters_in place decided id t) (hired_in place decided t.agents)
 hires_in None decided id t e = record { agents_are = refl; none = e }
@@ -80,8 +77,8 @@ managing i subject status functions.Other login past wire t e = goes _ t e
 dead : (i : ℕ) (list : Option ℕ) (cause : FailCause) (past : List Moment) (wire : Terms) (t : Target) → t.reply ≡ None → Moves t (target_by (notes.Dead i list cause) past wire t) (by_note (notes.Dead i list cause) (office_of t) t.agents)
 dead i list causes.Timeout past wire t e = goes _ t e
 dead i list causes.Label past wire t e = record {
-  agents_are = ap (λ (x : Target). map main_lost x.agents) (taken_none None t e);
-  none = ap (λ (x : Target). x.reply) (taken_none None t e) ∙ e;
+  agents_are = ap (λ (x : Target). map main_lost x.agents) (taken_still None t e);
+  none = ap (λ (x : Target). x.reply) (taken_still None t e) ∙ e;
 }
 dead i list causes.Refused past wire t e = goes _ t e
 dead i list causes.Grammar past wire t e = goes _ t e
@@ -99,7 +96,8 @@ note_moves (notes.Got serial) past wire t e h = absurd h
 note_moves (notes.Ignored serial cause) past wire t e h = absurd h
 note_moves (notes.Lost serial) past wire t e h = goes _ t e
 note_moves (notes.TimedOut serial) past wire t e h = absurd h
-note_moves (notes.Ran i n k unit cdb bytes check) past wire t e h = let g = goes (notes.Ran i n k unit cdb bytes check) t e in record { agents_are = g.agents_are; none = g.none }
+note_moves (notes.Ran i n k unit cdb bytes check) past wire t e h =
+    let g = runs (is_own_run t.reply i wire t) (notes.Ran i n k unit cdb bytes check) t e in record { agents_are = g.agents_are; none = g.none }
 note_moves (notes.Ended i n k status) past wire t e h = goes _ t e
 note_moves (notes.Taken i n k status answer) past wire t e h = goes _ t e
 note_moves (notes.Cut i n cause) past wire t e h = goes _ t e
@@ -137,7 +135,7 @@ sends_for (Some place) w serial t = refl
 sends : (serial generation to : ℕ) (bytes : List ℕ) (label : ℕ) (kind : Kind) (past : List Moment) (wire : Terms) (t : Target) → t.reply ≡ None → part_of bytes ≡ request label kind → (let writes = is_write_access (access_in_bytes bytes) in (target_by (notes.Sent serial generation 0 to bytes) past wire t).agents ≡ sent_among (position (wants_it writes) t.agents) writes serial t.agents)
 sends serial generation to bytes label kind past wire t e p =
     let writes = is_write_access (access_in_bytes bytes) in
-    ap (λ (x : Target). (sent_as (part_of bytes) writes serial x).agents) (taken_none None t e)
+    ap (λ (x : Target). (sent_as (part_of bytes) writes serial x).agents) (taken_still None t e)
     ∙ ap (λ (x : Part). (sent_as x writes serial t).agents) p
     ∙ sends_for (position (wants_it writes) t.agents) writes serial t
 
@@ -247,5 +245,5 @@ notes_law = record {
   cuts = λ place access t. refl;
   points = λ place access t w. points_by place access t w;
   rings = λ place access t. refl;
-  ends = λ t e. ap (λ (x : Target). crew_over x.agents) (taken_none None t e);
+  ends = λ t e. ap (λ (x : Target). crew_over x.agents) (taken_still None t e);
 }

@@ -1,5 +1,5 @@
 -- What the target tells of a run, and what was told to it: of one outcome and of as many bytes, and of the same bytes where the medium tells its bytes.
-use Rattle.std.proofs.Common.{arith, ◌≡◌, ◌∙◌, refl, sym, ap, subst, ℕ, ◌<◌, ◌&&◌, nat_lt, Bool, true, false, cond, List, [], ◌∷◌, ◌++◌, length, Option, Some, None, Result, Ok, Err}
+use Rattle.std.proofs.Common.{arith, ◌≡◌, ◌∙◌, refl, sym, ap, subst, ℕ, ◌<◌, ◌&&◌, nat_lt, Bool, true, false, cond, List, [], ◌∷◌, ◌++◌, length, Option, Some, None, Result, Ok, Err, is_some}
 use Rattle.std.specs.Prelude.{IfSome, is_none, replicate, slice_set, unwrap_or}
 use Rattle.std.proofs.lemmas.List.{get_or-set_same, length-replicate}
 use Rattle.async_packet.specs.Labels.{LabelParts}
@@ -37,10 +37,11 @@ use Rattle.sbp_target.specs.Replies.{Tells, TellsBy, advance, advanced_with, ann
 use Rattle.sbp_target.specs.Telling.{orb_of, tell_ran}
 use Rattle.target_base.specs.Logins.{if_served}
 use Rattle.sbp_target.proofs.Histories.Calling.{Good}
+use Rattle.sbp_world.specs.Telling.{holder}
+use Rattle.sbp_world.specs.Worlds.{WorldState}
 use Rattle.sbp_world.specs.Agents.Alike.{TellsAlike}
-use Rattle.sbp_world.specs.Agents.Calls.{changed}
-use Rattle.sbp_world.specs.Agents.Crews.{ToldAlike, agent_in, answered}
-use Rattle.sbp_world.specs.Agents.Hands.{IsOfStep, run_told, run_untold}
+use Rattle.sbp_world.specs.Agents.Crews.{ToldAlike, answered}
+use Rattle.sbp_world.specs.Agents.Hands.{IsOfStep, IsRunOf, run_told, run_untold}
 use Rattle.sbp_world.proofs.Agents.Loads.{came_there}
 use Rattle.sbp_world.proofs.Agents.UnitsKept.{Keeps, KeepsSteps, announces_by, follows, keeps_steps, lost_runs, notes_tell}
 use Rattle.sbp_world.proofs.Agents.UnitsMarked.{came_not}
@@ -71,17 +72,37 @@ run_alike (outcomes.Good len) m place plain may =
     good_alike (answer_of m.orb.cdb plain.medium) (answer_length_of plain.medium.is_bay m.orb.cdb) len m.answer (may.len refl) may.size (may.answered refl)
 
 -- ---- what is told of a step
--- The sides are of a step; what they tell of a run is alike to what was told, and where they tell of none, none was; and the term of the agent is the same
--- whatever was told of the run before.
-pub record IsToldOf (told_sides : List Side) (plain : PlainDisk) (told : Option Told) : Type 0 where
-  pub of_step : IsOfStep told_sides
-  pub alike : (before : Bool) → ToldAlike (run_untold told_sides plain before) (run_told told_sides plain) told
-  pub same : (before : Bool) (place : ℕ) (which : Which) (answer : Answer) (a : Agent) → answered (run_told told_sides plain) (run_untold told_sides plain a.untold) place plain which answer a ≡ answered (run_told told_sides plain) (run_untold told_sides plain before) place plain which answer a
+-- a run that is told first is at this place
+abbrev pub IsRunAt : List Side → (place : ℕ) → Type 0
+IsRunAt (sides.Ran q orb cdb payload outcome ∷ later) place = q ≡ place
+IsRunAt told place = Unit {0}
 
--- the agents that the terms take on with what was told are the same with any word of the run before
-pub resumed_same : {told_sides : List Side} {plain : PlainDisk} {told : Option Told} → IsToldOf told_sides plain told → (before : Bool) (place : ℕ) (which : Which) (answer : Answer) (agents : List Agent) → changed place (λ a. answered (run_told told_sides plain) (run_untold told_sides plain a.untold) place plain which answer a) agents ≡ changed place (answered (run_told told_sides plain) (run_untold told_sides plain before) place plain which answer) agents
-resumed_same {told_sides} {plain} {told} t before place which answer agents =
-    ap (λ (a : Agent). slice_set agents place a) (t.same before place which answer (agent_in agents place))
+-- and so it is of the initiator that has this place
+pub run_of_place : (told : List Side) (plain : PlainDisk) (w : WorldState) (place initiator : ℕ) → IsRunAt told place → (is_some (run_told told plain) ≡ true → (holder w place).initiator ≡ initiator) → IsRunOf told w initiator
+run_of_place [] plain w place initiator at own = tt
+run_of_place (sides.Ran q orb cdb payload outcome ∷ later) plain w place initiator at own = ap (λ p. (holder w p).initiator) at ∙ own refl
+run_of_place (sides.Own note ∷ later) plain w place initiator at own = tt
+run_of_place (sides.Opened q orb ∷ later) plain w place initiator at own = tt
+run_of_place (sides.Ended q orb status ∷ later) plain w place initiator at own = tt
+run_of_place (sides.Dead q cause ∷ later) plain w place initiator at own = tt
+run_of_place (sides.Cut q cause ∷ later) plain w place initiator at own = tt
+run_of_place (sides.Managed node function subject status login ∷ later) plain w place initiator at own = tt
+run_of_place (sides.ManageFailed node cause ∷ later) plain w place initiator at own = tt
+run_of_place (sides.Held login ∷ later) plain w place initiator at own = tt
+run_of_place (sides.Expired login ∷ later) plain w place initiator at own = tt
+run_of_place (sides.Back login ∷ later) plain w place initiator at own = tt
+run_of_place (sides.Left login ∷ later) plain w place initiator at own = tt
+run_of_place (sides.Cleared unit ∷ later) plain w place initiator at own = tt
+run_of_place (sides.Unsolicited q ∷ later) plain w place initiator at own = tt
+run_of_place (sides.Unsent q ∷ later) plain w place initiator at own = tt
+
+-- The sides are of a step, at this place; what they tell of a run is alike to what was told, and where they tell of none, none was; and the term of the
+-- agent is the same whatever was told of the run before.
+pub record IsToldOf (place : ℕ) (told_sides : List Side) (plain : PlainDisk) (told : Option Told) : Type 0 where
+  pub of_step : IsOfStep told_sides
+  pub at : IsRunAt told_sides place
+  pub alike : (before : Bool) → ToldAlike (run_untold told_sides plain before) (run_told told_sides plain) told
+  pub same : (before : Bool) (other : ℕ) (which : Which) (answer : Answer) (a : Agent) → answered (run_told told_sides plain) (run_untold told_sides plain a.untold) other plain which answer a ≡ answered (run_told told_sides plain) (run_untold told_sides plain before) other plain which answer a
 
 -- ends and deaths
 abbrev EndsStep : Side → Type 0
@@ -107,23 +128,23 @@ ends_keep = record {
 none_alike : (untold : Bool) → ToldAlike untold None None
 none_alike untold = record { both = refl; alike = record { outcome = refl; size = refl; answer = λ yes. refl } }
 
-ends_told : (told : List Side) (plain : PlainDisk) → AllEnd told → IsToldOf told plain None
-ends_told [] plain h = record { of_step = tt; alike = λ before. none_alike before; same = λ before place which answer a. refl }
-ends_told (sides.Own note ∷ later) plain h = absurd h.0
-ends_told (sides.Opened place orb ∷ later) plain h = absurd h.0
-ends_told (sides.Ran place orb cdb payload outcome ∷ later) plain h = absurd h.0
-ends_told (sides.Ended place orb status ∷ later) plain h = record { of_step = tt; alike = λ before. none_alike before; same = λ before place which answer a. refl }
-ends_told (sides.Dead place cause ∷ later) plain h = record { of_step = tt; alike = λ before. none_alike before; same = λ before place which answer a. refl }
-ends_told (sides.Cut place cause ∷ later) plain h = absurd h.0
-ends_told (sides.Managed node function subject status login ∷ later) plain h = absurd h.0
-ends_told (sides.ManageFailed node cause ∷ later) plain h = absurd h.0
-ends_told (sides.Held login ∷ later) plain h = absurd h.0
-ends_told (sides.Expired login ∷ later) plain h = absurd h.0
-ends_told (sides.Back login ∷ later) plain h = absurd h.0
-ends_told (sides.Left login ∷ later) plain h = absurd h.0
-ends_told (sides.Cleared unit ∷ later) plain h = absurd h.0
-ends_told (sides.Unsolicited place ∷ later) plain h = absurd h.0
-ends_told (sides.Unsent place ∷ later) plain h = absurd h.0
+ends_told : (place : ℕ) (told : List Side) (plain : PlainDisk) → AllEnd told → IsToldOf place told plain None
+ends_told q [] plain h = record { of_step = tt; at = tt; alike = λ before. none_alike before; same = λ before other which answer a. refl }
+ends_told q (sides.Own note ∷ later) plain h = absurd h.0
+ends_told q (sides.Opened place orb ∷ later) plain h = absurd h.0
+ends_told q (sides.Ran place orb cdb payload outcome ∷ later) plain h = absurd h.0
+ends_told q (sides.Ended place orb status ∷ later) plain h = record { of_step = tt; at = tt; alike = λ before. none_alike before; same = λ before other which answer a. refl }
+ends_told q (sides.Dead place cause ∷ later) plain h = record { of_step = tt; at = tt; alike = λ before. none_alike before; same = λ before other which answer a. refl }
+ends_told q (sides.Cut place cause ∷ later) plain h = absurd h.0
+ends_told q (sides.Managed node function subject status login ∷ later) plain h = absurd h.0
+ends_told q (sides.ManageFailed node cause ∷ later) plain h = absurd h.0
+ends_told q (sides.Held login ∷ later) plain h = absurd h.0
+ends_told q (sides.Expired login ∷ later) plain h = absurd h.0
+ends_told q (sides.Back login ∷ later) plain h = absurd h.0
+ends_told q (sides.Left login ∷ later) plain h = absurd h.0
+ends_told q (sides.Cleared unit ∷ later) plain h = absurd h.0
+ends_told q (sides.Unsolicited place ∷ later) plain h = absurd h.0
+ends_told q (sides.Unsent place ∷ later) plain h = absurd h.0
 
 -- what follows a step that ran no command
 end_follows : (node : NodeState) (place : ℕ) (login : Login) (step : AgentStep) → step.ran ≡ None → AllEnd (follow place login step (scene node empty_outbox)).outbox.sides
@@ -140,10 +161,10 @@ record Begins (side : Side) (told : List Side) : Type 0 where
 begins_keep : (first : Side) → Keeps (Begins first)
 begins_keep first = record { tells = λ told side f h. record { more = h.more ++ side ∷ []; is = ap (λ xs. xs ++ side ∷ []) h.is } }
 
-run_is_told : (place orb : ℕ) (m : Machine) (outcome : Outcome) (told : List Side) (plain : PlainDisk) → MayRun m place outcome plain → Begins (sides.Ran place orb m.orb.cdb m.payload outcome) told → IsToldOf told plain (Some (record { outcome = outcome; answer = m.answer }))
+run_is_told : (place orb : ℕ) (m : Machine) (outcome : Outcome) (told : List Side) (plain : PlainDisk) → MayRun m place outcome plain → Begins (sides.Ran place orb m.orb.cdb m.payload outcome) told → IsToldOf place told plain (Some (record { outcome = outcome; answer = m.answer }))
 run_is_told place orb m outcome told plain may b =
-    subst (λ xs. IsToldOf xs plain (Some (record { outcome = outcome; answer = m.answer }))) (sym b.is)
-    (record { of_step = tt; alike = λ before. record { both = refl; alike = run_alike outcome m place plain may }; same = λ before q which answer a. refl })
+    subst (λ xs. IsToldOf place xs plain (Some (record { outcome = outcome; answer = m.answer }))) (sym b.is)
+    (record { of_step = tt; at = refl; alike = λ before. record { both = refl; alike = run_alike outcome m place plain may }; same = λ before other which answer a. refl })
 
 -- ---- a reply to the agent of a place
 module _ (node : NodeState) (size : length node.desks ≡ 8) (disks : List Disk) (place : ℕ) (small : place < 8) (login : Login) where
@@ -168,12 +189,12 @@ module _ (node : NodeState) (size : length node.desks ≡ 8) (disks : List Disk)
   none_came false e = refl
   none_came true e = absurd (let no : true ≡ false = sym (came_there disks unit plain_now.medium e) ∙ came_not (disk_at disks unit) in cc)
 
-  ended_by : (b : Bool) (d : Desk) (step : AgentStep) → b ≡ false → step.ran ≡ None → IsToldOf (announced_by b unit place (follow place login step (scene (changed_node b d plain_now) empty_outbox))).outbox.sides plain_now None
+  ended_by : (b : Bool) (d : Desk) (step : AgentStep) → b ≡ false → step.ran ≡ None → IsToldOf place (announced_by b unit place (follow place login step (scene (changed_node b d plain_now) empty_outbox))).outbox.sides plain_now None
   ended_by true d step f e = absurd (let no : true ≡ false = f in cc)
   ended_by false d step f e =
-      let n = changed_node false d plain_now in ends_told (follow place login step (scene n empty_outbox)).outbox.sides plain_now (end_follows n place login step e)
+      let n = changed_node false d plain_now in ends_told place (follow place login step (scene n empty_outbox)).outbox.sides plain_now (end_follows n place login step e)
 
-  run_by : (b : Bool) (d : Desk) (p : PlainDisk) (step : AgentStep) (outcome : Outcome) → step.ran ≡ Some outcome → MayRun d.agent place outcome plain_now → IsToldOf (announced_by b unit place (follow place login step (scene (changed_node b d p) empty_outbox))).outbox.sides plain_now (Some (record { outcome = outcome; answer = d.agent.answer }))
+  run_by : (b : Bool) (d : Desk) (p : PlainDisk) (step : AgentStep) (outcome : Outcome) → step.ran ≡ Some outcome → MayRun d.agent place outcome plain_now → IsToldOf place (announced_by b unit place (follow place login step (scene (changed_node b d p) empty_outbox))).outbox.sides plain_now (Some (record { outcome = outcome; answer = d.agent.answer }))
   run_by b d p step outcome e may =
       let n = changed_node b d p in
       let s = scene n empty_outbox in
@@ -190,32 +211,32 @@ module _ (node : NodeState) (size : length node.desks ≡ 8) (disks : List Disk)
   abbrev loaded : PlainDisk → Bool
   loaded p = came (disk_at disks unit) (disk_at (slice_set disks unit p.medium) unit)
 
-  step_told : (d : Desk) (step : AgentStep) (ran : Option Outcome) → step.ran ≡ ran → MayTell ran d.agent place plain_now → (let p = left_by ran d.agent.orb.cdb d.agent.payload place plain_now in IsToldOf (announced_by (loaded p) unit place (follow place login step (scene (changed_node (loaded p) d p) empty_outbox))).outbox.sides plain_now (told_in ran d.agent.answer))
+  step_told : (d : Desk) (step : AgentStep) (ran : Option Outcome) → step.ran ≡ ran → MayTell ran d.agent place plain_now → (let p = left_by ran d.agent.orb.cdb d.agent.payload place plain_now in IsToldOf place (announced_by (loaded p) unit place (follow place login step (scene (changed_node (loaded p) d p) empty_outbox))).outbox.sides plain_now (told_in ran d.agent.answer))
   step_told d step None e may = ended_by (loaded plain_now) d step (none_came (loaded plain_now) refl) e
   step_told d step (Some outcome) e may =
       let p = left_by (Some outcome) d.agent.orb.cdb d.agent.payload place plain_now in run_by (loaded p) d p step outcome e may
 
-  advanced_told : (which : Which) (r : AgentStep × Machine) → MayTell r.0.ran r.1 place plain_now → IsToldOf (advanced_with place login (replied_with place unit which r (stage node disks)) (whole (scene node empty_outbox) disks)).outbox.sides plain_now (told_in r.0.ran r.1.answer)
+  advanced_told : (which : Which) (r : AgentStep × Machine) → MayTell r.0.ran r.1 place plain_now → IsToldOf place (advanced_with place login (replied_with place unit which r (stage node disks)) (whole (scene node empty_outbox) disks)).outbox.sides plain_now (told_in r.0.ran r.1.answer)
   unfolding follow_all
   advanced_told which (step, m) may = step_told (record (taken which (desk_at node place)) { agent = m }) step step.ran refl may
 
-  advance_told : (told : Option Told) (which : Which) (answer : Answer) (before now : List ℕ) → Tells told place unit which answer (stage node disks) before now → IsToldOf (advance told place login which answer (whole (scene node empty_outbox) disks)).outbox.sides plain_now told
+  advance_told : (told : Option Told) (which : Which) (answer : Answer) (before now : List ℕ) → Tells told place unit which answer (stage node disks) before now → IsToldOf place (advance told place login which answer (whole (scene node empty_outbox) disks)).outbox.sides plain_now told
   unfolding advance step_replied
   advance_told told which answer before now t =
       let r = reply_step (desk_at node place).agent place plain_now told which answer in
-      subst (IsToldOf (advanced_with place login (replied_with place unit which r (stage node disks)) (whole (scene node empty_outbox) disks)).outbox.sides plain_now) (sym t.so) (advanced_told which r t.may)
+      subst (IsToldOf place (advanced_with place login (replied_with place unit which r (stage node disks)) (whole (scene node empty_outbox) disks)).outbox.sides plain_now) (sym t.so) (advanced_told which r t.may)
 
 -- ---- a packet that the target receives
 
 -- what is told of it: where it takes an agent on, as `IsToldOf` says over the unit of the login of its place; else no run was
-abbrev pub ToldBy : Option Login → Option Which → NodeState → List Disk → List Side → Option Told → Type 0
-ToldBy (Some login) (Some which) node disks told_sides told = IsToldOf told_sides (plain_in node.units disks login.unit) told
-ToldBy None which node disks told_sides told = (told ≡ None) × (told_sides ≡ [])
-ToldBy (Some login) None node disks told_sides told = (told ≡ None) × (told_sides ≡ [])
+abbrev pub ToldBy : (place : ℕ) → Option Login → Option Which → NodeState → List Disk → List Side → Option Told → Type 0
+ToldBy place (Some login) (Some which) node disks told_sides told = IsToldOf place told_sides (plain_in node.units disks login.unit) told
+ToldBy place None which node disks told_sides told = (told ≡ None) × (told_sides ≡ [])
+ToldBy place (Some login) None node disks told_sides told = (told ≡ None) × (told_sides ≡ [])
 
 abbrev pub ToldFor : Finding Purpose → NodeState → List Disk → List Side → Option Told → Type 0
 ToldFor (of_response p label (Some (purposes.Agent place))) node disks told_sides told =
-    ToldBy (served_login node place) (which_in (desk_at node place) (header_in p).source label) node disks told_sides told
+    ToldBy place (served_login node place) (which_in (desk_at node place) (header_in p).source label) node disks told_sides told
 ToldFor finding node disks told_sides told = told ≡ None
 
 module _ (node : NodeState) (g : Good node) (told : Option Told) (disks : List Disk) (before now : List ℕ) where
@@ -230,7 +251,7 @@ module _ (node : NodeState) (g : Good node) (told : Option Told) (disks : List D
       by true e = e
       by false e = absurd (let no : None ≡ Some login = e in cc)
 
-  reply_told : (place : ℕ) (answer : Answer) (layer : Layer Purpose) (login : Option Login) (which : Option Which) → served_login node place ≡ login → TellsBy told place answer login which (stage (layered layer) disks) before now → ToldBy login which node disks (replied_by told place answer login which (whole (scene (layered layer) empty_outbox) disks)).outbox.sides told
+  reply_told : (place : ℕ) (answer : Answer) (layer : Layer Purpose) (login : Option Login) (which : Option Which) → served_login node place ≡ login → TellsBy told place answer login which (stage (layered layer) disks) before now → ToldBy place login which node disks (replied_by told place answer login which (whole (scene (layered layer) empty_outbox) disks)).outbox.sides told
   reply_told place answer layer (Some login) (Some which) e t =
       let there = served_there (length node.units) (login_at node place) login e in
       let inside : place < 8 = (let l = within node.logins.places place login there in let c = g.table.sound.size in omega arith) in
@@ -267,23 +288,27 @@ lapsed_ends node place (Some login) (Some which) =
 lapsed_ends node place None which = tt
 lapsed_ends node place (Some login) None = tt
 
-lapse_told : (node : NodeState) (place peer : ℕ) (label : LabelParts) (plain : PlainDisk) → IsToldOf (expire_agent place peer label (scene node empty_outbox)).outbox.sides plain None
+lapse_told : (node : NodeState) (place peer : ℕ) (label : LabelParts) (plain : PlainDisk) → IsToldOf place (expire_agent place peer label (scene node empty_outbox)).outbox.sides plain None
 unfolding expire_agent
 lapse_told node place peer label plain =
     let login = login_at node place in
     let which = which_in (desk_at node place) peer label in
-    ends_told (expired_by place login which (scene node empty_outbox)).outbox.sides plain (lapsed_ends node place login which)
+    ends_told place (expired_by place login which (scene node empty_outbox)).outbox.sides plain (lapsed_ends node place login which)
 
 no_agent : (place : ℕ) (r : Result (Option Purpose) Stale) → r ≡ Ok (Some purposes.Management) → r ≡ Ok (Some (purposes.Agent place)) → ⊥
 no_agent place r e f = let same : Ok (Some purposes.Management) ≡ Ok (Some (purposes.Agent place)) = sym e ∙ f in cc
 
-pub told_alike_expired : (node : NodeState) (peer : ℕ) (label : LabelParts) (place : ℕ) (plain : PlainDisk) → (expiring_step node.layer peer label).0 ≡ Ok (Some (purposes.Agent place)) → IsToldOf (alone (lets_expire peer label) node).outbox.sides plain None
+agent_of : (q place : ℕ) → (let r : Result (Option Purpose) Stale = Ok (Some (purposes.Agent q)) in r ≡ Ok (Some (purposes.Agent place))) → q ≡ place
+agent_of q place e = cc
+
+pub told_alike_expired : (node : NodeState) (peer : ℕ) (label : LabelParts) (place : ℕ) (plain : PlainDisk) → (expiring_step node.layer peer label).0 ≡ Ok (Some (purposes.Agent place)) → IsToldOf place (alone (lets_expire peer label) node).outbox.sides plain None
 unfolding expired
 told_alike_expired node peer label place plain e = by (expiring_step node.layer peer label) e
   where
-    by : (r : Result (Option Purpose) Stale × Layer Purpose) → r.0 ≡ Ok (Some (purposes.Agent place)) → IsToldOf (expired_in r peer label (scene node empty_outbox)).1.outbox.sides plain None
-    by (Ok (Some (purposes.Agent q)), layer) f = lapse_told (record node { layer = layer }) q peer label plain
+    by : (r : Result (Option Purpose) Stale × Layer Purpose) → r.0 ≡ Ok (Some (purposes.Agent place)) → IsToldOf place (expired_in r peer label (scene node empty_outbox)).1.outbox.sides plain None
+    by (Ok (Some (purposes.Agent q)), layer) f =
+        let x = record node { layer = layer } in subst (λ p. IsToldOf p (expire_agent q peer label (scene x empty_outbox)).outbox.sides plain None) (agent_of q place f) (lapse_told x q peer label plain)
     by (Ok (Some purposes.Management), layer) f = absurd (no_agent place (Ok (Some purposes.Management)) refl f)
-    by (Ok (Some purposes.Unsolicited), layer) f = ends_told [] plain tt
-    by (Ok None, layer) f = ends_told [] plain tt
-    by (Err stale, layer) f = ends_told [] plain tt
+    by (Ok (Some purposes.Unsolicited), layer) f = ends_told place [] plain tt
+    by (Ok None, layer) f = ends_told place [] plain tt
+    by (Err stale, layer) f = ends_told place [] plain tt

@@ -40,7 +40,8 @@ use Rattle.sbp_journal.specs.declared.side.Side.TheVariants as sides
 use Rattle.sbp_laws.specs.DiskFold.{left_by_reset, left_by_run, unit_at}
 use Rattle.sbp_laws.specs.Packets.{access_at, access_in_bytes, answer_in, answered_at, id_for, packet_at, receiver_in, sender_in}
 use Rattle.sbp_laws.specs.Turns.{event_of}
-use Rattle.sbp_laws.specs.Targets.{Decided, Purpose, Reply, Target, agent_at, decided_by, effect_on, entered_by, enters_in, for_agent, for_manager, for_nobody, going_on, got_by, is_serial, is_write_access, keep_decided, key_by, known_at, managed_by, manager_step, over, place_on, points, purpose_of, register_got, replied, replied_to, request_got, reset_seen, sent_as, sent_for, start_got, started_by, taken_on, target_at, target_by, told_in, unit_in, wants, wants_it, with_agent, with_untold}
+use Rattle.sbp_laws.proofs.Going.{AgentsAlone, going_alone, run_alone, taken_alone}
+use Rattle.sbp_laws.specs.Targets.{Decided, Purpose, Reply, Target, agent_at, decided_by, effect_on, entered_by, enters_in, for_agent, for_manager, for_nobody, going_on, got_by, is_own_run, is_serial, is_write_access, keep_decided, key_by, known_at, managed_by, manager_step, over, place_on, points, purpose_of, ran_on, register_got, replied, replied_to, request_got, reset_seen, sent_as, sent_for, start_got, started_by, taken_on, target_at, target_by, unit_in, wants, wants_it, with_agent}
 use Rattle.sbp_world.specs.Handing.{handed_out}
 use Rattle.sbp_world.specs.Sending.{asked, posted, sent, sent_all, sent_to}
 use Rattle.sbp_world.specs.Telling.{holder, initiator_of, ticket_at, told, told_all}
@@ -63,17 +64,14 @@ same_if : (b : Bool) (x y z : Target) → Same x y → Same x z → Same x (cond
 same_if true x y z h i = h
 same_if false x y z h i = i
 
-takes_on : (told : Option Told) (reply : Option Reply) (x : Target) → Same x (taken_on told reply x)
-takes_on told None x = (refl, refl)
-takes_on told (Some reply) x = (refl, refl)
+alone_same : (x now : Target) → AgentsAlone x now → Same x now
+alone_same x now e = (ap (λ (y : Target). y.units) e, ap (λ (y : Target). y.table) e)
 
-untold_same : (note : Note) (reply : Option Reply) (x : Target) → Same x (with_untold note reply x)
-untold_same note None x = (refl, refl)
-untold_same note (Some reply) x = (refl, refl)
+takes_on : (told : Option Told) (reply : Option Reply) (x : Target) → Same x (taken_on told reply x)
+takes_on told reply x = alone_same x (taken_on told reply x) (taken_alone told reply x)
 
 goes_on : (note : Note) (x : Target) → Same x (going_on note x)
-goes_on note x =
-    same_then x (with_untold note x.reply x) (going_on note x) (untold_same note x.reply x) (takes_on (told_in x.reply note x) x.reply (with_untold note x.reply x))
+goes_on note x = alone_same x (going_on note x) (going_alone note x)
 
 pub is_over : (x : Target) → Same x (over x)
 is_over x = takes_on None x.reply x
@@ -469,8 +467,9 @@ module _ (start : List Disk) (past : List Moment) where
       let t = term_in start past w in
       let x = holder w place in
       let note = ran_note x (ticket_at w place orb) cdb payload outcome in
-      let same = goes_on note t in
-      let y = going_on note t in
+      let own = is_own_run t.reply x.initiator (known_at start ms).wire t in
+      let y = ran_on own note t in
+      let same = alone_same t y (run_alone own note t) in
       let unit_is : x.unit ≡ unit_for places place = f.unit_is ∙ sym (ap unit_in is) in
       let found : place_on t x.unit (id_for (known_at start ms).wire 0 (x.initiator + 1)) ≡ place =
       ap (λ unit. place_on t unit (id_for (known_at start ms).wire 0 (x.initiator + 1))) f.unit_is

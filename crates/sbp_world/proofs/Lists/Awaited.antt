@@ -32,7 +32,7 @@ use Rattle.sbp_journal.specs.declared.note.Note.{Note}
 use Rattle.sbp_journal.specs.declared.note.Note.TheVariants as notes
 use Rattle.sbp_journal.specs.declared.operation.FunctionWord.TheVariants as functions
 use Rattle.sbp_laws.specs.Packets.{access_in_bytes, access_at, answer_in, answered_at, id_for, packet_at, receiver_in, sender_in}
-use Rattle.sbp_laws.specs.Targets.{Agent, Decided, Purpose, Reply, Target, agent_at, agent_over, closed, cut_agent, cut_where, decided_by, keep_decided, plain_for, reply_of, untold_by, effect_on, enters_in, for_agent, for_manager, for_nobody, going_on, got_by, is_nothing, is_serial, is_write_access, key_by, known_at, main_lost, managed_by, manager_step, moved, new_agent, on_unit, over, pointed_by, points, purpose_of, register_got, replied, replied_to, request_got, reset_seen, rings, sends_of, sent_as, sent_for, start_got, started_by, taken_on, target_at, target_by, told_in, wants, wants_it, with_untold}
+use Rattle.sbp_laws.specs.Targets.{Agent, Decided, Purpose, Reply, Target, agent_at, agent_over, closed, cut_agent, cut_where, decided_by, keep_decided, plain_for, reply_of, untold_by, effect_on, enters_in, for_agent, for_manager, for_nobody, going_on, got_by, is_nothing, is_serial, is_write_access, key_by, known_at, main_lost, managed_by, manager_step, moved, new_agent, on_unit, over, pointed_by, points, purpose_of, register_got, replied, replied_to, request_got, reset_seen, rings, sends_of, sent_as, sent_for, start_got, started_by, taken_on, target_at, target_by, told_in, wants, wants_it, with_untold, is_own_run, ran_on}
 use Rattle.sbp_laws.specs.Turns.{event_of}
 use Rattle.sbp_world.specs.Agents.AskedRuns.{serial_of}
 use Rattle.sbp_world.specs.Agents.Crews.{agent_in}
@@ -211,6 +211,10 @@ module _ (n : ℕ) where
   goes_on_by : (note : Note) (t : Target) → G t (going_on note t)
   goes_on_by note t = chain t (with_untold note t.reply t) (going_on note t) (unsaid note t.reply t) (takes_on (told_in t.reply note t) t.reply (with_untold note t.reply t))
 
+  runs_on : (is_own : Bool) (note : Note) (t : Target) → G t (ran_on is_own note t)
+  runs_on true note t = goes_on_by note t
+  runs_on false note t = takes_on None t.reply t
+
   ends_turn : (t : Target) → G t (over t)
   ends_turn t = then_goes t.agents (taken_on None t.reply t).agents (over t).agents (takes_on None t.reply t) (map_goes agent_over (taken_on None t.reply t).agents ends)
 
@@ -335,7 +339,7 @@ module _ (n : ℕ) where
       chain t (over t) (target_by (notes.Seen node generation) past wire t) (ends_turn t)
       (over_or (node == 0) t (reset_seen (not (generation == wire.generation 0)) (over t)) (resets_by (not (generation == wire.generation 0)) (over t)))
   note_goes notes.Tick past wire t l = ends_turn t
-  note_goes (notes.Ran i m k unit cdb bytes check) past wire t l = goes_on_by (notes.Ran i m k unit cdb bytes check) t
+  note_goes (notes.Ran i m k unit cdb bytes check) past wire t l = runs_on (is_own_run t.reply i wire t) (notes.Ran i m k unit cdb bytes check) t
   note_goes (notes.Sent serial generation from to bytes) past wire t l =
       chain t (taken_on None t.reply t) (target_by (notes.Sent serial generation from to bytes) past wire t) (takes_on None t.reply t) (by (from == 0))
     where

@@ -19,10 +19,10 @@ use Rattle.sbp_journal.specs.Addresses.{Access}
 use Rattle.sbp_journal.specs.Run.{Moment}
 use Rattle.sbp_journal.specs.Wire.{terms}
 use Rattle.sbp_journal.specs.declared.event.Cmd.{Cmd}
-use Rattle.sbp_laws.specs.Agents.{fifo_in, initiator_at as term_initiator}
+use Rattle.sbp_laws.specs.Agents.{fifo_in}
 use Rattle.sbp_laws.specs.CarriedBytes.{laid_out}
 use Rattle.sbp_laws.specs.Lists.{command_at, linked, slot_at}
-use Rattle.sbp_laws.specs.Targets.{Agent, Target, agent_at, login_at as term_login, over, target_at}
+use Rattle.sbp_laws.specs.Targets.{Agent, Target, agent_at, initiator_at as term_initiator, login_at as term_login, over, target_at}
 use Rattle.sbp_laws.specs.Terms.{ends, request_at}
 use Rattle.sbp_target.specs.Nodes.{desk_at}
 use Rattle.sbp_world.specs.Telling.{holder}

@@ -23,14 +23,14 @@ use Rattle.sbp_journal.specs.declared.note.Note.{Note}
 use Rattle.sbp_journal.specs.declared.note.Note.TheVariants as notes
 use Rattle.sbp_journal.specs.Run.{Moment, said}
 use Rattle.sbp_journal.specs.Wire.{Terms, terms}
-use Rattle.sbp_laws.specs.Agents.{initiator_at, initiator_with, node_in, told_among}
+use Rattle.sbp_laws.specs.Agents.{told_among}
 use Rattle.sbp_world.specs.Agents.Management.Offices.{Office}
 use Rattle.sbp_world.proofs.Agents.Management.Offices.{over_keeps}
 use Rattle.sbp_laws.specs.CarriedLaw.{Run, runs_due, runs_in}
 use Rattle.sbp_laws.specs.DiskFold.{unit_at}
 use Rattle.sbp_laws.specs.Lists as lists
 use Rattle.sbp_laws.specs.Lists.{Orb, named}
-use Rattle.sbp_laws.specs.Targets.{Target, over, target_at, told_of, unit_in, unit_of}
+use Rattle.sbp_laws.specs.Targets.{Target, initiator_at, initiator_with, node_in, over, target_at, told_of, unit_in, unit_of}
 use Rattle.sbp_laws.specs.Turns.{turn}
 use Rattle.sbp_target.specs.declared.purpose.Purpose.{Purpose}
 use Rattle.sbp_target.specs.declared.purpose.Purpose.TheVariants as purposes

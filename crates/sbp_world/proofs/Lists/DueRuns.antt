@@ -33,13 +33,13 @@ use Rattle.sbp_journal.specs.Run.{Moment, said}
 use Rattle.sbp_journal.specs.Transactions.{Sending}
 use Rattle.sbp_journal.specs.Wire.{Terms, terms}
 use Rattle.sbp_laws.specs.Agents as laws
-use Rattle.sbp_laws.specs.Agents.{agent_event, agent_turn, got_in, initiator_at, nothing, replies, reply_to, told_among, write_in}
+use Rattle.sbp_laws.specs.Agents.{agent_event, agent_turn, got_in, nothing, replies, reply_to, told_among, write_in}
 use Rattle.sbp_laws.specs.CarriedLaw.{Run, run_by, run_of, runs_due}
 use Rattle.sbp_laws.specs.DiskFold.{unit_at}
 use Rattle.sbp_laws.specs.Lists as lists
 use Rattle.sbp_laws.specs.Lists.{Orb, named, named_in, prepared_in}
 use Rattle.sbp_laws.specs.Packets.{access_at, answer_in as term_answer, answered_at, packet_at, receiver_in}
-use Rattle.sbp_laws.specs.Targets.{Agent, Purpose as TermPurpose, Reply, Target, agent_at, for_agent, for_manager, for_nobody, is_serial, over, plain_for, purpose_of, target_at, told_of, unit_of}
+use Rattle.sbp_laws.specs.Targets.{Agent, Purpose as TermPurpose, Reply, Target, agent_at, for_agent, for_manager, for_nobody, initiator_at, is_serial, over, plain_for, purpose_of, target_at, told_of, unit_of}
 use Rattle.sbp_laws.specs.Turns.{Turn, turn}
 use Rattle.sbp_target.specs.declared.purpose.Purpose.{Purpose}
 use Rattle.sbp_target.specs.declared.purpose.Purpose.TheVariants as purposes

@@ -22,10 +22,10 @@ use Rattle.sbp_journal.specs.Run.{Moment, asked, said}
 use Rattle.sbp_journal.specs.Wire.{terms}
 use Rattle.sbp_journal.specs.declared.note.Note.{Note}
 use Rattle.sbp_journal.specs.declared.note.Note.TheVariants as notes
-use Rattle.sbp_laws.specs.Agents.{Event, agent_turn, by_doorbell, by_pointer, initiator_at, nothing, reply_to, target_before, told_among, wire_before, write_in, write_of, writes}
+use Rattle.sbp_laws.specs.Agents.{Event, agent_turn, by_doorbell, by_pointer, nothing, reply_to, target_before, told_among, wire_before, write_in, write_of, writes}
 use Rattle.sbp_laws.specs.CarriedLaw.{run_by, run_of, runs_due, runs_in}
 use Rattle.sbp_laws.specs.Packets.{sender_in}
-use Rattle.sbp_laws.specs.Targets.{Purpose, Target, agent_at, for_agent, for_manager, for_nobody, is_serial, plain_for, purpose_of, unit_of}
+use Rattle.sbp_laws.specs.Targets.{Purpose, Target, agent_at, for_agent, for_manager, for_nobody, initiator_at, is_serial, plain_for, purpose_of, unit_of}
 use Rattle.sbp_laws.specs.Turns.{EachTurn, EachTurnBefore, Turn, turn}
 use Rattle.sbp_world.proofs.Lists.Runless.{AllPlain}
 

@@ -1,6 +1,5 @@
 -- Each line and each delivery keeps that what agents wait for to read in a slot was sent when the ORB that the slot has had been appended.
-use Rattle.std.proofs.Common.{◌≡◌, ◌∙◌, refl, sym, ap, subst, ◌<◌, ℕ, zero, suc, Bool, true, false, List, [], ◌∷◌, ◌++◌, map, Option, Some, None}
-use Rattle.std.specs.Prelude.{slice_set}
+use Rattle.std.proofs.Common.{◌≡◌, ◌∙◌, refl, sym, ap, subst, ◌<◌, ℕ, suc, Bool, true, false, List, [], ◌∷◌, ◌++◌, map, Option, Some, None}
 use Rattle.command_agent.specs.declared.step.Which.{Which}
 use Rattle.rbc_disk.specs.Disk.{Disk}
 use Rattle.rbc_disk.specs.Runs.{Told}
@@ -10,13 +9,13 @@ use Rattle.sbp_journal.specs.declared.event.Event.TheVariants as events
 use Rattle.sbp_bus.specs.Packets.{end_note}
 use Rattle.sbp_journal.specs.declared.note.Note.{Note}
 use Rattle.sbp_journal.specs.declared.note.Note.TheVariants as notes
-use Rattle.sbp_laws.specs.Targets.{Agent, Reply, Target, going_on, over, taken_on, target_at, told_in, with_untold}
+use Rattle.sbp_laws.specs.Targets.{Agent, target_at}
 use Rattle.sbp_world.specs.Settling.{delivered_at, delivered_next, lowest}
 use Rattle.sbp_world.specs.Worlds.{Scene, WorldState, without_notes}
 use Rattle.sbp_world.proofs.Agents.Management.Still.{hist}
 use Rattle.sbp_world.specs.Agents.AskedRuns.{serial_of}
 use Rattle.sbp_world.specs.Agents.Crews.{agent_in}
-use Rattle.sbp_world.proofs.Agents.Asides.{settled_over}
+use Rattle.sbp_world.proofs.Agents.CrewOthers.{settled_ends, stopped_ends}
 use Rattle.sbp_world.proofs.Hosts.LastingTerms.{AllLast}
 use Rattle.sbp_world.specs.Lists.Needs.{initiator_in}
 use Rattle.sbp_world.proofs.Lists.Awaited.{Starts, line_starts}
@@ -81,37 +80,10 @@ pub first_early : (wild : ℕ → Bool) (start : List Disk) (line n : ℕ) (is_r
 first_early wild start line n is_ready place b which serial i slot m k r = absurd (let no : None ≡ Some (suc i) = r.to in cc)
 
 -- ---- the end of a line that settles
-set_same : (agents : List Agent) (k : ℕ) → slice_set agents k (agent_in agents k) ≡ agents
-set_same [] k = refl
-set_same (a ∷ agents) zero = refl
-set_same (a ∷ agents) (suc k) = ap (λ xs. a ∷ xs) (set_same agents k)
-
-module _ (t : Target) where
-  stays_same : (reply : Reply) → record t { agents = slice_set t.agents reply.place (agent_in t.agents reply.place) } ≡ t
-  stays_same reply = ap (λ (xs : List Agent). record t { agents = xs }) (set_same t.agents reply.place)
-
-  settled_by : (reply : Option Reply) → t.reply ≡ reply → going_on notes.Settled t ≡ taken_on None t.reply t
-  settled_by None e = ap (λ (r : Option Reply). taken_on (told_in r notes.Settled t) r (with_untold notes.Settled r t)) e ∙ sym (ap (λ (r : Option Reply). taken_on None r t) e)
-  settled_by (Some reply) e =
-      ap (λ (r : Option Reply). taken_on (told_in r notes.Settled t) r (with_untold notes.Settled r t)) e
-      ∙ (ap (λ (x : Target). taken_on None (Some reply) x) (stays_same reply) ∙ sym (ap (λ (r : Option Reply). taken_on None r t) e))
-
-  stopped_by : (reply : Option Reply) → t.reply ≡ reply → going_on notes.Stopped t ≡ taken_on None t.reply t
-  stopped_by None e = ap (λ (r : Option Reply). taken_on (told_in r notes.Stopped t) r (with_untold notes.Stopped r t)) e ∙ sym (ap (λ (r : Option Reply). taken_on None r t) e)
-  stopped_by (Some reply) e =
-      ap (λ (r : Option Reply). taken_on (told_in r notes.Stopped t) r (with_untold notes.Stopped r t)) e
-      ∙ (ap (λ (x : Target). taken_on None (Some reply) x) (stays_same reply) ∙ sym (ap (λ (r : Option Reply). taken_on None r t) e))
-
-  pub settled_same : (over (going_on notes.Settled t)).agents ≡ (over t).agents
-  settled_same = ap (λ (x : Target). (over x).agents) (settled_by t.reply refl) ∙ settled_over t
-
-  pub stopped_same : (over (going_on notes.Stopped t)).agents ≡ (over t).agents
-  stopped_same = ap (λ (x : Target). (over x).agents) (stopped_by t.reply refl) ∙ settled_over t
-
 pub end_early : (wild : ℕ → Bool) (start : List Disk) (b : Bool) (ms : List Moment) → Early wild start ms → Early wild start (said (end_note b) ∷ ms)
 end_early wild start true ms early place c which serial i slot n k r =
     early place c which serial i slot n k (record {
-      waits = ap (λ (xs : List Agent). serial_of which (agent_in xs place)) (sym (settled_same (target_at start ms))) ∙ r.waits;
+      waits = ap (λ (xs : List Agent). serial_of which (agent_in xs place)) (sym (settled_ends (target_at start ms))) ∙ r.waits;
       to = r.to;
       own = r.own;
       access = r.access;
@@ -123,7 +95,7 @@ end_early wild start true ms early place c which serial i slot n k r =
     })
 end_early wild start false ms early place c which serial i slot n k r =
     early place c which serial i slot n k (record {
-      waits = ap (λ (xs : List Agent). serial_of which (agent_in xs place)) (sym (stopped_same (target_at start ms))) ∙ r.waits;
+      waits = ap (λ (xs : List Agent). serial_of which (agent_in xs place)) (sym (stopped_ends (target_at start ms))) ∙ r.waits;
       to = r.to;
       own = r.own;
       access = r.access;

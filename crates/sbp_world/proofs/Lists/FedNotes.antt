@@ -27,7 +27,7 @@ use Rattle.sbp_journal.specs.declared.note.Note.TheVariants as notes
 use Rattle.sbp_journal.specs.declared.operation.FunctionWord.{FunctionWord}
 use Rattle.sbp_journal.specs.declared.operation.FunctionWord.TheVariants as functions
 use Rattle.sbp_laws.specs.Packets.{access_in_bytes, sender_in}
-use Rattle.sbp_laws.specs.Targets.{Agent, Decided, Purpose, Reply, Target, agent_at, cut_agent, cut_at, effect_on, enters_in, entered_by, for_agent, for_manager, for_nobody, going_on, is_serial, is_write_access, key_by, main_lost, managed_by, manager_step, new_agent, on_unit, over, pointed_by, points, purpose_of, register_got, replied, replied_to, request_got, reset_seen, rings, sends_of, sent_as, sent_for, start_got, started_by, taken_on, target_by, wants, wants_it, with_agent}
+use Rattle.sbp_laws.specs.Targets.{Agent, Decided, Purpose, Reply, Target, agent_at, cut_agent, cut_at, effect_on, enters_in, entered_by, for_agent, for_manager, for_nobody, going_on, is_serial, is_write_access, key_by, main_lost, managed_by, manager_step, new_agent, on_unit, over, pointed_by, points, purpose_of, register_got, replied, replied_to, request_got, reset_seen, rings, sends_of, sent_as, sent_for, start_got, started_by, taken_on, target_by, wants, wants_it, with_agent, is_own_run, ran_on}
 use Rattle.sbp_laws.specs.Turns.{event_of}
 use Rattle.sbp_world.proofs.Lists.FedFolds.{AreSo, AreStill, IsKept, Pends, cut_each, going_still, main_kept, map_each, over_still, same_machines, set_new, set_still, settles, so, where_each}
 
@@ -170,6 +170,10 @@ module _ (P : ℕ → Machine → Type 0) (kept : IsKept P) where
   going : (note : Note) (t : Target) → Is t → Is (going_on note t)
   going note t h = so P (going_on note t) (going_still P kept note t h)
 
+  running : (is_own : Bool) (note : Note) (t : Target) → Is t → Is (ran_on is_own note t)
+  running true note t h = going note t h
+  running false note t h = so P (taken_on None t.reply t) (settles P kept t h)
+
   managed_note : (i subject status : ℕ) (word : FunctionWord) (login : Option ℕ) (past : List Moment) (wire : Terms) (t : Target) → Is t → Is (target_by (notes.Managed i word subject status login) past wire t)
   managed_note i subject status functions.Login login past wire t h = entered_kept login t h
   managed_note i subject status functions.Query login past wire t h = going _ t h
@@ -211,7 +215,9 @@ module _ (P : ℕ → Machine → Type 0) (kept : IsKept P) where
   note_kept (notes.TimedOut serial) past wire t h g =
       let s = over_still P kept t h in
       pick_is (is_serial (sender_in (wire.sent serial)) 0) (replied serial Expired (over t)) (over t) (late serial (over t) s) (so P (over t) s)
-  note_kept (notes.Ran i n k unit cdb bytes check) past wire t h g = stand _ (going_on (notes.Ran i n k unit cdb bytes check) t) refl refl (going (notes.Ran i n k unit cdb bytes check) t h)
+  note_kept (notes.Ran i n k unit cdb bytes check) past wire t h g =
+      let own = is_own_run t.reply i wire t in
+      let note = notes.Ran i n k unit cdb bytes check in stand _ (ran_on own note t) refl refl (running own note t h)
   note_kept (notes.Ended i n k status) past wire t h g = going _ t h
   note_kept (notes.Taken i n k status answer) past wire t h g = going _ t h
   note_kept (notes.Cut i n cause) past wire t h g = going _ t h

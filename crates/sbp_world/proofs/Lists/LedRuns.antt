@@ -23,9 +23,9 @@ use Rattle.sbp_journal.specs.Wire.{terms}
 use Rattle.sbp_journal.specs.declared.event.Event.{Event}
 use Rattle.sbp_journal.specs.declared.note.Note.{Note}
 use Rattle.sbp_journal.specs.declared.note.Note.TheVariants as notes
-use Rattle.sbp_laws.specs.Agents.{fifo_in, initiator_at}
+use Rattle.sbp_laws.specs.Agents.{fifo_in}
 use Rattle.sbp_laws.specs.Packets.{answer_in, answered_at, packet_at, receiver_in}
-use Rattle.sbp_laws.specs.Targets.{Target, agent_at, is_serial, login_at, over, target_at}
+use Rattle.sbp_laws.specs.Targets.{Target, agent_at, initiator_at, is_serial, login_at, over, target_at}
 use Rattle.sbp_laws.specs.Turns.{EachMoment}
 use Rattle.sbp_world.specs.Histories.{history_of}
 use Rattle.sbp_world.specs.Making.{ready_logins}

@@ -11,7 +11,6 @@ use Rattle.orb_layout.specs.declared.ask.Ask.TheVariants.{Nothing}
 use Rattle.orb_layout.specs.declared.ask.FailCause.TheVariants as causes
 use Rattle.orb_layout.specs.Replies.{Answer, Expired}
 use Rattle.rbc_disk.specs.Disk.{Disk}
-use Rattle.rbc_disk.specs.Runs.{Told}
 use Rattle.sbp_journal.specs.Run.{Moment, asked, said}
 use Rattle.sbp_journal.specs.Transactions.{Part, no_packet, part_of, request, response}
 use Rattle.sbp_journal.specs.Wire.{Terms}
@@ -21,8 +20,9 @@ use Rattle.sbp_journal.specs.declared.note.Note.{Note}
 use Rattle.sbp_journal.specs.declared.note.Note.TheVariants as notes
 use Rattle.sbp_journal.specs.declared.operation.FunctionWord.TheVariants as functions
 use Rattle.sbp_laws.specs.Packets.{access_at, access_in_bytes, answer_in, answered_at, id_for, packet_at, receiver_in, sender_in}
-use Rattle.sbp_laws.specs.Targets.{Agent, Decided, Purpose, Reply, Target, agent_at, effect_on, enters_in, for_agent, for_manager, for_nobody, going_on, got_by, is_serial, is_write_access, key_by, known_at, managed_by, manager_step, new_agent, over, purpose_among, purpose_of, replied, replied_to, reset_seen, sent_as, sent_for, taken_on, target_at, told_in, wants, wants_it, with_untold}
+use Rattle.sbp_laws.specs.Targets.{Agent, Decided, Purpose, Reply, Target, agent_at, effect_on, enters_in, for_agent, for_manager, for_nobody, got_by, is_own_run, is_serial, is_write_access, key_by, known_at, managed_by, manager_step, new_agent, over, purpose_among, purpose_of, replied, replied_to, reset_seen, sent_as, sent_for, taken_on, target_at, wants, wants_it}
 use Rattle.sbp_laws.specs.Turns.{event_of}
+use Rattle.sbp_laws.proofs.Going.{going_rests, run_rests, taken_rests}
 use Rattle.sbp_world.specs.Agents.Crews.{agent_in}
 use Rattle.sbp_world.specs.Lists.LetsGo.{IsAnswered, IsClosing, WasClosed}
 use Rattle.sbp_world.proofs.Lists.PointersGot.{requests_got}
@@ -76,19 +76,8 @@ rests t x e place serial h = absurd (unanswered x.reply place e h.0)
 self : (t : Target) → Old t t
 self t place serial h = h
 
-taken : (told : Option Told) (reply : Option Reply) (t : Target) → t.reply ≡ reply → (taken_on told reply t).reply ≡ None
-taken told None t e = e
-taken told (Some reply) t e = refl
-
-untold : (note : Note) (reply : Option Reply) (t : Target) → (with_untold note reply t).reply ≡ t.reply
-untold note None t = refl
-untold note (Some reply) t = refl
-
-going : (note : Note) (t : Target) → (going_on note t).reply ≡ None
-going note t = taken (told_in t.reply note t) t.reply (with_untold note t.reply t) (untold note t.reply t)
-
 over_none : (t : Target) → (over t).reply ≡ None
-over_none t = taken None t.reply t refl
+over_none t = taken_rests None t.reply t refl
 
 affects : (effect : Effect) (t : Target) → (effect_on effect t).reply ≡ t.reply
 affects (effects.Left place) t = refl
@@ -216,8 +205,8 @@ module _ (start : List Disk) where
   note_next notes.Tick past = let t = target_at start past in olds (said notes.Tick) past (rests t (target_at start (said notes.Tick ∷ past)) (over_none t))
   note_next (notes.Ran i n k unit cdb bytes check) past =
       let t = target_at start past in
-      let m = said (notes.Ran i n k unit cdb bytes check) in
-      olds m past (rests t (target_at start (m ∷ past)) (going (notes.Ran i n k unit cdb bytes check) t))
+      let note = notes.Ran i n k unit cdb bytes check in
+      olds (said note) past (rests t (target_at start (said note ∷ past)) (run_rests (is_own_run t.reply i (known_at start past).wire t) note t))
   note_next (notes.Sent serial generation from to bytes) past =
       let t = target_at start past in
       let x = taken_on None t.reply t in
@@ -236,7 +225,7 @@ module _ (start : List Disk) where
   note_next (notes.Cleared unit) past = λ place serial h. inl h
   note_next (notes.Key unit) past = olds (said (notes.Key unit)) past (keys (event_of past) unit (target_at start past))
   note_next (notes.Unsolicited i) past = λ place serial h. inl h
-  note_next note past = let t = target_at start past in olds (said note) past (rests t (target_at start (said note ∷ past)) (going note t))
+  note_next note past = let t = target_at start past in olds (said note) past (rests t (target_at start (said note ∷ past)) (going_rests note t))
 
   -- behind a packet that is sent no reply waits
   pub sent_none : (past : List Moment) (serial generation from to : ℕ) (bytes : List ℕ) → (target_at start (said (notes.Sent serial generation from to bytes) ∷ past)).reply ≡ None

@@ -31,7 +31,7 @@ use Rattle.sbp_journal.specs.declared.note.Note.{Note}
 use Rattle.sbp_journal.specs.declared.note.Note.TheVariants as notes
 use Rattle.sbp_journal.specs.declared.operation.FunctionWord.TheVariants as functions
 use Rattle.sbp_laws.specs.Packets.{access_in_bytes, access_at, answer_in, answered_at, id_for, packet_at, receiver_in, sender_in}
-use Rattle.sbp_laws.specs.Targets.{Agent, Decided, Purpose, Reply, Target, agent_at, agent_over, closed, cut_agent, cut_where, decided_by, keep_decided, plain_for, reply_of, untold_by, effect_on, enters_in, for_agent, for_manager, for_nobody, going_on, got_by, is_nothing, is_serial, is_write_access, key_by, known_at, main_lost, managed_by, manager_step, moved, new_agent, on_unit, over, pointed_by, points, purpose_of, register_got, replied, replied_to, request_got, reset_seen, rings, sends_of, sent_as, sent_for, start_got, started_by, taken_on, target_at, target_by, told_in, wants, wants_it, with_untold}
+use Rattle.sbp_laws.specs.Targets.{Agent, Decided, Purpose, Reply, Target, agent_at, agent_over, closed, cut_agent, cut_where, decided_by, keep_decided, plain_for, reply_of, untold_by, effect_on, enters_in, for_agent, for_manager, for_nobody, going_on, got_by, is_nothing, is_serial, is_write_access, key_by, known_at, main_lost, managed_by, manager_step, moved, new_agent, on_unit, over, pointed_by, points, purpose_of, register_got, replied, replied_to, request_got, reset_seen, rings, sends_of, sent_as, sent_for, start_got, started_by, taken_on, target_at, target_by, told_in, wants, wants_it, with_untold, is_own_run, ran_on}
 use Rattle.sbp_laws.specs.Turns.{event_of}
 use Rattle.sbp_world.specs.Agents.Crews.{agent_in}
 use Rattle.sbp_world.specs.Lists.LetsGo.{HasOneMain, IsAnswered, IsCut}
@@ -286,6 +286,10 @@ goes_on_by : (note : Note) (t : Target) → Goes (Answers t.reply) t.agents (goi
 goes_on_by note t =
     then_all (Answers t.reply) t.agents (with_untold note t.reply t).agents (going_on note t).agents (unsaid note t.reply t) (takes_on (told_in t.reply note t) t.reply (with_untold note t.reply t))
 
+runs_on : (is_own : Bool) (note : Note) (t : Target) → Goes (Answers t.reply) t.agents (ran_on is_own note t).agents
+runs_on true note t = goes_on_by note t
+runs_on false note t = takes_on None t.reply t
+
 answers_stay : (reply : Option Reply) (p : ℕ) (x : Agent) → IsAnswered reply p → IsAnswered reply p
 answers_stay reply p x h = h
 
@@ -432,7 +436,9 @@ note_goes (notes.Seen node generation) past wire t =
     then_so t (target_by (notes.Seen node generation) past wire t).agents
     (over_or (node == 0) t (reset_seen (not (generation == wire.generation 0)) (over t)) (resets_by (not (generation == wire.generation 0)) (over t)))
 note_goes notes.Tick past wire t = answers_only t (over t).agents (ends_turn t)
-note_goes (notes.Ran i m k unit cdb bytes check) past wire t = answers_only t (going_on (notes.Ran i m k unit cdb bytes check) t).agents (goes_on_by (notes.Ran i m k unit cdb bytes check) t)
+note_goes (notes.Ran i m k unit cdb bytes check) past wire t =
+    let own = is_own_run t.reply i wire t in
+    let note = notes.Ran i m k unit cdb bytes check in answers_only t (ran_on own note t).agents (runs_on own note t)
 note_goes (notes.Sent serial generation from to bytes) past wire t =
     answers_only t (target_by (notes.Sent serial generation from to bytes) past wire t).agents
     (behind t.reply (Answers t.reply) t.agents x.agents (target_by (notes.Sent serial generation from to bytes) past wire t).agents (answers_stay t.reply) (takes_on None t.reply t) (by (from == 0)))

@@ -5,10 +5,9 @@ use Rattle.orb_layout.specs.declared.command.CommandOrb.{CommandOrb}
 use Rattle.rbc_disk.specs.Disk.{Disk}
 use Rattle.sbp_journal.specs.Run.{Moment, said}
 use Rattle.sbp_journal.specs.Wire.{terms}
-use Rattle.sbp_laws.specs.Agents.{initiator_at}
 use Rattle.sbp_laws.specs.CarriedBytes.{address_of, before_sent, open_list}
 use Rattle.sbp_laws.specs.Lists.{orb as named_orb, prepared_in}
-use Rattle.sbp_laws.specs.Targets.{over, target_at}
+use Rattle.sbp_laws.specs.Targets.{initiator_at, over, target_at}
 use Rattle.sbp_laws.specs.Turns.{EachMoment}
 use Rattle.sbp_journal.specs.declared.note.Note.TheVariants as notes
 use Rattle.sbp_laws.specs.OrderLaw.{OrderLaw}

@@ -23,8 +23,7 @@ use Rattle.target_base.specs.declared.address.Demand.TheVariants as demands
 use Rattle.target_base.specs.declared.address.AgentRegister.{AgentRegister}
 use Rattle.target_base.specs.Addresses.{demand_of, is_lock, offset_in, reached, register_at, row_of}
 use Rattle.target_base.specs.Logins.{is_barred_at}
-use Rattle.sbp_laws.specs.Agents.{initiator_at as term_initiator, initiator_with, node_in}
-use Rattle.sbp_laws.specs.Targets.{over, target_at}
+use Rattle.sbp_laws.specs.Targets.{initiator_at as term_initiator, initiator_with, node_in, over, target_at}
 use Rattle.sbp_target.specs.Nodes.{NodeState, login_at}
 use Rattle.sbp_target.specs.Serving.{is_barred}
 use Rattle.sbp_target.proofs.Histories.Following.{IsServed}

@@ -13,10 +13,10 @@ use Rattle.sbp_journal.specs.Transactions.{Sending}
 use Rattle.sbp_journal.specs.Wire.{terms}
 use Rattle.sbp_journal.specs.declared.note.Note.{Note}
 use Rattle.sbp_journal.specs.declared.note.Note.TheVariants as notes
-use Rattle.sbp_laws.specs.Agents.{initiator_at as term_initiator, list_taken}
+use Rattle.sbp_laws.specs.Agents.{list_taken}
 use Rattle.sbp_laws.specs.CarriedBytes.{before_sent, open_list}
 use Rattle.sbp_laws.specs.Packets.{access_at, access_in, packet_in, receiver_in, sender_in}
-use Rattle.sbp_laws.specs.Targets.{Target, agent_at, known_at, over, target_at}
+use Rattle.sbp_laws.specs.Targets.{Target, agent_at, initiator_at as term_initiator, known_at, over, target_at}
 use Rattle.sbp_laws.specs.Terms.{lists}
 use Rattle.bus_transactions.specs.Packets.{SerialsCount}
 use Rattle.sbp_world.specs.Agents.Alike.{has_list}

@@ -11,9 +11,9 @@ use Rattle.label_table.specs.declared.reply.ReplyKind.{ReplyKind}
 use Rattle.sbp_journal.specs.Addresses.{access_of}
 use Rattle.sbp_journal.specs.Wire.{Terms, terms}
 use Rattle.sbp_journal.specs.declared.cause.Cause.TheVariants as ignored
-use Rattle.sbp_laws.specs.Agents.{got_in, initiator_at as term_initiator, list_taken, listed_at, listed_by, write_in}
+use Rattle.sbp_laws.specs.Agents.{got_in, list_taken, listed_at, listed_by, write_in}
 use Rattle.sbp_laws.specs.Packets.{access_at, access_in, answered_at, packet_in, receiver_in, spelled_by}
-use Rattle.sbp_laws.specs.Targets.{Target, agent_at, is_serial, over, target_at}
+use Rattle.sbp_laws.specs.Targets.{Target, agent_at, initiator_at as term_initiator, is_serial, over, target_at}
 use Rattle.target_base.specs.Addresses.{address_error, demand_of}
 use Rattle.target_base.specs.declared.address.Access as base
 use Rattle.target_base.specs.declared.address.Demand.{Demand}

@@ -11,9 +11,9 @@ use Rattle.sbp_journal.specs.Transactions.{Part, Sending, no_packet, part_of, re
 use Rattle.sbp_journal.specs.Wire.{Terms, opened, terms}
 use Rattle.sbp_journal.specs.declared.event.Event.{Event}
 use Rattle.sbp_journal.specs.declared.note.Note.TheVariants as notes
-use Rattle.sbp_laws.specs.Agents.{fifo_in, initiator_at}
+use Rattle.sbp_laws.specs.Agents.{fifo_in}
 use Rattle.sbp_laws.specs.Packets.{answer_in, answered_as, answered_at, answered_in, packet_at, receiver_in}
-use Rattle.sbp_laws.specs.Targets.{Target, agent_at, is_serial, login_at, over, target_at}
+use Rattle.sbp_laws.specs.Targets.{Target, agent_at, initiator_at, is_serial, login_at, over, target_at}
 use Rattle.sbp_world.specs.Worlds.{WorldState, without_notes}
 use Rattle.sbp_world.specs.Lists.Needs.{initiator_in, machine_at}
 use Rattle.sbp_world.specs.Lists.OrbReads.{IsBrought}

@@ -28,7 +28,7 @@ use Rattle.sbp_journal.specs.declared.note.Note.TheVariants as notes
 use Rattle.sbp_journal.specs.declared.operation.FunctionWord.{FunctionWord}
 use Rattle.sbp_journal.specs.declared.operation.FunctionWord.TheVariants as functions
 use Rattle.sbp_laws.specs.Packets.{access_at, access_in_bytes, answer_in, answered_at, id_for, packet_at, receiver_in, sender_in}
-use Rattle.sbp_laws.specs.Targets.{Agent, Decided, Purpose, Reply, Target, agent_at, cut_agent, cut_at, effect_on, enters_in, entered_by, for_agent, for_manager, for_nobody, going_on, got_by, is_serial, is_write_access, key_by, main_lost, managed_by, manager_step, new_agent, on_unit, over, pointed_by, points, purpose_of, register_got, replied, replied_to, request_got, reset_seen, rings, sends_of, sent_as, sent_for, start_got, started_by, taken_on, target_by, wants, wants_it, with_agent}
+use Rattle.sbp_laws.specs.Targets.{Agent, Decided, Purpose, Reply, Target, agent_at, cut_agent, cut_at, effect_on, enters_in, entered_by, for_agent, for_manager, for_nobody, going_on, got_by, is_serial, is_write_access, key_by, main_lost, managed_by, manager_step, new_agent, on_unit, over, pointed_by, points, purpose_of, register_got, replied, replied_to, request_got, reset_seen, rings, sends_of, sent_as, sent_for, start_got, started_by, taken_on, target_by, wants, wants_it, with_agent, is_own_run, ran_on}
 use Rattle.sbp_laws.specs.Turns.{event_of}
 use Rattle.sbp_world.proofs.Lists.OrbFolds.{AreReading, AreSettled, Brings, cut_reads, going_reads, main_reads, map_settled, over_reads, same_machines, set_new, set_settled, settled_by, settles, where_settled}
 use Rattle.sbp_world.proofs.Lists.OrbSteps.{Reads, abort_reads, bell_reads, point_reads}
@@ -180,6 +180,10 @@ module _ (Read : ℕ → ℕ → CommandOrb → Type 0) where
   going : (note : Note) (t : Target) → Is t → Is (going_on note t)
   going note t h = (going_reads Read note t h).reading
 
+  running : (is_own : Bool) (note : Note) (t : Target) → Is t → Is (ran_on is_own note t)
+  running true note t h = going note t h
+  running false note t h = (settles Read t h).reading
+
   managed_note : (i subject status : ℕ) (word : FunctionWord) (login : Option ℕ) (past : List Moment) (wire : Terms) (t : Target) → Is t → Is (target_by (notes.Managed i word subject status login) past wire t)
   managed_note i subject status functions.Login login past wire t h = entered_reads login t h
   managed_note i subject status functions.Query login past wire t h = going _ t h
@@ -230,7 +234,9 @@ module _ (Read : ℕ → ℕ → CommandOrb → Type 0) where
   note_reads (notes.TimedOut serial) past wire t h g =
       let s = over_reads Read t h in
       pick_is (is_serial (sender_in (wire.sent serial)) 0) (replied serial Expired (over t)) (over t) (replied_reads serial Expired (over t) s (λ place which e. expired_none (agent_at (over t) place).machine place which)) s.reading
-  note_reads (notes.Ran i n k unit cdb bytes check) past wire t h g = stand _ (going_on (notes.Ran i n k unit cdb bytes check) t) refl refl (going (notes.Ran i n k unit cdb bytes check) t h)
+  note_reads (notes.Ran i n k unit cdb bytes check) past wire t h g =
+      let own = is_own_run t.reply i wire t in
+      let note = notes.Ran i n k unit cdb bytes check in stand _ (ran_on own note t) refl refl (running own note t h)
   note_reads (notes.Ended i n k status) past wire t h g = going _ t h
   note_reads (notes.Taken i n k status answer) past wire t h g = going _ t h
   note_reads (notes.Cut i n cause) past wire t h g = going _ t h

@@ -22,9 +22,9 @@ use Rattle.sbp_journal.specs.Run.{Moment, asked, said}
 use Rattle.sbp_journal.specs.Wire.{Terms, terms}
 use Rattle.sbp_journal.specs.declared.note.Note.{Note}
 use Rattle.sbp_journal.specs.declared.note.Note.TheVariants as notes
-use Rattle.sbp_laws.specs.Agents.{fifo_in, initiator_at}
+use Rattle.sbp_laws.specs.Agents.{fifo_in}
 use Rattle.sbp_laws.specs.Packets.{answer_in, answered_at, packet_at, receiver_in}
-use Rattle.sbp_laws.specs.Targets.{Agent, Target, agent_at, is_serial, known_at, login_at, over, target_at}
+use Rattle.sbp_laws.specs.Targets.{Agent, Target, agent_at, initiator_at, is_serial, known_at, login_at, over, target_at}
 use Rattle.sbp_laws.specs.Turns.{EachMoment}
 use Rattle.sbp_world.specs.Lists.OrbReads.{AskedAsGot, IsBrought}
 use Rattle.sbp_world.proofs.Lists.ManageTerms.{none_is, untrue}

@@ -12,8 +12,9 @@ use Rattle.sbp_journal.specs.declared.note.Note.{Note}
 use Rattle.sbp_journal.specs.declared.note.Note.TheVariants as notes
 use Rattle.sbp_journal.specs.declared.operation.FunctionWord.TheVariants as functions
 use Rattle.sbp_laws.specs.Packets.{access_in_bytes}
-use Rattle.sbp_laws.specs.Targets.{Agent, Decided, Reply, Target, agent_at, cut_agent, enters_in, going_on, is_write_access, key_by, main_lost, new_agent, points, register_got, request_got, rings, sends_of, sent_as, sent_for, start_got, started_by, taken_on, target_by, told_in, wants, wants_it, with_untold}
+use Rattle.sbp_laws.specs.Targets.{Agent, Decided, Reply, Target, agent_at, cut_agent, enters_in, going_on, is_own_run, is_write_access, key_by, main_lost, new_agent, points, ran_on, register_got, request_got, rings, sends_of, sent_as, sent_for, start_got, started_by, taken_on, target_by, wants, wants_it}
 use Rattle.sbp_laws.specs.Turns.{event_of}
+use Rattle.sbp_laws.proofs.Going.{going_still, run_still}
 use Rattle.orb_layout.specs.Pointers.{offset_at}
 use Rattle.mgmt_agent.specs.Machine as manager
 use Rattle.sbp_world.specs.Agents.Crews.{agent_in}
@@ -137,16 +138,15 @@ still t = record { agents = rest t.agents; reply = refl }
 then_resting : (t x y : Target) → Resting t x → Resting x y → Resting t y
 then_resting t x y a b = record { agents = λ p. then_rests (agent_in t.agents p) (agent_in x.agents p) (agent_in y.agents p) (a.agents p) (b.agents p); reply = b.reply ∙ a.reply }
 
-going_none : (note : Note) (reply : Option Reply) (t : Target) → reply ≡ None → taken_on (told_in reply note t) reply (with_untold note reply t) ≡ t
-going_none note None t e = refl
-going_none note (Some reply) t e = none_is reply (sym e)
-
 pub taken_same : (reply : Option Reply) (t : Target) → reply ≡ None → taken_on None reply t ≡ t
 taken_same None t e = refl
 taken_same (Some reply) t e = none_is reply (sym e)
 
 goes_resting : (note : Note) (t : Target) → t.reply ≡ None → Resting t (going_on note t)
-goes_resting note t e = subst (Resting t) (sym (going_none note t.reply t e)) (still t)
+goes_resting note t e = subst (Resting t) (sym (going_still note t e)) (still t)
+
+runs_resting : (is_own : Bool) (note : Note) (t : Target) → t.reply ≡ None → Resting t (ran_on is_own note t)
+runs_resting is_own note t e = subst (Resting t) (sym (run_still is_own note t e)) (still t)
 
 settles_resting : (t : Target) → t.reply ≡ None → Resting t (taken_on None t.reply t)
 settles_resting t e = subst (Resting t) (sym (taken_same t.reply t e)) (still t)
@@ -192,7 +192,7 @@ note_resting (notes.Ignored serial cause) past wire t e l = absurd l
 note_resting (notes.TimedOut serial) past wire t e l = absurd l
 note_resting (notes.Seen node generation) past wire t e l = absurd l
 note_resting notes.Tick past wire t e l = absurd l
-note_resting (notes.Ran i m k unit cdb bytes check) past wire t e l = let r = goes_resting (notes.Ran i m k unit cdb bytes check) t e in record { agents = r.agents; reply = r.reply }
+note_resting (notes.Ran i m k unit cdb bytes check) past wire t e l = let r = runs_resting (is_own_run t.reply i wire t) (notes.Ran i m k unit cdb bytes check) t e in record { agents = r.agents; reply = r.reply }
 note_resting (notes.Sent serial generation from to bytes) past wire t e l = then_resting t x (target_by (notes.Sent serial generation from to bytes) past wire t) (settles_resting t e) (by (from == 0))
   where
     x : Target

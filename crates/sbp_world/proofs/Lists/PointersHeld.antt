@@ -33,7 +33,7 @@ use Rattle.sbp_journal.specs.declared.note.Note.{Note}
 use Rattle.sbp_journal.specs.declared.note.Note.TheVariants as notes
 use Rattle.sbp_journal.specs.declared.operation.FunctionWord.TheVariants as functions
 use Rattle.sbp_laws.specs.Packets.{access_in_bytes, sender_in}
-use Rattle.sbp_laws.specs.Targets.{Agent, Decided, Purpose, Reply, Target, agent_at, agent_over, closed, cut_agent, cut_where, decided_by, keep_decided, plain_for, reply_of, untold_by, effect_on, enters_in, for_agent, for_manager, for_nobody, going_on, is_nothing, is_serial, is_write_access, key_by, main_lost, managed_by, manager_step, moved, new_agent, on_unit, over, purpose_of, replied, replied_to, reset_seen, sends_of, sent_as, sent_for, started_by, taken_on, target_by, told_in, wants, wants_it, with_untold}
+use Rattle.sbp_laws.specs.Targets.{Agent, Decided, Purpose, Reply, Target, agent_at, agent_over, closed, cut_agent, cut_where, decided_by, keep_decided, plain_for, reply_of, untold_by, effect_on, enters_in, for_agent, for_manager, for_nobody, going_on, is_nothing, is_serial, is_write_access, key_by, main_lost, managed_by, manager_step, moved, new_agent, on_unit, over, purpose_of, replied, replied_to, reset_seen, sends_of, sent_as, sent_for, started_by, taken_on, target_by, told_in, wants, wants_it, with_untold, is_own_run, ran_on}
 use Rattle.sbp_laws.specs.Turns.{event_of}
 use Rattle.sbp_world.specs.Agents.Alike.{has_list}
 use Rattle.sbp_world.specs.Agents.Crews.{agent_in}
@@ -210,6 +210,10 @@ unsaid note (Some reply) t =
 goes_on_by : (note : Note) (t : Target) → TargetHolds t (going_on note t)
 goes_on_by note t = chain t (with_untold note t.reply t) (going_on note t) (unsaid note t.reply t) (takes_on (told_in t.reply note t) t.reply (with_untold note t.reply t))
 
+runs_on : (is_own : Bool) (note : Note) (t : Target) → TargetHolds t (ran_on is_own note t)
+runs_on true note t = goes_on_by note t
+runs_on false note t = takes_on None t.reply t
+
 pub ends_turn : (t : Target) → TargetHolds t (over t)
 ends_turn t = then_goes t.agents (taken_on None t.reply t).agents (over t).agents (takes_on None t.reply t) (map_goes agent_over (taken_on None t.reply t).agents ends)
 
@@ -297,7 +301,7 @@ note_goes (notes.Seen node generation) past wire t l =
     chain t (over t) (target_by (notes.Seen node generation) past wire t) (ends_turn t)
     (over_or (node == 0) t (reset_seen (not (generation == wire.generation 0)) (over t)) (resets_by (not (generation == wire.generation 0)) (over t)))
 note_goes notes.Tick past wire t l = ends_turn t
-note_goes (notes.Ran i m k unit cdb bytes check) past wire t l = goes_on_by (notes.Ran i m k unit cdb bytes check) t
+note_goes (notes.Ran i m k unit cdb bytes check) past wire t l = runs_on (is_own_run t.reply i wire t) (notes.Ran i m k unit cdb bytes check) t
 note_goes (notes.Sent serial generation from to bytes) past wire t l =
     chain t (taken_on None t.reply t) (target_by (notes.Sent serial generation from to bytes) past wire t) (takes_on None t.reply t) (by (from == 0))
   where

@@ -28,7 +28,7 @@ use Rattle.sbp_journal.specs.declared.note.Note.{Note}
 use Rattle.sbp_journal.specs.declared.note.Note.TheVariants as notes
 use Rattle.sbp_journal.specs.declared.operation.FunctionWord.TheVariants as functions
 use Rattle.sbp_laws.specs.Packets.{access_in_bytes, sender_in}
-use Rattle.sbp_laws.specs.Targets.{Agent, Decided, Purpose, Reply, Target, agent_at, agent_over, ahead_lost, closed, cut_agent, cut_where, decided_by, effect_on, enters_in, for_agent, for_manager, for_nobody, going_on, is_nothing, is_serial, is_write_access, keep_decided, key_by, known_at, main_lost, managed_by, manager_step, moved, new_agent, on_unit, over, plain_for, purpose_of, replied, replied_to, reply_of, reset_seen, sends_of, sent_as, sent_for, taken_on, target_at, target_by, told_in, untold_by, wants, wants_it, with_untold}
+use Rattle.sbp_laws.specs.Targets.{Agent, Decided, Purpose, Reply, Target, agent_at, agent_over, ahead_lost, closed, cut_agent, cut_where, decided_by, effect_on, enters_in, for_agent, for_manager, for_nobody, going_on, is_nothing, is_own_run, is_serial, is_write_access, keep_decided, key_by, known_at, main_lost, managed_by, manager_step, moved, new_agent, on_unit, over, plain_for, purpose_of, ran_on, replied, replied_to, reply_of, reset_seen, sends_of, sent_as, sent_for, taken_on, target_at, target_by, told_in, untold_by, wants, wants_it, with_untold}
 use Rattle.sbp_laws.specs.Turns.{event_of}
 use Rattle.sbp_world.specs.Agents.Crews.{agent_in}
 use Rattle.sbp_world.specs.Lists.LetsGo.{IsCut}
@@ -130,6 +130,10 @@ goes_on : (note : Note) (t : Target) → AllRest t.agents (going_on note t).agen
 goes_on note t =
     then_rest t.agents (with_untold note t.reply t).agents (going_on note t).agents (unsaid note t.reply t) (takes_on (told_in t.reply note t) t.reply (with_untold note t.reply t))
 
+runs_on : (is_own : Bool) (note : Note) (t : Target) → AllRest t.agents (ran_on is_own note t).agents
+runs_on true note t = goes_on note t
+runs_on false note t = takes_on None t.reply t
+
 ends_turn : (t : Target) → AllRest t.agents (over t).agents
 ends_turn t = then_rest t.agents (taken_on None t.reply t).agents (over t).agents (takes_on None t.reply t) (map_rest agent_over (taken_on None t.reply t).agents ends)
 
@@ -212,7 +216,7 @@ note_rests (notes.TimedOut serial) past wire t u = over_or (is_serial (sender_in
 note_rests (notes.Seen node generation) past wire t u =
     over_or (node == 0) t (reset_seen (not (generation == wire.generation 0)) (over t)) (resets_by (not (generation == wire.generation 0)) (over t))
 note_rests notes.Tick past wire t u = ends_turn t
-note_rests (notes.Ran i m k unit cdb bytes check) past wire t u = goes_on (notes.Ran i m k unit cdb bytes check) t
+note_rests (notes.Ran i m k unit cdb bytes check) past wire t u = runs_on (is_own_run t.reply i wire t) (notes.Ran i m k unit cdb bytes check) t
 note_rests (notes.Sent serial generation from to bytes) past wire t u = then_rest t.agents x.agents (target_by (notes.Sent serial generation from to bytes) past wire t).agents (takes_on None t.reply t) (by (from == 0))
   where
     x : Target

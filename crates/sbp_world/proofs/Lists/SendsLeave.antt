@@ -15,10 +15,10 @@ use Rattle.sbp_journal.specs.Transactions.{Part, no_packet, part_of, request, re
 use Rattle.sbp_journal.specs.Wire.{Terms, terms}
 use Rattle.sbp_journal.specs.declared.note.Note.{Note}
 use Rattle.sbp_journal.specs.declared.note.Note.TheVariants as notes
-use Rattle.sbp_laws.specs.Agents.{initiator_at, initiator_from, initiator_with, list_taken, node_in}
+use Rattle.sbp_laws.specs.Agents.{list_taken}
 use Rattle.sbp_laws.specs.CarriedBytes.{open_among}
 use Rattle.sbp_laws.specs.Packets.{access_in_bytes, id_for}
-use Rattle.sbp_laws.specs.Targets.{Agent, Reply, Target, agent_at, agent_over, closed, is_nothing, is_write_access, main_lost, moved, over, plain_for, reply_of, sends_of, sent_as, sent_for, taken_on, target_at, wants, wants_it}
+use Rattle.sbp_laws.specs.Targets.{Agent, Reply, Target, agent_at, agent_over, closed, initiator_at, initiator_from, initiator_with, is_nothing, is_write_access, main_lost, moved, node_in, over, plain_for, reply_of, sends_of, sent_as, sent_for, taken_on, target_at, wants, wants_it}
 use Rattle.sbp_laws.specs.Terms.{lists}
 use Rattle.sbp_world.specs.Agents.Crews.{agent_in}
 use Rattle.sbp_world.proofs.Lists.ManageSends.{sent_terms}

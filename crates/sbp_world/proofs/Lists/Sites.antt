@@ -23,10 +23,10 @@ use Rattle.sbp_journal.specs.Addresses.{Access}
 use Rattle.sbp_journal.specs.Run.{Moment}
 use Rattle.sbp_journal.specs.Wire.{Terms, terms}
 use Rattle.sbp_journal.specs.declared.event.Cmd.{Cmd}
-use Rattle.sbp_laws.specs.Agents.{fifo_in, initiator_at as term_initiator, initiator_with, node_in}
+use Rattle.sbp_laws.specs.Agents.{fifo_in}
 use Rattle.sbp_laws.specs.Lists.{command_at, orb, prepared_in, slot_at}
 use Rattle.sbp_laws.specs.Packets.{access_at, receiver_in}
-use Rattle.sbp_laws.specs.Targets.{Agent, Target, agent_at, login_at as term_login, over, target_at}
+use Rattle.sbp_laws.specs.Targets.{Agent, Target, agent_at, initiator_at as term_initiator, initiator_with, login_at as term_login, node_in, over, target_at}
 use Rattle.sbp_target.specs.declared.desk.Desk.{Desk}
 use Rattle.sbp_target.specs.Nodes.{desk_at}
 use Rattle.sbp_world.specs.Telling.{ticket_of}

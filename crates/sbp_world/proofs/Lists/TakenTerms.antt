@@ -14,10 +14,10 @@ use Rattle.sbp_journal.specs.Run.{Moment, said}
 use Rattle.sbp_journal.specs.Wire.{Terms, terms}
 use Rattle.sbp_journal.specs.declared.note.Note.{Note}
 use Rattle.sbp_journal.specs.declared.note.Note.TheVariants as notes
-use Rattle.sbp_laws.specs.Agents.{Event, got_in, initiator_at, list_taken, listed_at, listed_by, nothing, reply_to, write_in, write_of, writes}
+use Rattle.sbp_laws.specs.Agents.{Event, got_in, list_taken, listed_at, listed_by, nothing, reply_to, write_in, write_of, writes}
 use Rattle.sbp_laws.specs.Lists.{list_in, named}
 use Rattle.sbp_laws.specs.Packets.{access_at, answer_in, answered_at, packet_at, receiver_in}
-use Rattle.sbp_laws.specs.Targets.{Purpose, Target, agent_at, for_agent, for_manager, for_nobody, is_serial, over, purpose_of, target_at}
+use Rattle.sbp_laws.specs.Targets.{Purpose, Target, agent_at, for_agent, for_manager, for_nobody, initiator_at, is_serial, over, purpose_of, target_at}
 use Rattle.target_base.specs.Addresses.{demand_of, or_nowhere}
 use Rattle.target_base.specs.declared.address.Access as base
 use Rattle.target_base.specs.declared.address.Access.TheVariants as accesses

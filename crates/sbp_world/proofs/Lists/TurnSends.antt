@@ -16,8 +16,8 @@ use Rattle.sbp_laws.specs.Targets.{Agent, agent_at, over, target_at}
 use Rattle.sbp_world.specs.Agents.Crews.{agent_in}
 use Rattle.sbp_world.proofs.Hosts.Remaining.{gets_same, ignores_that_same, opened_same, times_out_same}
 use Rattle.sbp_world.proofs.Hosts.SentMoments.{sending, sent_below, sent_now}
+use Rattle.sbp_world.proofs.Agents.CrewOthers.{settled_ends, stopped_ends}
 use Rattle.sbp_world.proofs.Lists.Awaited.{Awaits, Starts, line_starts, since_over}
-use Rattle.sbp_world.proofs.Lists.EarlyLines.{settled_same, stopped_same}
 use Rattle.sbp_world.proofs.Lists.SendsLast.{AllEffects, AllSends, IsEffect, IsStart}
 use Rattle.sbp_world.proofs.Lists.Turned.{starts_judged}
 use Rattle.sbp_world.proofs.Lists.TurnShapes.{Behind, Shape, as_before, by_asked, by_ended, by_judged, by_noted}
@@ -107,8 +107,8 @@ module _ (start : List Disk) (before now : List Moment) (serials : SerialsCount 
       by w = each (since_over start rest m before starts (subst SerialsCount (sym is) serials) place serial w)
 
   ended_same : (done : Bool) → (over (target_at start (said (end_note done) ∷ before))).agents ≡ (over (target_at start before)).agents
-  ended_same true = settled_same (target_at start before)
-  ended_same false = stopped_same (target_at start before)
+  ended_same true = settled_ends (target_at start before)
+  ended_same false = stopped_ends (target_at start before)
 
   pub since_turn : Shape before now → Awaits (agent now) serial → Since
   since_turn (as_before e) waits = inl (subst (λ ms. Awaits (agent ms) serial) e waits)

@@ -18,10 +18,9 @@ use Rattle.sbp_journal.specs.Transactions.{Sending}
 use Rattle.sbp_journal.specs.Wire.{terms}
 use Rattle.sbp_journal.specs.declared.note.Note.{Note}
 use Rattle.sbp_journal.specs.declared.note.Note.TheVariants as notes
-use Rattle.sbp_laws.specs.Agents.{initiator_at}
 use Rattle.sbp_laws.specs.CarriedBytes.{IsRead, WasRead, address_of, before_sent, bytes_in, open_list, orb_read, payload_at, was_got}
 use Rattle.sbp_laws.specs.Packets.{access_at, access_in, answer_in, packet_at, packet_in, receiver_in, sender_in}
-use Rattle.sbp_laws.specs.Targets.{is_serial, over, target_at}
+use Rattle.sbp_laws.specs.Targets.{initiator_at, is_serial, over, target_at}
 use Rattle.sbp_laws.specs.Terms.{appends}
 use Rattle.bus_memory.specs.declared.window.Window.TheVariants as windows
 use Rattle.bus_memory.specs.Windows.{start as start_of}

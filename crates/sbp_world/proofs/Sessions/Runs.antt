@@ -31,10 +31,9 @@ use Rattle.sbp_journal.specs.Run.{Moment, asked, said}
 use Rattle.sbp_journal.specs.Wire.{Terms, terms}
 use Rattle.sbp_journal.specs.declared.event.Event.{Event}
 use Rattle.sbp_journal.specs.declared.event.Event.TheVariants as events
-use Rattle.sbp_laws.specs.Agents.{initiator_at as initiator_in}
 use Rattle.sbp_laws.specs.Hosts.{host_at}
 use Rattle.sbp_laws.specs.Lists.{present_list}
-use Rattle.sbp_laws.specs.Targets.{agent_at, over, target_at}
+use Rattle.sbp_laws.specs.Targets.{agent_at, initiator_at as initiator_in, over, target_at}
 use Rattle.sbp_session.specs.declared.seat.Seat.{Seat}
 use Rattle.sbp_session.specs.declared.seat.Seat.TheVariants as seats
 use Rattle.sbp_target.specs.Nodes.{desk_at, login_at}

@@ -13,9 +13,9 @@ use Rattle.sbp_journal.specs.Addresses.{Access}
 use Rattle.sbp_journal.specs.Run.{Moment, asked, said}
 use Rattle.sbp_journal.specs.Wire.{Terms, terms}
 use Rattle.sbp_journal.specs.declared.event.Event.{Event}
-use Rattle.sbp_laws.specs.Agents.{fifo_in, initiator_at}
+use Rattle.sbp_laws.specs.Agents.{fifo_in}
 use Rattle.sbp_laws.specs.Packets.{access_at, is_under_way, receiver_in, sender_in}
-use Rattle.sbp_laws.specs.Targets.{Agent, agent_at, for_agent, login_at, over, purpose_of, target_at}
+use Rattle.sbp_laws.specs.Targets.{Agent, agent_at, for_agent, initiator_at, login_at, over, purpose_of, target_at}
 use Rattle.sbp_world.specs.Histories.{history_of}
 use Rattle.sbp_world.specs.Runs.{AreEntries, Run, after, beginning}
 use Rattle.sbp_world.specs.Settling.{MayAll, after_all}

@@ -1,5 +1,6 @@
 -- What the target hands out behind the first note of a turn changes the agents of the terms as what it tells and its packets do (NCITS 325-1998,
--- command block agents). A reply that waits takes its agent on before, with what the first of these notes tells of a run.
+-- command block agents). A reply that waits takes its agent on before, with what the first of these notes tells of a run, which is of the initiator of
+-- the login in that place.
 use Rattle.std.specs.Prelude.{◌≡◌, ◌<◌, ◌&&◌, ℕ, Bool, is_none, List, [], ◌∷◌, ◌++◌, length, map, Option, Some, None}
 use Rattle.async_packet.specs.Labels.{LabelParts}
 use Rattle.label_table.specs.Requests.{is_write}
@@ -11,12 +12,14 @@ use Rattle.sbp_bus.specs.Words.{check_of}
 use Rattle.sbp_journal.specs.Outgoings.{OutboxState}
 use Rattle.sbp_journal.specs.Run.{Moment, said}
 use Rattle.sbp_journal.specs.Transactions.{Kind, part_of, request, response}
+use Rattle.sbp_journal.specs.Wire.{Terms, terms}
 use Rattle.sbp_journal.specs.declared.outbox.Outgoing.{Outgoing}
 use Rattle.sbp_journal.specs.declared.side.Side.{Side}
 use Rattle.sbp_journal.specs.declared.side.Side.TheVariants as sides
 use Rattle.sbp_laws.specs.Packets.{access_in_bytes}
-use Rattle.sbp_laws.specs.Targets.{Agent, Reply, Target, is_write_access, over, plain_for, target_at, told_of}
+use Rattle.sbp_laws.specs.Targets.{Agent, Reply, Target, initiator_at, is_write_access, over, plain_for, target_at, told_of}
 use Rattle.sbp_world.specs.Handing.{handed_out}
+use Rattle.sbp_world.specs.Telling.{holder}
 use Rattle.sbp_world.specs.Worlds.{WorldState}
 use Rattle.sbp_world.specs.Agents.Management.Offices.{office_of}
 use Rattle.sbp_world.specs.Agents.Calls.{changed}
@@ -75,10 +78,16 @@ resumed None told t = t.agents
 resumed (Some reply) told t =
     let plain = plain_for t reply in changed reply.place (λ a. answered (run_told told plain) (run_untold told plain a.untold) reply.place plain reply.which reply.answer a) t.agents
 
-abbrev pub MayResume : Option Reply → List Side → List Agent → Type 0
-MayResume None told agents = Unit {0}
-MayResume (Some reply) told agents = (length agents ≡ 8) × (reply.place < 8) × IsOfStep told
+-- a run that is told first is of this initiator, which has the place where it ran
+abbrev pub IsRunOf : List Side → WorldState → (initiator : ℕ) → Type 0
+IsRunOf (sides.Ran place orb cdb payload outcome ∷ later) w initiator = (holder w place).initiator ≡ initiator
+IsRunOf told w initiator = Unit {0}
+
+abbrev pub MayResume : Option Reply → List Side → WorldState → Terms → Target → Type 0
+MayResume None told w wire t = Unit {0}
+MayResume (Some reply) told w wire t =
+    (length t.agents ≡ 8) × (reply.place < 8) × (IsOfStep told × IsRunOf told w (initiator_at t wire reply.place))
 
 abbrev pub HandsLaw : Type 0
 HandsLaw =
-    (start : List Disk) (past : List Moment) (weight : ℕ) (outbox : OutboxState) (w : WorldState) → (let t = target_at start (map said w.fresh ++ past) in AreTold outbox.sides → AllLeave w.generations outbox.packets → MayResume t.reply outbox.sides t.agents → (over (target_at start (map said (handed_out 0 weight outbox w).fresh ++ past))).agents ≡ crew_over (crew_packets w.store.last outbox.packets (crew_sides outbox.sides (office_of t) (resumed t.reply outbox.sides t))))
+    (start : List Disk) (past : List Moment) (weight : ℕ) (outbox : OutboxState) (w : WorldState) → (let ms = map said w.fresh ++ past in let t = target_at start ms in AreTold outbox.sides → AllLeave w.generations outbox.packets → MayResume t.reply outbox.sides w (terms ms) t → (over (target_at start (map said (handed_out 0 weight outbox w).fresh ++ past))).agents ≡ crew_over (crew_packets w.store.last outbox.packets (crew_sides outbox.sides (office_of t) (resumed t.reply outbox.sides t))))

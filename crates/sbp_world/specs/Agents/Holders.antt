@@ -15,9 +15,8 @@ use Rattle.sbp_bus.specs.Places.{place_in}
 use Rattle.sbp_journal.specs.Run.{Moment, asked, said}
 use Rattle.sbp_journal.specs.Wire.{Terms, terms}
 use Rattle.sbp_journal.specs.declared.event.Event.{Event}
-use Rattle.sbp_laws.specs.Agents.{initiator_at}
 use Rattle.sbp_laws.specs.Packets.{id_for}
-use Rattle.sbp_laws.specs.Targets.{Target, place_on, target_at}
+use Rattle.sbp_laws.specs.Targets.{Target, initiator_at, place_on, target_at}
 use Rattle.sbp_target.specs.Nodes.{login_at}
 use Rattle.sbp_world.specs.Histories.{history_of}
 use Rattle.sbp_world.specs.Runs.{AreEntries, Run, after, beginning}

@@ -11,9 +11,9 @@ use Rattle.sbp_journal.specs.Run.{Moment, said}
 use Rattle.sbp_journal.specs.Transactions.{Sending}
 use Rattle.sbp_journal.specs.Wire.{terms}
 use Rattle.sbp_journal.specs.declared.note.Note.TheVariants as notes
-use Rattle.sbp_laws.specs.Agents.{fifo_in, initiator_at}
+use Rattle.sbp_laws.specs.Agents.{fifo_in}
 use Rattle.sbp_laws.specs.Packets.{answer_in, answered_at, packet_at, receiver_in}
-use Rattle.sbp_laws.specs.Targets.{agent_at, is_serial, login_at, over, target_at}
+use Rattle.sbp_laws.specs.Targets.{agent_at, initiator_at, is_serial, login_at, over, target_at}
 use Rattle.sbp_world.specs.Agents.AskedRuns.{AreAskedAt, HasAsked, serial_of}
 use Rattle.sbp_world.specs.Lists.SentReads.{AreSentBehind}
 

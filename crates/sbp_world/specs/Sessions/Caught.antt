@@ -13,8 +13,7 @@ use Rattle.rbc_disk.specs.Runs.{Told}
 use Rattle.sbp_journal.specs.Run.{Moment, asked, said}
 use Rattle.sbp_journal.specs.Wire.{Terms, terms}
 use Rattle.sbp_journal.specs.declared.event.Event.{Event}
-use Rattle.sbp_laws.specs.Agents.{initiator_at}
-use Rattle.sbp_laws.specs.Targets.{agent_at, over, target_at}
+use Rattle.sbp_laws.specs.Targets.{agent_at, initiator_at, over, target_at}
 use Rattle.sbp_target.specs.Nodes.{login_at}
 use Rattle.sbp_world.specs.Histories.{history_of}
 use Rattle.sbp_world.specs.Runs.{AreEntries, Run, after, beginning}

@@ -20,7 +20,8 @@ use Rattle.sbp_journal.specs.declared.note.Note.{Note}
 use Rattle.sbp_journal.specs.declared.note.Note.TheVariants as notes
 use Rattle.sbp_journal.specs.declared.operation.FunctionWord.{FunctionWord}
 use Rattle.sbp_journal.specs.declared.operation.FunctionWord.TheVariants as functions
-use Rattle.sbp_laws.specs.Targets.{Agent, Decided, Reply, Target, agent_at, agent_over, cut_agent, cut_where, effect_on, entered_by, enters_in, going_on, is_nothing, main_lost, managed_by, new_agent, on_unit, over, taken_on, target_by, told_in, wants, wants_it, with_untold}
+use Rattle.sbp_laws.specs.Targets.{Agent, Decided, Target, agent_at, agent_over, cut_agent, cut_where, effect_on, entered_by, enters_in, going_on, is_nothing, is_own_run, main_lost, managed_by, new_agent, on_unit, over, ran_on, taken_on, target_by, wants, wants_it}
+use Rattle.sbp_laws.proofs.Going.{going_still, run_still, taken_rests}
 use Rattle.sbp_world.specs.Agents.Management.Offices.{office_of, stepped}
 use Rattle.sbp_world.proofs.Agents.Management.Offices.{IsBehind}
 
@@ -49,12 +50,8 @@ over_all : (agents : List Agent) → AllAskNone (map agent_over agents)
 over_all [] = tt
 over_all (a ∷ agents) = (over_one a, over_all agents)
 
-no_reply : (reply : Option Reply) (t : Target) → t.reply ≡ reply → (taken_on None reply t).reply ≡ None
-no_reply None t e = e
-no_reply (Some reply) t e = refl
-
 pub over_idle : (t : Target) → IsIdle (over t)
-over_idle t = record { agents = over_all (taken_on None t.reply t).agents; reply = no_reply t.reply t refl }
+over_idle t = record { agents = over_all (taken_on None t.reply t).agents; reply = taken_rests None t.reply t refl }
 
 -- ---- the effect of a decision
 
@@ -112,7 +109,7 @@ managed_office (step, (machine, table)) answer t = effect_office step.effect _
 -- ---- the notes behind the first
 
 going_idle : (note : Note) (t : Target) → IsIdle t → IsIdle (going_on note t)
-going_idle note t h = subst IsIdle (sym (ap (λ r. taken_on (told_in r note t) r (with_untold note r t)) h.reply)) h
+going_idle note t h = subst IsIdle (sym (going_still note t h.reply)) h
 
 main_by : (ask : Ask) (a : Agent) (lost : Agent) → ask ≡ Nothing → cond (is_nothing ask) a lost ≡ a
 main_by Nothing a lost e = refl
@@ -167,8 +164,9 @@ note_idle (notes.Ignored serial cause) past wire t b h = absurd b
 note_idle (notes.Lost serial) past wire t b h = going_idle _ t h
 note_idle (notes.TimedOut serial) past wire t b h = absurd b
 note_idle (notes.Ran i n k unit cdb bytes check) past wire t b h =
-    let u = going_on (notes.Ran i n k unit cdb bytes check) t in
-    same_parts u (target_by (notes.Ran i n k unit cdb bytes check) past wire t) refl refl (going_idle (notes.Ran i n k unit cdb bytes check) t h)
+    let own = is_own_run t.reply i wire t in
+    let note = notes.Ran i n k unit cdb bytes check in
+    same_parts (ran_on own note t) (target_by note past wire t) refl refl (subst IsIdle (sym (run_still own note t h.reply)) h)
 note_idle (notes.Ended i n k status) past wire t b h = going_idle _ t h
 note_idle (notes.Taken i n k status answer) past wire t b h = going_idle _ t h
 note_idle (notes.Cut i n cause) past wire t b h = going_idle _ t h

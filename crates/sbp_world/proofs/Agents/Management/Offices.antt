@@ -1,5 +1,5 @@
 -- What each note makes of the terms of the management: notes on agents, runs and units leave it.
-use Rattle.std.proofs.Common.{◌≡◌, ◌∙◌, refl, ap, ℕ, List, Option, Some, None}
+use Rattle.std.proofs.Common.{◌≡◌, refl, ap, ℕ, List, Option, Some, None}
 use Rattle.std.specs.Prelude.{is_none, position}
 use Rattle.orb_layout.specs.declared.ask.FailCause.{FailCause}
 use Rattle.orb_layout.specs.declared.ask.FailCause.TheVariants as causes
@@ -10,21 +10,17 @@ use Rattle.sbp_journal.specs.declared.note.Note.{Note}
 use Rattle.sbp_journal.specs.declared.note.Note.TheVariants as notes
 use Rattle.sbp_journal.specs.declared.operation.FunctionWord.{FunctionWord}
 use Rattle.sbp_journal.specs.declared.operation.FunctionWord.TheVariants as functions
-use Rattle.sbp_laws.specs.Targets.{Decided, Reply, Target, enters_in, entered_by, going_on, over, taken_on, target_by, told_in, with_untold}
+use Rattle.sbp_laws.specs.Targets.{Decided, Reply, Target, enters_in, entered_by, going_on, over, taken_on, target_by, is_own_run}
+use Rattle.sbp_laws.proofs.Going.{going_alone, run_alone, taken_alone}
 use Rattle.sbp_world.specs.Agents.Management.Offices.{at_rest, by_managed, by_note, office_of, placed, placed_by}
 
 -- ---- what agents do leaves it
 
 pub taken_keeps : (told : Option Told) (reply : Option Reply) (t : Target) → office_of (taken_on told reply t) ≡ office_of t
-taken_keeps told None t = refl
-taken_keeps told (Some reply) t = refl
-
-untold_keeps : (note : Note) (reply : Option Reply) (t : Target) → office_of (with_untold note reply t) ≡ office_of t
-untold_keeps note None t = refl
-untold_keeps note (Some reply) t = refl
+taken_keeps told reply t = ap office_of (taken_alone told reply t)
 
 pub going_keeps : (note : Note) (t : Target) → office_of (going_on note t) ≡ office_of t
-going_keeps note t = taken_keeps (told_in t.reply note t) t.reply (with_untold note t.reply t) ∙ untold_keeps note t.reply t
+going_keeps note t = ap office_of (going_alone note t)
 
 pub over_keeps : (t : Target) → office_of (over t) ≡ at_rest (office_of t)
 over_keeps t = ap at_rest (taken_keeps None t.reply t)
@@ -80,7 +76,8 @@ note_changes (notes.Got serial) past wire t h = absurd h
 note_changes (notes.Ignored serial cause) past wire t h = absurd h
 note_changes (notes.Lost serial) past wire t h = going_keeps _ t
 note_changes (notes.TimedOut serial) past wire t h = absurd h
-note_changes (notes.Ran i n k unit cdb bytes check) past wire t h = going_keeps (notes.Ran i n k unit cdb bytes check) t
+note_changes (notes.Ran i n k unit cdb bytes check) past wire t h =
+    ap office_of (run_alone (is_own_run t.reply i wire t) (notes.Ran i n k unit cdb bytes check) t)
 note_changes (notes.Ended i n k status) past wire t h = going_keeps _ t
 note_changes (notes.Taken i n k status answer) past wire t h = going_keeps _ t
 note_changes (notes.Cut i n cause) past wire t h = going_keeps _ t
