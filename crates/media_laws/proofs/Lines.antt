@@ -25,7 +25,7 @@ use Rattle.sbp_target.specs.Nodes as target
 use Rattle.sbp_target.specs.Receiving.{expired, with_key}
 use Rattle.sbp_world.specs.declared.parts.delivering.Arrival.{Arrival}
 use Rattle.sbp_bus.specs.declared.requests.Request.{Request}
-use Rattle.sbp_bus.specs.Packets.{judged_note, no_node, no_packet, end_note}
+use Rattle.sbp_bus.specs.Packets.{judged_note, no_packet, end_note}
 use Rattle.sbp_world.specs.Delivering.{arrived, at_initiator, at_none, at_target, delivered, delivered_by, initiator_received, initiators_received, listed, marked, received_at, received_by, received_step, target_received}
 use Rattle.sbp_bus.specs.Generations.{id_of}
 use Rattle.sbp_world.specs.Handing.{handed_out}
