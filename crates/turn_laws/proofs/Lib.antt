@@ -23,6 +23,8 @@ pub mod ManagedSides
 pub mod DecisionNotes
 pub mod FirstRows
 pub mod LoginRuns
+pub mod PushSides
+pub mod Announcing
 pub mod EveryPlace
 pub mod SentPackets
 pub mod FoundRows

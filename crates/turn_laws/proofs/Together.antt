@@ -1,5 +1,6 @@
 -- The laws of turns of every run, together.
 use Rattle.turn_laws.specs.Together.{TurnsLaw}
+use Rattle.turn_laws.proofs.Announcing.{announced_law}
 use Rattle.turn_laws.proofs.Cleared.{cleared_law}
 use Rattle.turn_laws.proofs.Cuts.{cuts_law}
 use Rattle.turn_laws.proofs.Judgements.{judgement_run_law}
@@ -16,6 +17,7 @@ turns_law = record {
     cuts = cuts_law.after_lines line run is some most size;
     cleared = cleared_law.after_lines line run is some most size;
     packets = packets_run_law.after_lines line run is some most size;
+    announced = announced_law.after_lines line run is some most size;
   };
   between = λ line run is some most size next deliveries told may. record {
     judgement = judgement_run_law.between line run is some most size next deliveries told may;
@@ -24,5 +26,6 @@ turns_law = record {
     cuts = cuts_law.between line run is some most size next deliveries told may;
     cleared = cleared_law.between line run is some most size next deliveries told may;
     packets = packets_run_law.between line run is some most size next deliveries told may;
+    announced = announced_law.between line run is some most size next deliveries told may;
   };
 }

@@ -1,6 +1,7 @@
 pub mod Runs
 pub mod Cleared
 pub mod Cuts
+pub mod Announced
 pub mod Ordered
 pub mod Logins
 pub mod Decisions

@@ -1,4 +1,4 @@
--- What is proved of the turns of every run, together: the judgement law, the login law, and of the action, cause and sent laws what stands in each turn.
+-- What is proved of the turns of every run, together: the judgement law, the login law, and of the action, cause, media and sent laws what stands in each turn.
 use Rattle.std.specs.Prelude.{List}
 use Rattle.rbc_disk.specs.Disk.{Disk}
 use Rattle.sbp_journal.specs.Run.{Moment}
@@ -7,6 +7,7 @@ use Rattle.sbp_laws.specs.JudgementLaw.{JudgementLaw}
 use Rattle.sbp_laws.specs.LoginLaw.{LoginLaw}
 use Rattle.sbp_laws.specs.SentPackets.{SentAt}
 use Rattle.sbp_laws.specs.Turns.{EachMoment, EachTurn}
+use Rattle.turn_laws.specs.Announced.{AnnouncesWhereDue}
 use Rattle.turn_laws.specs.Cleared.{ClearsWhereDue}
 use Rattle.turn_laws.specs.Cuts.{CutsWhereDue}
 use Rattle.turn_laws.specs.Runs.{OfEveryRun}
@@ -18,6 +19,7 @@ pub record LawfulInTurns (start : List Disk) (past : List Moment) : Type 0 where
   pub cuts : EachTurn (CutsWhereDue start) past
   pub cleared : EachTurn (ClearsWhereDue start) past
   pub packets : EachMoment SentAt past
+  pub announced : EachTurn (AnnouncesWhereDue start) past
 
 abbrev pub TurnsLaw : Type 0
 TurnsLaw = OfEveryRun LawfulInTurns

@@ -1,4 +1,5 @@
 //! The laws of turns, each of every run of the machine of up to four initiators with one to four units.
+ghost use Rattle.turn_laws.specs.Announced.{AnnouncedLaw};
 ghost use Rattle.turn_laws.specs.Cleared.{ClearedLaw};
 ghost use Rattle.turn_laws.specs.Cuts.{CutsLaw};
 ghost use Rattle.turn_laws.specs.Judgement.{JudgementRunLaw};
@@ -54,4 +55,12 @@ pub fn packets_are_lawful()
 #[tactic(auto, using(crate::proofs::Judgements::judgement_run_law))]
 pub fn judgements_are_lawful()
     ensures { JudgementRunLaw }
+{}
+
+/// In the delivery in which a command loads a disc into the empty tray of a unit each other live login of that
+/// unit whose register is enabled has one note, `unsolicited` or `unsent`, by rising place, and no other turn has
+/// such a note, whatever anybody injected: whom the media law has told.
+#[tactic(auto, using(crate::proofs::Announcing::announced_law))]
+pub fn discs_are_announced_where_due()
+    ensures { AnnouncedLaw }
 {}
