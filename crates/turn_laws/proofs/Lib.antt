@@ -11,6 +11,9 @@ pub mod Decisions
 pub mod Cleared
 pub mod CutNotes
 pub mod Cuts
+pub mod FaultSteps
+pub mod FaultSides
+pub mod Faults
 pub mod OrderRanks
 pub mod OrderHanded
 pub mod OrderOwn

@@ -2,6 +2,7 @@ pub mod Runs
 pub mod Cleared
 pub mod Cuts
 pub mod Announced
+pub mod Faults
 pub mod Ordered
 pub mod Logins
 pub mod Decisions

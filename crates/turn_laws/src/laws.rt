@@ -2,6 +2,7 @@
 ghost use Rattle.turn_laws.specs.Announced.{AnnouncedLaw};
 ghost use Rattle.turn_laws.specs.Cleared.{ClearedLaw};
 ghost use Rattle.turn_laws.specs.Cuts.{CutsLaw};
+ghost use Rattle.turn_laws.specs.Faults.{FaultsLaw};
 ghost use Rattle.turn_laws.specs.Judgement.{JudgementRunLaw};
 ghost use Rattle.turn_laws.specs.Login.{LoginRunLaw};
 ghost use Rattle.turn_laws.specs.Ordered.{OrderedLaw};
@@ -30,6 +31,13 @@ pub fn turns_are_in_order()
 #[tactic(auto, using(crate::proofs::Cuts::cuts_law))]
 pub fn lists_are_cut_where_due()
     ensures { CutsLaw }
+{}
+
+/// In each turn of every run, whatever anybody injected, an ORB ends as failed or illegal only directly
+/// behind the `dead` of its initiator: `faults` of the cause law.
+#[tactic(auto, using(crate::proofs::Faults::faults_law))]
+pub fn faults_follow_deaths()
+    ensures { FaultsLaw }
 {}
 
 /// The login law holds of every run, whatever anybody injected: in each turn the decisions stand that are
