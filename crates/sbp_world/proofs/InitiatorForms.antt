@@ -353,19 +353,19 @@ sees generation id target o s h = sees_as (seeing_step s.layer generation id) ta
 
 -- ---- actions
 
-in_has_byte : (b : Bool) (len : ℕ) → nat_eq len 0 ≡ b → IsBuffer (cond b Nothing (In len))
+pub in_has_byte : (b : Bool) (len : ℕ) → nat_eq len 0 ≡ b → IsBuffer (cond b Nothing (In len))
 in_has_byte true len e = tt
 in_has_byte false len e = grind arith
 
-out_has_byte : (bytes : List ℕ) → IsBuffer (out_buffer bytes)
+pub out_has_byte : (bytes : List ℕ) → IsBuffer (out_buffer bytes)
 out_has_byte [] = tt
 out_has_byte (byte ∷ bytes) = omega arith
 
-pick_buffer : (b : Bool) (x y : NoteBuffer) → IsBuffer x → IsBuffer y → IsBuffer (cond b x y)
+pub pick_buffer : (b : Bool) (x y : NoteBuffer) → IsBuffer x → IsBuffer y → IsBuffer (cond b x y)
 pick_buffer true x y h i = h
 pick_buffer false x y h i = i
 
-buffer_has_byte : (cmd : Cmd) → IsBuffer (buffer_of cmd)
+pub buffer_has_byte : (cmd : Cmd) → IsBuffer (buffer_of cmd)
 buffer_has_byte cmd =
     pick_buffer cmd.to_initiator (in_buffer cmd.length) (out_buffer (take cmd.length cmd.payload)) (in_has_byte (nat_eq cmd.length 0) cmd.length refl) (out_has_byte (take cmd.length cmd.payload))
 

@@ -298,7 +298,7 @@ advances_with : (place : ℕ) (login : Login) (r : AgentStep × Stage) (w : Whol
 advances_with place login (step, st) w f h =
     follows_all (came (disk_at w.disks login.unit) (disk_at st.disks login.unit)) place login step (scene st.node w.outbox) f h
 
-reply_is_fit : (told : Option Told) (place unit : ℕ) (which : Which) (answer : Answer) (s : Stage) (before now : List ℕ) → Tells told place unit which answer s before now → IsFit (agent_step told place unit which answer s).0
+pub reply_is_fit : (told : Option Told) (place unit : ℕ) (which : Which) (answer : Answer) (s : Stage) (before now : List ℕ) → Tells told place unit which answer s before now → IsFit (agent_step told place unit which answer s).0
 reply_is_fit told place unit which answer s before now t = reply_fits (desk_at s.node place).agent place (plain_at s unit) told which answer t.may
 
 advances : (told : Option Told) (place : ℕ) (login : Login) (which : Which) (answer : Answer) (w : Whole) → IsFit (agent_step told place login.unit which answer (stage w.node w.disks)).0 → In (scene_of w) → In (scene_of (advance told place login which answer w))

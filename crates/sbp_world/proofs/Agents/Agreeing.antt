@@ -5,6 +5,7 @@ use Rattle.std.proofs.Math.ListN.{get_or-map}
 use Rattle.std.proofs.lemmas.Bool.Decides.{nat_tests}
 use Rattle.std.proofs.lemmas.Grind.{common_steps}
 use Rattle.std.proofs.lemmas.List.{length-set, set_past}
+use Rattle.std.proofs.lemmas.Bool.{false≢true}
 use Rattle.async_packet.specs.Labels.{LabelParts}
 use Rattle.async_packet.specs.Packet.{Packet, header_in, lock, lock_response, read_block, read_block_response, read_quadlet, read_quadlet_response, write_block, write_quadlet, write_response}
 use Rattle.async_packet.specs.Reading.{reading}
@@ -95,9 +96,8 @@ use Rattle.sbp_world.proofs.Agents.Seats.{Seats, marked_same}
 use Rattle.sbp_world.proofs.Agents.Serves.{start_keeps}
 use Rattle.sbp_world.proofs.Agents.Sparing.{Spares, reply_spares}
 use Rattle.sbp_world.proofs.Agents.Using.{faces_itself, sides_face, sides_off}
-
-no : false ≡ true → ⊥
-no e = cc
+use Rattle.sbp_world.proofs.Lists.TakenTerms.{response_access}
+use Rattle.sbp_world.proofs.Agents.CrewSights.{flag_by}
 
 -- the ID of a node, where the generation of the target and its IDs are the same
 same_ids : (t u : Terms) → u.generation 0 ≡ t.generation 0 → ((n : ℕ) → u.ids (t.generation 0) n ≡ t.ids (t.generation 0) n) → (n : ℕ) → id_for u 0 n ≡ id_for t 0 n
@@ -111,24 +111,13 @@ record HasAccess (p : Packet) : Type 0 where
 asks_access : (p : Packet) → not (is_some (reply_kind p)) ≡ true → HasAccess p
 asks_access (write_quadlet header offset value) e = record { access = record { is_lock = false; is_write = true; is_block = false; offset = offset; count = 4; payload = [] }; is = refl }
 asks_access (write_block header offset payload) e = record { access = record { is_lock = false; is_write = true; is_block = true; offset = offset; count = length payload; payload = payload }; is = refl }
-asks_access (write_response header rcode) e = absurd (no e)
+asks_access (write_response header rcode) e = absurd (false≢true e)
 asks_access (read_quadlet header offset) e = record { access = record { is_lock = false; is_write = false; is_block = false; offset = offset; count = 4; payload = [] }; is = refl }
 asks_access (read_block header offset asked) e = record { access = record { is_lock = false; is_write = false; is_block = true; offset = offset; count = asked; payload = [] }; is = refl }
-asks_access (read_quadlet_response header rcode value) e = absurd (no e)
-asks_access (read_block_response header rcode payload) e = absurd (no e)
+asks_access (read_quadlet_response header rcode value) e = absurd (false≢true e)
+asks_access (read_block_response header rcode payload) e = absurd (false≢true e)
 asks_access (lock header offset extended payload) e = record { access = record { is_lock = true; is_write = false; is_block = true; offset = offset; count = length payload; payload = [] }; is = refl }
-asks_access (lock_response header rcode extended payload) e = absurd (no e)
-
-none_asked : (p : Packet) → is_some (reply_kind p) ≡ true → access_of p ≡ None
-none_asked (write_quadlet header offset value) e = absurd (no e)
-none_asked (write_block header offset payload) e = absurd (no e)
-none_asked (write_response header rcode) e = refl
-none_asked (read_quadlet header offset) e = absurd (no e)
-none_asked (read_block header offset asked) e = absurd (no e)
-none_asked (read_quadlet_response header rcode value) e = refl
-none_asked (read_block_response header rcode payload) e = refl
-none_asked (lock header offset extended payload) e = absurd (no e)
-none_asked (lock_response header rcode extended payload) e = refl
+asks_access (lock_response header rcode extended payload) e = absurd (false≢true e)
 
 record Part (bytes : List ℕ) : Type 0 where
   label : ℕ
@@ -140,7 +129,7 @@ asks_part bytes p read e = by (part_case p)
   where
     by : PartOf p → Part bytes
     by (asks l k part none) = record { label = l; kind = k; is = part_read bytes p read ∙ part }
-    by (replies l k part some) = absurd (no (sym (ap (λ (o : Option ReplyKind). not (is_some o)) some) ∙ e))
+    by (replies l k part some) = absurd (false≢true (sym (ap (λ (o : Option ReplyKind). not (is_some o)) some) ∙ e))
 
 -- ---- one register is enabled in a list of eight
 on_at : (xs : List Bool) (place other : ℕ) → length xs ≡ 8 → other < 8 → slice_index_or (slice_set xs place true) other false ≡ cond (nat_eq other place) true (slice_index_or xs other false)
@@ -301,7 +290,7 @@ module _ (units ready : ℕ) (has : 0 < units) (start : List Disk) {past : List 
         response_by : is_some (reply_kind p) ≡ true → (o : Option ℕ) → Keeps (over T) (got_by o t serial (over T))
         response_by some (Some own) = reply_keeps own (laws.answer_in (laws.packet_at t serial)) (over T)
         response_by some None =
-            let none : access_at t serial ≡ None = access_is ∙ none_asked p some in
+            let none : access_at t serial ≡ None = access_is ∙ response_access p some in
             record {
               enabled = ap (λ a. (request_got a (id_for t 0 (unwrap_or (laws.sender_in (t.sent serial)) 0)) (over T)).enabled) none;
               table = ap (λ a. (request_got a (id_for t 0 (unwrap_or (laws.sender_in (t.sent serial)) 0)) (over T)).table) none;
@@ -629,10 +618,6 @@ module _ (units ready : ℕ) (has : 0 < units) (start : List Disk) {past : List 
       by : (b : Bool) → nat_lt l g ≡ b → not (nat_eq g u) ≡ nat_lt l g
       by true f = let z : nat_eq g u ≡ false = grind (arith, nat_tests) in ap not z ∙ sym f
       by false f = let z : nat_eq g u ≡ true = grind (arith, nat_tests) in ap not z ∙ sym f
-
-  flag_by : (b : Bool) (x y : Layer Purpose) → (cond {A = Bool × Layer Purpose} b (true, x) (false, y)).0 ≡ b
-  flag_by true x y = refl
-  flag_by false x y = refl
 
   step_flag : (layer : Layer Purpose) (generation id : ℕ) → (seeing_step layer generation id).0 ≡ nat_lt layer.generation generation
   unfolding seeing_step

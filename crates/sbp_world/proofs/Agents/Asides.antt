@@ -29,14 +29,14 @@ ahead_none Nothing a e = e
 ahead_none (Read offset len) a e = refl
 ahead_none (Write offset len) a e = refl
 
-one_twice : (a : Agent) → agent_over (agent_over a) ≡ agent_over a
+pub one_twice : (a : Agent) → agent_over (agent_over a) ≡ agent_over a
 one_twice a = over_idle (agent_over a) refl (ahead_none (main_lost a).asks_ahead (main_lost a) refl)
 
 crew_twice : (agents : List Agent) → crew_over (crew_over agents) ≡ crew_over agents
 crew_twice [] = refl
 crew_twice (a ∷ agents) = ap (λ x. x ∷ crew_over (crew_over agents)) (one_twice a) ∙ ap (λ xs. agent_over a ∷ xs) (crew_twice agents)
 
-over_none : (t : Target) → (over t).reply ≡ None
+pub over_none : (t : Target) → (over t).reply ≡ None
 over_none t = taken_rests None t.reply t refl
 
 twice : (t : Target) → (over (over t)).agents ≡ (over t).agents

@@ -2,6 +2,7 @@
 use Rattle.std.proofs.Common.{◌≡◌, ◌∙◌, refl, sym, ap, subst, ℕ, ◌<◌, true, false, List, [], length, Option, Some, None, Ok}
 use Rattle.std.specs.Prelude.{slice_set}
 use Rattle.std.proofs.Math.ListN.{length-set}
+use Rattle.std.proofs.lemmas.Bool.{false≢true}
 use Rattle.async_packet.specs.Packet.{Packet, header_in}
 use Rattle.label_table.specs.Bodies.{Body}
 use Rattle.label_table.specs.Layer.{Layer, answering_step}
@@ -46,9 +47,6 @@ use Rattle.sbp_world.proofs.Agents.AskedReplies.{Fine, Off, off_asks}
 use Rattle.sbp_world.proofs.Agents.AskedSteps.{still}
 use Rattle.sbp_world.proofs.Agents.Sized.{still_sized}
 use Rattle.sbp_world.proofs.Agents.Walk.{desk_set}
-
-no : false ≡ true → ⊥
-no e = cc
 
 -- ---- an answer
 pub answered_fine : (p : Packet) (bytes : List ℕ) (rcode : ℕ) (given : List ℕ) (s : Scene) → Fine s → Fine (answered p bytes rcode given s)
@@ -112,7 +110,7 @@ module _ (node : NodeState) (g : Good node) (layer : Layer Purpose) (outbox : Ou
       let here : desk_at s.node q ≡ d = desk_set q node s.node d b g.mid.size desks in
       let now = follow q login r.0 s in
       let f : Followed q login s.node now
-      = followed q b login false r.0 m r.1 s behind under (λ e. absurd (no e))
+      = followed q b login false r.0 m r.1 s behind under (λ e. absurd (false≢true e))
       (record {
         desks = ap (λ ds. length ds) desks ∙ length-set node.desks q d ∙ g.mid.size;
         agent = ap (λ (x : Desk). x.agent) here ∙ agent;

@@ -1,5 +1,6 @@
 -- In a world whose agents of the terms are the target's each waits for what it asked for.
 use Rattle.std.proofs.Common.{arith, ◌≡◌, ◌∙◌, refl, sym, ap, subst, ℕ, ◌+◌, ◌^◌, ◌<◌, is_some, Bool, true, false, List, [], length, Option, Some, None}
+use Rattle.std.proofs.lemmas.Option.{same_Some}
 use Rattle.command_agent.specs.declared.phase.Phase.{Phase}
 use Rattle.command_agent.specs.declared.phase.Phase.TheVariants as phases
 use Rattle.command_agent.specs.declared.phase.ReadAhead.{ReadAhead}
@@ -60,12 +61,6 @@ sent_reset phases.ReadingNext e = refl
 sent_reset phases.Suspended e = refl
 sent_reset phases.WritingLastStatus e = refl
 sent_reset phases.Dead e = refl
-
-same_node : (x y : ℕ) → Some x ≡ Some y → x ≡ y
-same_node x y e = cc
-
-same_access : (x y : Access) → Some x ≡ Some y → x ≡ y
-same_access x y e = cc
 
 -- what is read ahead is read, and goes to no FIFO
 ahead_reads : (a : ReadAhead) (next : OrbPointer) (offset size : ℕ) → ahead_ask a next ≡ Write offset size → length {A = ℕ} [] ≡ size
@@ -152,7 +147,7 @@ module _ (units ready : ℕ) (has : 0 < units) (start : List Disk) {past : List 
       node_is peer sent to peer_is =
           let hold = held.held place served.login served.is in
           let live = hold.live served.live in
-          let login_node : sent.peer ≡ served.login.node = same_node sent.peer served.login.node (sym to ∙ ap node_of served.is) in
+          let login_node : sent.peer ≡ served.login.node = same_Some sent.peer served.login.node (sym to ∙ ap node_of served.is) in
           let one : peer ≡ hold.holder.initiator + 1 = same_id w h.sound.stands peer (hold.holder.initiator + 1) (peer_is ∙ login_node ∙ sym live.of.node_is) in
           let over_table : T.table ≡ before.table = ap (λ (o : Office). o.table) (over_keeps before) in
           let who : initiator ≡ hold.holder.initiator = ap (λ (x : Table). initiator_with t (node_in (place_at x.places place))) over_table ∙ live.terms_are in
@@ -205,7 +200,7 @@ module _ (units ready : ℕ) (has : 0 < units) (start : List Disk) {past : List 
       main_bytes : is_open a ≡ false → (access : Access) → access_at t serial ≡ Some access → access.is_write ≡ true → access.payload ≡ a.machine.outgoing
       main_bytes told access f writes =
           let r = main_asked in
-          let same : access ≡ r.access = same_access access r.access (sym f ∙ r.is) in
+          let same : access ≡ r.access = same_Some access r.access (sym f ∙ r.is) in
           let wrote : r.access.is_write ≡ true = ap (λ (x : Access). x.is_write) (sym same) ∙ writes in
           let by = writes_by (main_under m) (writes_status m.phase) main_served.login.fifo r.access r.asks wrote in
           ap (λ (x : Access). x.payload) same ∙ r.payload wrote ∙ sym (bytes_alike a.untold a.machine m is.machine told by.offset by.size by.is)

@@ -1,6 +1,5 @@
 -- Of two agents that differ in nothing that their phase reads any more one request is under way; its address has 48 bits.
-use Rattle.std.proofs.Common.{◌≡◌, ◌∙◌, refl, sym, ap, ℕ, ◌+◌, ◌-◌, ◌*◌, ◌^◌, ◌<◌, ◌&&◌, nat_lt, min, Bool, true, false, cond, List, [], ◌∷◌, length, Option, Some, arith}
-use Rattle.std.proofs.lemmas.Bool.Decides.{nat_tests}
+use Rattle.std.proofs.Common.{◌≡◌, ◌∙◌, refl, sym, ap, ℕ, ◌-◌, ◌*◌, ◌^◌, ◌<◌, ◌&&◌, nat_lt, Bool, true, false, List, [], ◌∷◌, length, arith}
 use Rattle.std.specs.List.{AllByRecursion}
 use Rattle.orb_layout.specs.declared.ask.Ask.{Ask}
 use Rattle.orb_layout.specs.declared.ask.Ask.TheVariants.{Nothing, Read, Write}
@@ -8,22 +7,22 @@ use Rattle.orb_layout.specs.declared.command.CommandOrb.{CommandOrb}
 use Rattle.orb_layout.specs.declared.pointer.OrbPointer.{OrbPointer}
 use Rattle.orb_layout.specs.declared.pointer.OrbPointer.TheVariants.{At, Null}
 use Rattle.orb_layout.specs.Pointers.{IsPointer}
-use Rattle.page_table.specs.declared.segment.Chunk.{Chunk}
 use Rattle.page_table.specs.declared.segment.Segment.{Segment}
 use Rattle.page_table.specs.Buffer.{chunk, chunk_from}
 use Rattle.command_agent.specs.declared.phase.Phase.{Phase}
 use Rattle.command_agent.specs.declared.phase.Phase.TheVariants as phases
 use Rattle.command_agent.specs.declared.phase.ReadAhead.{ReadAhead}
 use Rattle.command_agent.specs.declared.phase.ReadAhead.TheVariants as aheads
-use Rattle.command_agent.specs.Machine.{Machine, aligned, cut_to, is_ahead, limit_of, state_in}
+use Rattle.command_agent.specs.Machine.{Machine, cut_to, is_ahead, limit_of, state_in}
 use Rattle.command_agent.specs.Steps.{is_reset}
 use Rattle.command_agent.specs.Tasks.{writes_status}
 use Rattle.sbp_laws.specs.Targets.{is_nothing}
 use Rattle.sbp_world.specs.FitTarget.{FitsAgent, FitsSegment}
-use Rattle.sbp_world.proofs.FitTarget.Agents.{FitsAsk}
+use Rattle.sbp_world.proofs.FitTarget.Agents.{FitsAsk, aligned_fits, chunk_by}
 use Rattle.sbp_target.proofs.Histories.Stepped.{Fit, is_bare}
 use Rattle.agent_laws.specs.Along.Requests.{ahead_ask, ahead_under, main_ask, main_under}
 use Rattle.sbp_world.specs.Agents.Alike.{Alike, answers, has_list, moves_data}
+use Rattle.sbp_world.proofs.Lists.Slots.{not_both}
 
 -- ---- while something is read ahead, a list is open
 pub record ReadsOn (p : Phase) : Type 0 where
@@ -96,12 +95,8 @@ module _ (untold : Bool) (a m : Machine) (is : Alike untold a m) where
   no_write (Read at count) n offset size e = absurd (let no : false ≡ true = n in cc)
   no_write (Write at count) n offset size e = absurd (let no : false ≡ true = n in cc)
 
-  told_by : (x : Bool) → (x && true) ≡ false → x ≡ false
-  told_by true e = absurd (let no : true ≡ false = e in cc)
-  told_by false e = refl
-
   bytes_by : (p : Phase) → m.phase ≡ p → (untold && answers p) ≡ false → (offset size : ℕ) → main_ask p m ≡ Write offset size → a.outgoing ≡ m.outgoing
-  bytes_by phases.Answering e t offset size w = is.chunk (ap answers e) (told_by untold t)
+  bytes_by phases.Answering e t offset size w = is.chunk (ap answers e) (not_both untold t)
   bytes_by phases.WritingStatus e t offset size w = is.status (ap writes_status e)
   bytes_by phases.WritingLastStatus e t offset size w = is.status (ap writes_status e)
   bytes_by phases.Fetching e t offset size w = absurd (let no : Read m.present 32 ≡ Write offset size = w in cc)
@@ -116,12 +111,6 @@ module _ (untold : Bool) (a m : Machine) (is : Alike untold a m) where
   bytes_alike t offset size w = bytes_by m.phase refl (ap (λ (p : Phase). untold && answers p) (sym is.phase) ∙ t) offset size w
 
 -- ---- addresses
-chunk_inside : (segment : Segment) (done : ℕ) → FitsSegment segment → nat_lt done segment.length ≡ true → segment.base + done < 2 ^ 48
-chunk_inside segment done h e = grind (arith, nat_tests)
-
-chunk_by : (b : Bool) (segment : Segment) (done limit left : ℕ) (rest : Option Chunk) → nat_lt done segment.length ≡ b → FitsSegment segment → (cut_to left rest).offset < 2 ^ 48 → (cut_to left (cond b (Some (chunk (segment.base + done) (min limit (segment.length - done)))) rest)).offset < 2 ^ 48
-chunk_by true segment done limit left rest e h r = chunk_inside segment done h e
-chunk_by false segment done limit left rest e h r = r
 
 chunk_fits : (segments : List Segment) (done limit left : ℕ) → AllByRecursion FitsSegment segments → (cut_to left (chunk_from segments done limit)).offset < 2 ^ 48
 chunk_fits [] done limit left a = omega arith
@@ -142,9 +131,6 @@ main_at phases.Dead m f = tt
 
 pub main_fits : (m : Machine) → FitsAgent m → FitsAsk (main_under m)
 main_fits m f = main_at m.phase m f
-
-aligned_fits : (offset : ℕ) → offset < 2 ^ 48 → aligned offset < 2 ^ 48
-aligned_fits offset h = omega arith
 
 ahead_at : (a : ReadAhead) (next : OrbPointer) → IsPointer next → FitsAsk (ahead_ask a next)
 ahead_at (aheads.UnderWay rung) (At next) f = aligned_fits next f

@@ -1,5 +1,7 @@
 -- The bytes of a request of an agent spell what it asked for.
 use Rattle.std.proofs.Common.{◌≡◌, ◌∙◌, refl, ap, subst, ℕ, ◌+◌, ◌*◌, ◌/◌, ◌%◌, ◌^◌, ◌<◌, nat_le, Bool, true, false, cond, List, [], ◌∷◌, ◌++◌, length, Option, Some, None, Result, Ok, arith}
+use Rattle.std.proofs.lemmas.Bool.{false≢true}
+use Rattle.std.proofs.lemmas.Option.{same_Some, none-some}
 use Rattle.byteorder.specs.Endian.{big_bytes}
 use Rattle.async_packet.specs.Canon.{IsValid, canon, four, three, with_pad}
 use Rattle.async_packet.specs.Fields.{largest}
@@ -72,32 +74,23 @@ pub record IsAskedFor (ask : Ask) (is_status : Bool) (fifo : ℕ) (outgoing : Li
   pub asks : IsAccessFor ask is_status fifo access
   pub payload : access.is_write ≡ true → access.payload ≡ outgoing
 
-no : false ≡ true → ⊥
-no e = cc
-
-none_body : (body : Body) → None ≡ Some body → ⊥
-none_body body e = cc
-
-same_body : (x y : Body) → Some x ≡ Some y → x ≡ y
-same_body x y e = cc
-
 module _ (number node peer : ℕ) where
   abbrev pub Found : Body → Option Access
   Found body = access_of (relabelled number (plain node peer body))
 
   read_by : (b : Bool) (offset len : ℕ) (is_status : Bool) (fifo : ℕ) (outgoing : List ℕ) (body : Body) → cond b (Some (block_read offset len)) None ≡ Some body → IsAskedFor (Read offset len) is_status fifo outgoing (Found body)
   read_by true offset len is_status fifo outgoing body e =
-      subst (λ (x : Body). IsAskedFor (Read offset len) is_status fifo outgoing (Found x)) (same_body _ body e)
-      (record { access = read_access offset len; is = refl; asks = refl; payload = λ w. absurd (no w) })
-  read_by false offset len is_status fifo outgoing body e = absurd (none_body body e)
+      subst (λ (x : Body). IsAskedFor (Read offset len) is_status fifo outgoing (Found x)) (same_Some _ body e)
+      (record { access = read_access offset len; is = refl; asks = refl; payload = λ w. absurd (false≢true w) })
+  read_by false offset len is_status fifo outgoing body e = absurd (none-some body e)
 
   write_by : (b : Bool) (offset len : ℕ) (is_status : Bool) (fifo : ℕ) (outgoing : List ℕ) (body : Body) → length outgoing ≡ len → cond b (Some (block_write (cond is_status fifo offset) outgoing)) None ≡ Some body → IsAskedFor (Write offset len) is_status fifo outgoing (Found body)
   write_by true offset len is_status fifo outgoing body size e =
-      subst (λ (x : Body). IsAskedFor (Write offset len) is_status fifo outgoing (Found x)) (same_body _ body e)
+      subst (λ (x : Body). IsAskedFor (Write offset len) is_status fifo outgoing (Found x)) (same_Some _ body e)
       (record { access = write_access (cond is_status fifo offset) outgoing; is = refl; asks = (refl, size); payload = λ w. refl })
-  write_by false offset len is_status fifo outgoing body size e = absurd (none_body body e)
+  write_by false offset len is_status fifo outgoing body size e = absurd (none-some body e)
 
   pub is_asked_for : (ask : Ask) (is_status : Bool) (fifo : ℕ) (outgoing : List ℕ) (body : Body) → ((offset size : ℕ) → ask ≡ Write offset size → length outgoing ≡ size) → agent_body ask is_status fifo outgoing ≡ Some body → IsAskedFor ask is_status fifo outgoing (Found body)
   is_asked_for (Read offset len) is_status fifo outgoing body size e = read_by (nat_le len largest) offset len is_status fifo outgoing body e
   is_asked_for (Write offset len) is_status fifo outgoing body size e = write_by (nat_le (length outgoing) largest) offset len is_status fifo outgoing body (size offset len refl) e
-  is_asked_for Nothing is_status fifo outgoing body size e = absurd (none_body body e)
+  is_asked_for Nothing is_status fifo outgoing body size e = absurd (none-some body e)

@@ -1,8 +1,9 @@
 -- Behind a step of an agent what its desk waits for left, as the request that its machine has under way.
-use Rattle.std.proofs.Common.{◌≡◌, ◌∙◌, refl, sym, ap, subst, inl, inr, ℕ, ◌<◌, ◌&&◌, ◌||◌, not, is_some, nat_lt, Bool, true, false, cond, List, [], ◌∷◌, ◌++◌, length, Option, Some, None, Result, Err, arith, ◌≢◌, nat_eq}
+use Rattle.std.proofs.Common.{◌≡◌, ◌∙◌, refl, sym, ap, subst, inl, inr, ℕ, ◌<◌, ◌&&◌, ◌||◌, not, is_some, nat_lt, Bool, true, false, cond, List, [], ◌∷◌, ◌++◌, length, Option, Some, None, Result, Err, arith, ◌≢◌}
 use Rattle.std.specs.Prelude.{slice_index_or, slice_set}
 use Rattle.std.proofs.Math.ListN.{length-set}
-use Rattle.std.proofs.lemmas.Bool.Decides.{nat_tests}
+use Rattle.std.proofs.lemmas.Bool.{false≢true, true≢false}
+use Rattle.std.proofs.lemmas.Option.{same_Some, none-some}
 use Rattle.label_table.proofs.Owned.{set_at}
 use Rattle.sbp_target.specs.Desks.{new_desk}
 use Rattle.label_table.specs.declared.judgement.Asked.{Asked}
@@ -51,18 +52,7 @@ use Rattle.sbp_world.proofs.Agents.AskedSteps.{taken, under_law}
 use Rattle.sbp_world.proofs.Agents.Sized.{nothing_sized, read_sized, still_sized}
 use Rattle.sbp_world.proofs.Agents.Walk.{desk_set}
 use Rattle.sbp_world.proofs.Agents.Writes.{HasBody, has_body, no_body}
-
-no : false ≡ true → ⊥
-no e = cc
-
-no_2 : true ≡ false → ⊥
-no_2 e = cc
-
-none_sent : (sent : Sent) → None ≡ Some sent → ⊥
-none_sent sent e = cc
-
-one_sent : (x y : Sent) → Some x ≡ Some y → x ≡ y
-one_sent x y e = cc
+use Rattle.sbp_world.proofs.Agents.Management.Places.{other_id}
 
 -- ---- what left
 pub left_more : (packets : List Outgoing) (packet : Outgoing) (sent : Sent) (body : Option Body) → Left packets sent body → Left (packets ++ packet ∷ []) sent body
@@ -126,14 +116,6 @@ pub record On (base : NodeState) (q : ℕ) (d : Desk) (node : NodeState) : Type 
   pub desks : length node.desks ≡ 8
   pub is : desk_at node q ≡ d
   pub others : (k : ℕ) → k ≢ q → desk_at node k ≡ desk_at base k
-
--- another desk
-other_id : (k q : ℕ) → k ≢ q → nat_eq k q ≡ false
-other_id k q n = by (nat_eq k q) refl
-  where
-    by : (x : Bool) → nat_eq k q ≡ x → nat_eq k q ≡ false
-    by true e = absurd (n (let same : k ≡ q = grind (arith, nat_tests) in same))
-    by false e = e
 
 pub desk_other : (q k : ℕ) (node later : NodeState) (d : Desk) → q < 8 → length node.desks ≡ 8 → k ≢ q → later.desks ≡ slice_set node.desks q d → desk_at later k ≡ desk_at node k
 desk_other q k node later d b size n e =
@@ -350,7 +332,7 @@ module _ (base : NodeState) (q : ℕ) (b : q < 8) (login : Login) where
 
   -- ---- a read ahead that found no label
   drops_by : (x : Bool) (d : Desk) (s : Scene) → x ≡ true → On base q d s.node → Fit d.agent → is_ahead d.agent.ahead ≡ true → ((sent : Sent) → d.main ≡ Some sent → is_sent d.agent.phase ≡ true → Left s.outbox.packets sent (main_body login.fifo d.agent)) → IsSized d.agent → Ended (lost_by x q login Ahead s).1
-  drops_by false d s e o f u h z = absurd (no e)
+  drops_by false d s e o f u h z = absurd (false≢true e)
   drops_by true d s e o f u h z =
       let m = d.agent in
       let l = lost_step m Ahead causes.Label in
@@ -365,14 +347,14 @@ module _ (base : NodeState) (q : ℕ) (b : q < 8) (login : Login) where
         on = on_agent d l.1 s o;
         asks = record {
           main = λ sent e p. left_as s.outbox.packets sent (main_body login.fifo m) (main_body login.fifo l.1) (sym (still_body login.fifo m l.1 still)) (h sent e (ap is_sent (sym still.phase) ∙ p));
-          ahead = λ sent e p. absurd (no (sym over.idle ∙ p));
+          ahead = λ sent e p. absurd (false≢true (sym over.idle ∙ p));
           sized = still_sized m l.1 still z;
         };
       })
 
   -- ---- a main request that found no label
   falls_by : (x : Bool) (d : Desk) (s : Scene) → x ≡ true → On base q d s.node → d.agent.phase ≡ phases.WritingLastStatus → is_ahead d.agent.ahead ≡ false → Ended (lost_by x q login Main s).1
-  falls_by false d s e o p i = absurd (no e)
+  falls_by false d s e o p i = absurd (false≢true e)
   falls_by true d s e o p i =
       let dead : Machine = record d.agent { phase = phases.Dead } in
       let place = scene (with_agent s.node q dead) s.outbox in
@@ -383,7 +365,7 @@ module _ (base : NodeState) (q : ℕ) (b : q < 8) (login : Login) where
       subst Ended (sym is) (record {
         desk = record d { agent = dead };
         on = on_agent d dead s o;
-        asks = record { main = λ sent e p. absurd (no p); ahead = λ sent e p. absurd (no (sym i ∙ p)); sized = nothing_sized dead refl };
+        asks = record { main = λ sent e p. absurd (false≢true p); ahead = λ sent e p. absurd (false≢true (sym i ∙ p)); sized = nothing_sized dead refl };
       })
 
   -- the status block of an ORB that failed leaves, or is lost too
@@ -396,8 +378,8 @@ module _ (base : NodeState) (q : ℕ) (b : q < 8) (login : Login) where
         desk = record d { main = Some g.sent };
         on = g.on;
         asks = record {
-          main = λ sent e p. subst (λ (x : Sent). Left s.outbox.packets x (main_body login.fifo d.agent)) (one_sent g.sent sent e) (left_as s.outbox.packets g.sent _ _ body_is g.left);
-          ahead = λ sent e p. absurd (no (sym lost.idle ∙ ap (λ (x : Machine). is_ahead x.ahead) (sym a) ∙ p));
+          main = λ sent e p. subst (λ (x : Sent). Left s.outbox.packets x (main_body login.fifo d.agent)) (same_Some g.sent sent e) (left_as s.outbox.packets g.sent _ _ body_is g.left);
+          ahead = λ sent e p. absurd (false≢true (sym lost.idle ∙ ap (λ (x : Machine). is_ahead x.ahead) (sym a) ∙ p));
           sized = subst IsSized (sym a) u.sized;
         };
       }
@@ -416,11 +398,11 @@ module _ (base : NodeState) (q : ℕ) (b : q < 8) (login : Login) where
       subst (λ (r : Bool × Scene). Ended (after_loss q login r)) (sym (main_none l.0 s k)) (record {
         desk = d;
         on = o;
-        asks = record { main = λ sent e p. absurd (no (sym unsent ∙ p)); ahead = λ sent e p. absurd (no (sym idle ∙ p)); sized = subst IsSized (sym a) u.sized };
+        asks = record { main = λ sent e p. absurd (false≢true (sym unsent ∙ p)); ahead = λ sent e p. absurd (false≢true (sym idle ∙ p)); sized = subst IsSized (sym a) u.sized };
       })
 
   main_dies : (x : Bool) (d : Desk) (s : Scene) → x ≡ true → On base q d s.node → Fit d.agent → is_sent d.agent.phase ≡ true → Ended (after_loss q login (lost_by x q login Main s))
-  main_dies false d s e o f k = absurd (no e)
+  main_dies false d s e o f k = absurd (false≢true e)
   main_dies true d s e o f k =
       let m = d.agent in
       let l = lost_step m Main causes.Label in
@@ -459,7 +441,7 @@ module _ (base : NodeState) (q : ℕ) (b : q < 8) (login : Login) where
       asks = record {
         main = λ sent f p. subst (λ (x : Machine). Left s.outbox.packets sent (main_body login.fifo x)) (sym a) (g.more sent (main_body login.fifo m) (h sent f (ap (λ (x : Machine). is_sent x.phase) (sym a) ∙ p)));
         ahead = λ sent f p.
-            subst (λ (x : Sent). Left s.outbox.packets x (ahead_body d.agent)) (one_sent g.sent sent f)
+            subst (λ (x : Sent). Left s.outbox.packets x (ahead_body d.agent)) (same_Some g.sent sent f)
             (left_as s.outbox.packets g.sent _ _ (ahead_asked_body e ∙ ap ahead_body (sym a)) g.left);
         sized = subst IsSized (sym a) under.sized;
       };
@@ -492,7 +474,7 @@ module _ (base : NodeState) (q : ℕ) (b : q < 8) (login : Login) where
     main_then d packets (true, s) a k i g =
         let x = asks_is step.ask ∙ k in
         ahead_ended (is_asked step.ahead) (record d { main = Some g.sent }) s refl a g.on
-        (λ sent f p. subst (λ (y : Sent). Left s.outbox.packets y (main_body login.fifo m)) (one_sent g.sent sent f) (left_as s.outbox.packets g.sent _ _ (asked_body login.fifo step m (under.main x) (under.status x)) g.left))
+        (λ sent f p. subst (λ (y : Sent). Left s.outbox.packets y (main_body login.fifo m)) (same_Some g.sent sent f) (left_as s.outbox.packets g.sent _ _ (asked_body login.fifo step m (under.main x) (under.status x)) g.left))
         (λ e sent f p. g.more sent (ahead_body m) (i e sent f p))
     main_then d packets (false, s) a k i g =
         main_lost d s g.on (subst Fit (sym a) behind.fit) (ap (λ (x : Machine). is_sent x.phase) a ∙ behind.main ∙ ap (λ (x : Bool). x || step.promoted) k)
@@ -508,22 +490,22 @@ module _ (base : NodeState) (q : ℕ) (b : q < 8) (login : Login) where
 
     -- the read ahead that the desk has behind the notes of the step is the one before
     kept_by : (dead : Option FailCause) (turned : Bool) (x : Option Sent) (sent : Sent) → cond turned None (ahead_left dead x) ≡ Some sent → x ≡ Some sent
-    kept_by None true x sent e = absurd (none_sent sent e)
+    kept_by None true x sent e = absurd (none-some sent e)
     kept_by None false x sent e = e
-    kept_by (Some cause) true x sent e = absurd (none_sent sent e)
-    kept_by (Some cause) false x sent e = absurd (none_sent sent e)
+    kept_by (Some cause) true x sent e = absurd (none-some sent e)
+    kept_by (Some cause) false x sent e = absurd (none-some sent e)
 
     turned_by : (dead : Option FailCause) (turned : Bool) (x main : Option Sent) (sent : Sent) → turned ≡ true → cond turned (ahead_left dead x) main ≡ Some sent → x ≡ Some sent
     turned_by None true x main sent t e = e
-    turned_by (Some cause) true x main sent t e = absurd (none_sent sent e)
-    turned_by dead false x main sent t e = absurd (no t)
+    turned_by (Some cause) true x main sent t e = absurd (none-some sent e)
+    turned_by dead false x main sent t e = absurd (false≢true t)
 
     had_by : (x y : Bool) → x ≡ (false || (had && y)) → x ≡ true → had ≡ true
     had_by x y e f = by had (sym f ∙ e)
       where
         by : (h : Bool) → true ≡ (false || (h && y)) → h ≡ true
         by true g = refl
-        by false g = absurd (no_2 g)
+        by false g = absurd (true≢false g)
 
     follow_ended : (d : Desk) (s : Scene) → d.agent ≡ m → On base q d s.node → ((sent : Sent) → d.ahead ≡ Some sent → is_ahead before.ahead ≡ true → Left s.outbox.packets sent (ahead_body before)) → Ended (follow q login step s)
     unfolding follow
@@ -585,7 +567,7 @@ follow_of q b login had step before m s behind under had_is i = (followed q b lo
 
 -- a step that only asks for its main transaction
 pub only : (ahead : Ask) (at count : ℕ) (m : Machine) → is_ahead m.ahead ≡ false → main_under m ≡ Read at count → writes_status m.phase ≡ false → IsUnder ahead (steps.asks (Read at count), m)
-only ahead at count m i e w = record { main = λ f. e; status = λ f. w; turned = λ f. absurd (no f); asked = λ f. absurd (no f); kept = λ f g. absurd (no (sym i ∙ g)); sized = read_sized m at count e }
+only ahead at count m i e w = record { main = λ f. e; status = λ f. w; turned = λ f. absurd (false≢true f); asked = λ f. absurd (false≢true f); kept = λ f g. absurd (false≢true (sym i ∙ g)); sized = read_sized m at count e }
 
 ok_ask : (x y : Ask) → taken x ≡ taken y → x ≡ y
 ok_ask x y e = cc
@@ -597,7 +579,7 @@ module _ (q : ℕ) (b : q < 8) (login : Login) (s : Scene) where
   fetches : (m : Machine) (next : ℕ) (ask : Ask) → taken (fetch_step m next).0.ask ≡ taken ask → IsBehind s.outbox.packets q m (fetch_step m next).1 s.node → Asks q login (follow q login (steps.asks ask) s)
   fetches m next ask e i =
       subst (λ (a : Ask). Asks q login (follow q login (steps.asks a) s)) (ok_ask _ ask e)
-      (follow_of q b login false (fetch_step m next).0 m (fetch_step m next).1 s (behind_fetch m next) (only (ahead_under m) _ _ (fetch_step m next).1 refl refl refl) (λ f. absurd (no f)) i)
+      (follow_of q b login false (fetch_step m next).0 m (fetch_step m next).1 s (behind_fetch m next) (only (ahead_under m) _ _ (fetch_step m next).1 refl refl refl) (λ f. absurd (false≢true f)) i)
 
   points : (state : AgentState) (m : Machine) (pointer : OrbPointer) (ask : Ask) → (point_in state m pointer).0 ≡ taken ask → IsBehind s.outbox.packets q m (point_in state m pointer).1 s.node → Asks q login (follow q login (steps.asks ask) s)
   points states.Reset m Null ask e i = absurd (refused_not _ ask e)
@@ -612,11 +594,11 @@ module _ (q : ℕ) (b : q < 8) (login : Login) (s : Scene) where
   point_asks m pointer ask e i = points (state_in m.phase) m pointer ask e i
 
   rings : (state : AgentState) (m : Machine) → is_ahead m.ahead ≡ false → asks (doorbell_in state m).0 ≡ true → IsBehind s.outbox.packets q m (doorbell_in state m).1 s.node → Asks q login (follow q login (steps.asks (doorbell_in state m).0) s)
-  rings states.Reset m h e i = absurd (no e)
-  rings states.Active m h e i = absurd (no e)
-  rings states.Dead m h e i = absurd (no e)
+  rings states.Reset m h e i = absurd (false≢true e)
+  rings states.Active m h e i = absurd (false≢true e)
+  rings states.Dead m h e i = absurd (false≢true e)
   rings states.Suspended m h e i =
-      follow_of q b login false (reread_step m).0 m (reread_step m).1 s (behind_reread m h) (only (ahead_under m) _ _ (reread_step m).1 h refl refl) (λ f. absurd (no f)) i
+      follow_of q b login false (reread_step m).0 m (reread_step m).1 s (behind_reread m h) (only (ahead_under m) _ _ (reread_step m).1 h refl refl) (λ f. absurd (false≢true f)) i
 
   ring_asks : (m : Machine) → is_ahead m.ahead ≡ false → asks (doorbell_step m).0 ≡ true → IsBehind s.outbox.packets q m (doorbell_step m).1 s.node → Asks q login (follow q login (steps.asks (doorbell_step m).0) s)
   unfolding doorbell_step

@@ -2,6 +2,7 @@
 use Rattle.std.proofs.Common.{arith, ◌≡◌, ◌≢◌, ◌∙◌, refl, sym, ap, subst, ℕ, ◌<◌, ◌&&◌, nat_eq, Bool, true, false, cond, List, Option, Some, None}
 use Rattle.std.proofs.Math.ListN.{length-set}
 use Rattle.std.proofs.lemmas.Bool.Decides.{nat_tests}
+use Rattle.std.proofs.lemmas.Bool.{false≢true}
 use Rattle.async_packet.specs.Labels.{LabelParts}
 use Rattle.label_table.specs.declared.judgement.Asked.{Asked}
 use Rattle.label_table.specs.Bodies.{Body}
@@ -38,9 +39,6 @@ use Rattle.sbp_world.proofs.Agents.AskedFollows.{Followed, bare_of, desk_other, 
 use Rattle.sbp_world.proofs.Agents.AskedSteps.{under_law}
 use Rattle.sbp_world.proofs.Agents.Sized.{nothing_sized, still_sized}
 use Rattle.sbp_world.proofs.Agents.Walk.{desk_set}
-
-no : false ≡ true → ⊥
-no e = cc
 
 pub none_sent : (sent : Sent) → None ≡ Some sent → ⊥
 none_sent sent e = cc

@@ -2,7 +2,7 @@
 use Rattle.std.proofs.Common.{arith, ◌≡◌, ◌∙◌, refl, sym, ap, subst, ℕ, zero, suc, ◌+◌, ◌<◌, ◌≤◌, nat_eq, nat_lt, Bool, true, false, cond, List, length, Option, Some, None}
 use Rattle.std.specs.Prelude.{slice_set}
 use Rattle.std.proofs.Math.ListN.{length-set}
-use Rattle.std.proofs.lemmas.Bool.Decides.{nat_tests}
+use Rattle.std.proofs.lemmas.Bool.{false≢true}
 use Rattle.label_table.specs.Layer.{Layer}
 use Rattle.login_table.specs.declared.login.Login.{Login}
 use Rattle.login_table.specs.Table.{Table, place_at}
@@ -25,10 +25,10 @@ use Rattle.sbp_journal.specs.declared.outbox.Outgoing.{Outgoing}
 use Rattle.sbp_journal.specs.Outgoings.{OutboxState}
 use Rattle.sbp_target.specs.declared.desk.Desk.{Desk}
 use Rattle.sbp_target.specs.declared.purpose.Purpose.{Purpose}
-use Rattle.sbp_target.specs.Agents.{cut, cut_node, told_cut}
+use Rattle.sbp_target.specs.Agents.{cut, cut_node}
 use Rattle.sbp_target.specs.Calls.{after}
 use Rattle.sbp_target.specs.Desks.{reset_desk}
-use Rattle.sbp_target.specs.Management.{cut_place, cut_placed, decided_by, effect_by, failed_by, logged_out, manage, managed_in, managed_with, place_in, tell_left, told_of, with_manager}
+use Rattle.sbp_target.specs.Management.{cut_place, cut_placed, decided_by, effect_by, failed_by, logged_out, manage, managed_in, managed_with, told_of, with_manager}
 use Rattle.sbp_target.specs.Nodes.{NodeState, Scene, desk_at, login_at, scene}
 use Rattle.sbp_target.specs.Units.{clear_from, clear_unit, cut_all, cut_at, cut_from, is_cut}
 use Rattle.sbp_target.proofs.Histories.Calling.{Good, not_eight}
@@ -45,25 +45,13 @@ use Rattle.sbp_world.proofs.Agents.AskedRequests.{manager_fine, same_fine}
 use Rattle.sbp_world.proofs.Agents.AskedSteps.{under_law}
 use Rattle.sbp_world.proofs.Agents.Sized.{idle_sized, still_sized}
 use Rattle.sbp_world.proofs.Agents.Walk.{desk_set}
-
-no : false ≡ true → ⊥
-no e = cc
+use Rattle.sbp_world.proofs.Agents.Managed.{in_place}
+use Rattle.sbp_world.proofs.Lists.BusyCuts.{in_reset}
+use Rattle.sbp_world.proofs.Agents.Management.Managing.{cut_by, left_sends}
 
 -- ---- an agent in RESET waits for nothing
 pub idle_asks : (packets : List Outgoing) (fifo : ℕ) (d : Desk) → is_sent d.agent.phase ≡ false → is_ahead d.agent.ahead ≡ false → AsksReally packets fifo d
-idle_asks packets fifo d s a = record { main = λ sent f p. absurd (no (sym s ∙ p)); ahead = λ sent f p. absurd (no (sym a ∙ p)); sized = idle_sized d.agent s }
-
-reset_phase : (p : Phase) → is_reset (state_in p) ≡ true → p ≡ phases.Reset
-reset_phase phases.Reset e = refl
-reset_phase phases.Suspended e = absurd (no e)
-reset_phase phases.WritingLastStatus e = absurd (no e)
-reset_phase phases.Dead e = absurd (no e)
-reset_phase phases.Fetching e = absurd (no e)
-reset_phase phases.ReadingTable e = absurd (no e)
-reset_phase (phases.ReadingData wanted) e = absurd (no e)
-reset_phase phases.Answering e = absurd (no e)
-reset_phase phases.WritingStatus e = absurd (no e)
-reset_phase phases.ReadingNext e = absurd (no e)
+idle_asks packets fifo d s a = record { main = λ sent f p. absurd (false≢true (sym s ∙ p)); ahead = λ sent f p. absurd (false≢true (sym a ∙ p)); sized = idle_sized d.agent s }
 
 -- ---- the desk of one place is another
 set_fine : (q : ℕ) (d : Desk) (s now : Scene) → q < 8 → now.node.desks ≡ slice_set s.node.desks q d → now.node.logins ≡ s.node.logins → now.outbox.packets ≡ s.outbox.packets → ((login : Login) → login_at s.node q ≡ Some login → AsksReally s.outbox.packets login.fifo d) → Fine s → Fine now
@@ -77,15 +65,12 @@ set_fine q d s now b desks logins packets asks h =
     }
 
 -- ---- cuts
-cut_packets : (x : Bool) (q : ℕ) (cause : CutCause) (o : OutboxState) → (told_cut x q cause o).packets ≡ o.packets
-cut_packets true q cause o = refl
-cut_packets false q cause o = refl
 
 cut_fine : (cause : CutCause) (q : ℕ) (s : Scene) → q < 8 → Fine s → Fine (cut cause q s)
 unfolding cut reset_step
 cut_fine cause q s b h =
     let d = reset_desk (desk_at s.node q) in
-    set_fine q d s (cut cause q s) b refl refl (cut_packets (is_reset (state_in (desk_at s.node q).agent.phase)) q cause s.outbox)
+    set_fine q d s (cut cause q s) b refl refl (cut_by (is_reset (state_in (desk_at s.node q).agent.phase)) q cause s.outbox)
     (λ login e. idle_asks s.outbox.packets login.fifo d refl refl) h
 
 fine_if : (x : Bool) (y z : Scene) → Fine y → Fine z → Fine (cond x y z)
@@ -97,13 +82,6 @@ unfolding cut_from cut_at
 cuts_fine zero place cause unit s b h = h
 cuts_fine (suc left) place cause unit s b h =
     cuts_fine left (place + 1) cause unit (cut_at cause unit place s) (omega arith) (fine_if (is_cut unit (login_at s.node place)) (cut cause place s) s (cut_fine cause place s (omega arith) h) h)
-
-in_place : (place : ℕ) → place < 8 → place_in place ≡ Some place
-in_place place b = by (nat_lt place 8) (grind (arith, nat_tests))
-  where
-    by : (x : Bool) → x ≡ true → cond x (Some place) None ≡ Some place
-    by true e = refl
-    by false e = absurd (no e)
 
 placed_fine : (cause : CutCause) (place : ℕ) (s : Scene) → place < 8 → Fine s → Fine (cut_place place cause s)
 placed_fine cause place s b h = subst (λ (x : Option ℕ). Fine (cut_placed x cause s)) (sym (in_place place b)) (cut_fine cause place s b h)
@@ -124,14 +102,10 @@ logout_fine place subject s b h =
     let d = Off (desk_at s.node place) false in
     set_fine place d s (logged_out place subject s) b refl refl refl (λ login e. off_asks s.outbox.packets login.fifo (desk_at s.node place) false (h.all.all place login b e)) h
 
-left_packets : (replaced : Option ℕ) (o : OutboxState) → (tell_left replaced o).packets ≡ o.packets
-left_packets None o = refl
-left_packets (Some login) o = refl
-
 enter_fine : (place subject : ℕ) (replaced : Option ℕ) (s : Scene) → place < 8 → Fine s → Fine (effect_by (effects.Entered place replaced) subject s)
 enter_fine place subject replaced s b h =
     let d : Desk = record (desk_at s.node place) { pointer = None; is_enabled = false } in
-    set_fine place d s (effect_by (effects.Entered place replaced) subject s) b refl refl (left_packets replaced s.outbox)
+    set_fine place d s (effect_by (effects.Entered place replaced) subject s) b refl refl (left_sends replaced s.outbox)
     (λ login e. (let a = h.all.all place login b e in record { main = a.main; ahead = a.ahead; sized = a.sized })) h
 
 abort_fine : (place orb subject : ℕ) (s : Scene) → place < 8 → Fine s → Fine (effect_by (effects.Abort place orb) subject s)
@@ -164,7 +138,7 @@ module _ (node : NodeState) (g : Good node) (layer : Layer Purpose) (outbox : Ou
         split (is_reset (state_in (desk_at node p).agent.phase)) (AsksReally outbox.packets login.fifo (desk_at node p))
         (λ r.
         let f = g.mid.fits p b (not_eight p b) in
-        let idle = reset_phase (desk_at node p).agent.phase r in
+        let idle = in_reset (desk_at node p).agent.phase r in
         idle_asks outbox.packets login.fifo (desk_at node p) (ap (λ (x : Phase). is_sent x) idle) (f.agent.bare (ap (λ (x : Phase). is_bare x) idle)))
         (λ r.
         let i = g.mid.served p b (not_eight p b) r in
@@ -182,7 +156,7 @@ module _ (node : NodeState) (g : Good node) (layer : Layer Purpose) (outbox : Ou
         let d = reset_desk (desk_at node place) in
         record {
           desks = length-set node.desks place d ∙ g.mid.size;
-          all = subst (λ (ps : List Outgoing). AllAsk ps now) (sym (cut_packets (is_reset (state_in (desk_at node place).agent.phase)) place cuts.Logout outbox)) (record {
+          all = subst (λ (ps : List Outgoing). AllAsk ps now) (sym (cut_by (is_reset (state_in (desk_at node place).agent.phase)) place cuts.Logout outbox)) (record {
             all = λ p login l e.
                 split (nat_eq p place) (AsksReally outbox.packets login.fifo (desk_at now p))
                 (λ y.

@@ -1,6 +1,6 @@
 -- In a world the packet under whose label a desk waits is the request that left for it.
-use Rattle.std.proofs.Common.{arith, ◌≡◌, ◌∙◌, refl, sym, ap, subst, inl, inr, ℕ, zero, suc, ◌&&◌, ◌<◌, nat_eq, Bool, true, List, [], ◌∷◌, length, Option, Some, None}
-use Rattle.std.proofs.lemmas.Bool.Decides.{nat_tests}
+use Rattle.std.proofs.Common.{arith, ◌≡◌, ◌∙◌, refl, sym, ap, subst, inl, inr, ℕ, zero, suc, ◌&&◌, ◌<◌, Bool, true, List, [], ◌∷◌, length, Option, Some}
+use Rattle.std.proofs.lemmas.Option.{same_Some, none-some}
 use Rattle.bus_transactions.specs.Bare.{bare}
 use Rattle.bus_transactions.specs.Fitting.{FitsRequest}
 use Rattle.bus_transactions.specs.Reached.{IsAwaited}
@@ -47,6 +47,7 @@ use Rattle.sbp_world.proofs.Agents.Fresh.{lives_of}
 use Rattle.sbp_world.proofs.Agents.Known.{life_waits}
 use Rattle.sbp_world.proofs.Agents.LastAsked.{Among, are_latest}
 use Rattle.sbp_world.proofs.Agents.Purposes.{g, label_generation, state_is}
+use Rattle.sbp_world.proofs.Common.{itself}
 
 -- ---- the packet that left
 pub record Leaving (packets : List Outgoing) (sent : Sent) (body : Option Body) : Type 0 where
@@ -59,21 +60,9 @@ left_is [] sent body h = absurd h
 left_is (packet ∷ packets) sent body (inl i) = record { packet = packet; among = inl refl; is = i }
 left_is (packet ∷ packets) sent body (inr h) = let l = left_is packets sent body h in record { packet = l.packet; among = inr l.among; is = l.is }
 
-above : (n : ℕ) → (n ≡ 0 → ⊥) → 0 < n
+pub above : (n : ℕ) → (n ≡ 0 → ⊥) → 0 < n
 above zero h = absurd (h refl)
 above (suc n) h = omega arith
-
-no_packet : (packet : Sending) → None ≡ Some packet → ⊥
-no_packet packet e = cc
-
-same_packet : (x y : Sending) → Some x ≡ Some y → x ≡ y
-same_packet x y e = cc
-
-same_wait : (n : ℕ) → nat_eq n n ≡ true
-same_wait n = grind (arith, nat_tests)
-
-same_bytes : (x y : List ℕ) → Some x ≡ Some y → x ≡ y
-same_bytes x y e = cc
 
 -- the request with a serial, to a node, for what is asked
 pub record Asked (wire : Terms) (serial node : ℕ) (ask : Ask) (is_status : Bool) (fifo : ℕ) (outgoing : List ℕ) : Type 0 where
@@ -138,10 +127,10 @@ module _ (units ready : ℕ) (has : 0 < units) (start : List Disk) {past : List 
       facts = (holds stands.wire stands.reached).facts
 
       asked : IsAsked (x.last u) (x.sent (x.current u)) u
-      asked = facts.asked u (above (x.current u) (λ z. no_packet a.packet (sym facts.zero ∙ ap x.sent (sym (a.current ∙ z)) ∙ a.sent)))
+      asked = facts.asked u (above (x.current u) (λ z. none-some a.packet (sym facts.zero ∙ ap x.sent (sym (a.current ∙ z)) ∙ a.sent)))
 
       same : a.packet ≡ asked.packet
-      same = same_packet a.packet asked.packet (sym a.sent ∙ ap x.sent a.current ∙ asked.sent_is)
+      same = same_Some a.packet asked.packet (sym a.sent ∙ ap x.sent a.current ∙ asked.sent_is)
 
       small : number < 64
       small = (stands.is.knows.latest r.serial (request_of 0 sent.peer sent.label) r.found).number_small
@@ -160,15 +149,15 @@ module _ (units ready : ℕ) (has : 0 < units) (start : List Disk) {past : List 
 
       bytes_are : (packet : Outgoing) → Among packets packet → packet.to ≡ sent.peer → packet.label ≡ Some sent.label → a.packet.bytes ≡ packet.bytes
       bytes_are packet m to label =
-          ap (λ (q : Sending). q.bytes) same ∙ same_bytes asked.packet.bytes packet.bytes (sym asked.last_is ∙ wire_last packet.bytes (last_is packet m to label))
+          ap (λ (q : Sending). q.bytes) same ∙ same_Some asked.packet.bytes packet.bytes (sym asked.last_is ∙ wire_last packet.bytes (last_is packet m to label))
 
       under_way : is_under_way x r.serial ≡ true
       under_way =
           ap (λ (o : Option Sending). waits_for x (begun_in o) r.serial) a.sent
           ∙ ap (λ (o : Option Transaction). waits_for x o r.serial) a.begun
-          ∙ ap (λ (b : Bool). b && is_waiting_for (x.held u) r.serial) (same_wait (x.generation 0))
+          ∙ ap (λ (b : Bool). b && is_waiting_for (x.held u) r.serial) (itself (x.generation 0))
           ∙ ap (λ (o : Held). is_waiting_for o r.serial) waiting
-          ∙ same_wait r.serial
+          ∙ itself r.serial
 
       -- ---- it asks for what was asked
       module _ (ask : Ask) (is_status : Bool) (fifo : ℕ) (outgoing : List ℕ) (fits : IfBody (agent_body ask is_status fifo outgoing)) (sized : (offset size : ℕ) → ask ≡ Write offset size → length outgoing ≡ size) where

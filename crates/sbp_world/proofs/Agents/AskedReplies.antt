@@ -106,11 +106,11 @@ changed_desks : (b : Bool) (unit place : ℕ) (node : NodeState) → (changed_by
 changed_desks true unit place node = refl
 changed_desks false unit place node = refl
 
-changed_logins : (b : Bool) (unit place : ℕ) (node : NodeState) → (changed_by b unit place node).logins ≡ node.logins
+pub changed_logins : (b : Bool) (unit place : ℕ) (node : NodeState) → (changed_by b unit place node).logins ≡ node.logins
 changed_logins true unit place node = refl
 changed_logins false unit place node = refl
 
-served_is : (units : ℕ) (l : Option Login) (login : Login) → if_served units l ≡ Some login → l ≡ Some login
+pub served_is : (units : ℕ) (l : Option Login) (login : Login) → if_served units l ≡ Some login → l ≡ Some login
 served_is units None login e = absurd (let f : None ≡ Some login = e in cc)
 served_is units (Some x) login e = by (nat_lt x.unit units) e
   where

@@ -1,6 +1,7 @@
 -- A generation that is seen, and a key that is set, leave all desks waiting for what left.
 use Rattle.std.proofs.Common.{arith, ◌≡◌, ◌∙◌, sym, ap, ℕ, ◌<◌, Bool, true, false, List, length, None}
 use Rattle.std.proofs.lemmas.List.{get_or-map}
+use Rattle.std.proofs.lemmas.Bool.{false≢true}
 use Rattle.label_table.specs.Layer.{Layer, seeing_step}
 use Rattle.command_agent.specs.Machine.{Machine, is_ahead, is_sent}
 use Rattle.command_agent.specs.Steps.{reset_step}
@@ -19,15 +20,12 @@ use Rattle.sbp_world.specs.Agents.Asked.{AllAsk, AsksReally, SightsLaw}
 use Rattle.sbp_world.proofs.Agents.Cuts.{all_cut}
 use Rattle.sbp_world.proofs.Agents.Sized.{idle_sized}
 
-no : false ≡ true → ⊥
-no e = cc
-
 -- an agent in RESET waits for nothing
 reset_asks : (packets : List Outgoing) (fifo : ℕ) (d : Desk) (m : Machine) → d.agent ≡ reset_step m → AsksReally packets fifo d
 unfolding reset_step
 reset_asks packets fifo d m e = record {
-  main = λ sent f p. absurd (no (sym (ap (λ (x : Machine). is_sent x.phase) e) ∙ p));
-  ahead = λ sent f p. absurd (no (sym (ap (λ (x : Machine). is_ahead x.ahead) e) ∙ p));
+  main = λ sent f p. absurd (false≢true (sym (ap (λ (x : Machine). is_sent x.phase) e) ∙ p));
+  ahead = λ sent f p. absurd (false≢true (sym (ap (λ (x : Machine). is_ahead x.ahead) e) ∙ p));
   sized = idle_sized d.agent (ap (λ (x : Machine). is_sent x.phase) e);
 }
 

@@ -1,5 +1,6 @@
 -- What an agent has under way behind a step is what the step asked for.
 use Rattle.std.proofs.Common.{◌≡◌, refl, ap, sym, ◌∙◌, ℕ, ◌+◌, ◌*◌, ◌==◌, ◌++◌, Bool, true, false, cond, length, List, Option, Some, None, Result, Ok, Err}
+use Rattle.std.proofs.lemmas.Bool.{false≢true, true≢false}
 use Rattle.orb_layout.specs.declared.ask.Ask.{Ask}
 use Rattle.orb_layout.specs.declared.ask.Ask.TheVariants.{Read}
 use Rattle.orb_layout.specs.declared.ask.FailCause.{FailCause}
@@ -38,28 +39,22 @@ use Rattle.agent_laws.specs.Along.Requests.{ahead_ask, ahead_under, main_ask, ma
 use Rattle.sbp_world.specs.Agents.Asked.{IsBare, IsStill, IsUnder, UnderLaw, asks, reads_none}
 use Rattle.sbp_world.proofs.Agents.Sized.{answer_sized, idle_sized, nothing_sized, read_sized, write_sized}
 
-no : false ≡ true → ⊥
-no e = cc
-
-no_2 : true ≡ false → ⊥
-no_2 e = cc
-
 -- nothing is read ahead
 bare_is : (a : ReadAhead) (ahead : Ask) (next : OrbPointer) → is_ahead a ≡ false → is_ahead a ≡ true → ahead_ask a next ≡ ahead
-bare_is a ahead next e f = absurd (no (sym e ∙ f))
+bare_is a ahead next e f = absurd (false≢true (sym e ∙ f))
 
 idle_asks : (a : ReadAhead) (next other : OrbPointer) → is_ahead a ≡ false → ahead_ask a next ≡ ahead_ask a other
 idle_asks aheads.Idle next other e = refl
-idle_asks (aheads.UnderWay rung) next other e = absurd (no_2 e)
+idle_asks (aheads.UnderWay rung) next other e = absurd (true≢false e)
 idle_asks (aheads.Kept orb) next other e = refl
 
 -- ---- the present ORB ends, or the agent becomes dead
 ends : (ahead : Ask) (m : Machine) (kind : StatusKind) (dead : Option FailCause) → (is_ahead m.ahead ≡ true → ahead_under m ≡ ahead) → IsUnder ahead (end_step m kind dead)
-ends ahead m kind None h = record { main = λ e. refl; status = λ e. refl; turned = λ e. absurd (no e); asked = λ e. absurd (no e); kept = λ e f. h f; sized = write_sized (end_step m kind None).1 _ _ refl refl }
-ends ahead m kind (Some cause) h = record { main = λ e. refl; status = λ e. refl; turned = λ e. absurd (no e); asked = λ e. absurd (no e); kept = λ e f. absurd (no f); sized = write_sized (end_step m kind (Some cause)).1 _ _ refl refl }
+ends ahead m kind None h = record { main = λ e. refl; status = λ e. refl; turned = λ e. absurd (false≢true e); asked = λ e. absurd (false≢true e); kept = λ e f. h f; sized = write_sized (end_step m kind None).1 _ _ refl refl }
+ends ahead m kind (Some cause) h = record { main = λ e. refl; status = λ e. refl; turned = λ e. absurd (false≢true e); asked = λ e. absurd (false≢true e); kept = λ e f. absurd (false≢true f); sized = write_sized (end_step m kind (Some cause)).1 _ _ refl refl }
 
 dies : (ahead : Ask) (m : Machine) (cause : FailCause) → IsUnder ahead (dead_step m cause)
-dies ahead m cause = record { main = λ e. absurd (no e); status = λ e. absurd (no e); turned = λ e. absurd (no e); asked = λ e. absurd (no e); kept = λ e f. absurd (no f); sized = nothing_sized (dead_step m cause).1 refl }
+dies ahead m cause = record { main = λ e. absurd (false≢true e); status = λ e. absurd (false≢true e); turned = λ e. absurd (false≢true e); asked = λ e. absurd (false≢true e); kept = λ e f. absurd (false≢true f); sized = nothing_sized (dead_step m cause).1 refl }
 
 under_if : (ahead : Ask) (b : Bool) (x y : AgentStep × Machine) → IsUnder ahead x → IsUnder ahead y → IsUnder ahead (cond b x y)
 under_if ahead true x y p q = p
@@ -67,20 +62,20 @@ under_if ahead false x y p q = q
 
 -- nothing is asked for
 stays : (ahead : Ask) (m : Machine) → is_sent m.phase ≡ false → (is_ahead m.ahead ≡ true → ahead_under m ≡ ahead) → IsUnder ahead (quiet, m)
-stays ahead m i h = record { main = λ e. absurd (no e); status = λ e. absurd (no e); turned = λ e. absurd (no e); asked = λ e. absurd (no e); kept = λ e f. h f; sized = idle_sized m i }
+stays ahead m i h = record { main = λ e. absurd (false≢true e); status = λ e. absurd (false≢true e); turned = λ e. absurd (false≢true e); asked = λ e. absurd (false≢true e); kept = λ e f. h f; sized = idle_sized m i }
 
 rereads : (ahead : Ask) (m : Machine) → (is_ahead m.ahead ≡ true → ahead_under m ≡ ahead) → IsUnder ahead (reread_step m)
-rereads ahead m h = record { main = λ e. refl; status = λ e. refl; turned = λ e. absurd (no e); asked = λ e. absurd (no e); kept = λ e f. h f; sized = read_sized (reread_step m).1 _ _ refl }
+rereads ahead m h = record { main = λ e. refl; status = λ e. refl; turned = λ e. absurd (false≢true e); asked = λ e. absurd (false≢true e); kept = λ e f. h f; sized = read_sized (reread_step m).1 _ _ refl }
 
 waits : (ahead : Ask) (m : Machine) → (is_ahead m.ahead ≡ true → ahead_under m ≡ ahead) → IsUnder ahead (wait_step m)
 waits ahead m h = under_if ahead m.doorbell (reread_step m) (quiet, record m { phase = phases.Suspended }) (rereads ahead m h) (stays ahead (record m { phase = phases.Suspended }) refl h)
 
 -- ---- data and answers
 takes : (ahead : Ask) (m : Machine) (wanted : ℕ) → (is_ahead m.ahead ≡ true → ahead_under m ≡ ahead) → IsUnder ahead (data_step m wanted)
-takes ahead m wanted h = record { main = λ e. refl; status = λ e. refl; turned = λ e. absurd (no e); asked = λ e. absurd (no e); kept = λ e f. h f; sized = read_sized (data_step m wanted).1 _ _ refl }
+takes ahead m wanted h = record { main = λ e. refl; status = λ e. refl; turned = λ e. absurd (false≢true e); asked = λ e. absurd (false≢true e); kept = λ e f. h f; sized = read_sized (data_step m wanted).1 _ _ refl }
 
 answers : (ahead : Ask) (m : Machine) → (is_ahead m.ahead ≡ true → ahead_under m ≡ ahead) → IsUnder ahead (answer_step m)
-answers ahead m h = record { main = λ e. refl; status = λ e. refl; turned = λ e. absurd (no e); asked = λ e. absurd (no e); kept = λ e f. h f; sized = answer_sized m }
+answers ahead m h = record { main = λ e. refl; status = λ e. refl; turned = λ e. absurd (false≢true e); asked = λ e. absurd (false≢true e); kept = λ e f. h f; sized = answer_sized m }
 
 -- ---- a command runs
 outcome_told : (ahead : Ask) (outcome : Outcome) (s : AgentStep × Machine) → IsUnder ahead s → IsUnder ahead (with_outcome outcome s)
@@ -101,7 +96,7 @@ judges ahead m told (needs.Payload len) h = takes ahead m len h
 
 -- ---- the checks of an ORB, behind which the read ahead may follow
 tables : (ahead : Ask) (m : Machine) → (is_ahead m.ahead ≡ true → ahead_under m ≡ ahead) → IsUnder ahead (steps.asks (Read m.orb.descriptor (8 * m.orb.data_size)), record m { phase = phases.ReadingTable })
-tables ahead m h = record { main = λ e. refl; status = λ e. refl; turned = λ e. absurd (no e); asked = λ e. absurd (no e); kept = λ e f. h f; sized = read_sized (record m { phase = phases.ReadingTable }) _ _ refl }
+tables ahead m h = record { main = λ e. refl; status = λ e. refl; turned = λ e. absurd (false≢true e); asked = λ e. absurd (false≢true e); kept = λ e f. h f; sized = read_sized (record m { phase = phases.ReadingTable }) _ _ refl }
 
 checks : (ahead : Ask) (v : Option StatusKind) (m : Machine) (place : ℕ) (plain : PlainDisk) (told : Told) → (is_ahead m.ahead ≡ true → ahead_under m ≡ ahead) → IsUnder ahead (checked m place plain told v)
 checks ahead (Some kind) m place plain told h = ends ahead m kind (death_by kind) h
@@ -119,9 +114,9 @@ ahead_asks : (ahead : Ask) (dead : Option FailCause) (next : OrbPointer) (s : Ag
 ahead_asks ahead None (At next) s p n u = record {
   main = λ e. main_still s.1.phase s.1 _ false s.1.aborted ∙ u.main e;
   status = u.status;
-  turned = λ e. absurd (no (sym p ∙ e));
+  turned = λ e. absurd (false≢true (sym p ∙ e));
   asked = λ e. ap (λ (o : OrbPointer). ahead_ask (aheads.UnderWay s.1.doorbell) o) n;
-  kept = λ e f. absurd (no_2 e);
+  kept = λ e f. absurd (true≢false e);
   sized = record { bytes = λ offset size e. u.sized.bytes offset size (sym (main_still s.1.phase s.1 _ false s.1.aborted) ∙ e) };
 }
 ahead_asks ahead None Null s p n u = u
@@ -131,7 +126,7 @@ ahead_asks ahead (Some cause) Null s p n u = u
 checks_then : (ahead : Ask) (m : Machine) (place : ℕ) (plain : PlainDisk) (told : Told) → is_ahead m.ahead ≡ false → IsUnder ahead (with_ahead (check_step m place plain told))
 checks_then ahead m place plain told h =
     let s = check_step m place plain told in
-    ahead_asks ahead s.0.dead s.1.orb.next s (unturned (verdict m.orb m.aborted)) refl (checks ahead (verdict m.orb m.aborted) m place plain told (λ e. absurd (no (sym h ∙ e))))
+    ahead_asks ahead s.0.dead s.1.orb.next s (unturned (verdict m.orb m.aborted)) refl (checks ahead (verdict m.orb m.aborted) m place plain told (λ e. absurd (false≢true (sym h ∙ e))))
   where
     if_not : (b : Bool) (x y : AgentStep × Machine) → x.0.promoted ≡ false → y.0.promoted ≡ false → (cond b x y).0.promoted ≡ false
     if_not true x y p q = p
@@ -164,8 +159,8 @@ module _ (place : ℕ) (plain : PlainDisk) (told : Told) (ahead : Ask) where
   moved_if false x y p q = q
 
   turns : (m : Machine) (next : ℕ) (a : ReadAhead) → (is_ahead a ≡ true → ahead_ask a (At next) ≡ ahead) → Moved (turn_step m next a)
-  turns m next aheads.Idle h = record { main = λ e. refl; status = λ e. refl; turned = λ e. absurd (no e); asked = λ e. absurd (no e); kept = λ e f. absurd (no f); sized = read_sized (fetch_step m next).1 _ _ refl }
-  turns m next (aheads.UnderWay rung) h = record { main = λ e. absurd (no e); status = λ e. absurd (no e); turned = λ e. h refl; asked = λ e. absurd (no e); kept = λ e f. absurd (no f); sized = read_sized (turned m next) _ _ refl }
+  turns m next aheads.Idle h = record { main = λ e. refl; status = λ e. refl; turned = λ e. absurd (false≢true e); asked = λ e. absurd (false≢true e); kept = λ e f. absurd (false≢true f); sized = read_sized (fetch_step m next).1 _ _ refl }
+  turns m next (aheads.UnderWay rung) h = record { main = λ e. absurd (false≢true e); status = λ e. absurd (false≢true e); turned = λ e. h refl; asked = λ e. absurd (false≢true e); kept = λ e f. absurd (false≢true f); sized = read_sized (turned m next) _ _ refl }
   turns m next (aheads.Kept orb) h = checks_then ahead (record (turned m next) { orb = orb }) place plain told refl
 
   follows : (m : Machine) (next : OrbPointer) → m.orb.next ≡ next → Reads m → Moved (follow_step m next)
@@ -178,10 +173,10 @@ module _ (place : ℕ) (plain : PlainDisk) (told : Told) (ahead : Ask) where
 
   next_is : (m : Machine) (read : Result (List ℕ) FailCause) → is_ahead m.ahead ≡ false → Moved (next_read m read)
   next_is m (Err cause) h = dies ahead m cause
-  next_is m (Ok bytes) h = follows (record m { orb = record m.orb { next = pointer_at bytes 0 } }) (pointer_at bytes 0) refl (λ f. absurd (no (sym h ∙ f)))
+  next_is m (Ok bytes) h = follows (record m { orb = record m.orb { next = pointer_at bytes 0 } }) (pointer_at bytes 0) refl (λ f. absurd (false≢true (sym h ∙ f)))
 
   orb_is : (m : Machine) (read : Result (List ℕ) FailCause) → is_ahead m.ahead ≡ false → Moved (orb_read m read)
-  orb_is m (Err cause) h = ends ahead m kinds.Failed (Some cause) (λ f. absurd (no (sym h ∙ f)))
+  orb_is m (Err cause) h = ends ahead m kinds.Failed (Some cause) (λ f. absurd (false≢true (sym h ∙ f)))
   orb_is m (Ok bytes) h = checks_then ahead (record m { orb = command_orb bytes }) place plain told h
 
   elements_are : (m : Machine) (bytes : List ℕ) (fault : Option PageFault) → Reads m → Moved (elements_read m bytes fault)
@@ -290,10 +285,10 @@ unfolding point_step
 pointers m pointer ask e = points (state_in m.phase) m pointer ask e
 
 rings : (state : AgentState) (m : Machine) → asks (doorbell_in state m).0 ≡ true → main_under (doorbell_in state m).1 ≡ (doorbell_in state m).0
-rings states.Reset m e = absurd (no e)
+rings states.Reset m e = absurd (false≢true e)
 rings states.Suspended m e = refl
-rings states.Active m e = absurd (no e)
-rings states.Dead m e = absurd (no e)
+rings states.Active m e = absurd (false≢true e)
+rings states.Dead m e = absurd (false≢true e)
 
 doorbells : (m : Machine) → asks (doorbell_step m).0 ≡ true → main_under (doorbell_step m).1 ≡ (doorbell_step m).0
 unfolding doorbell_step
@@ -301,7 +296,7 @@ doorbells m e = rings (state_in m.phase) m e
 
 rung_still : (state : AgentState) (m : Machine) → asks (doorbell_in state m).0 ≡ false → IsStill m (doorbell_in state m).1
 rung_still states.Reset m e = still m m.ahead m.doorbell m.aborted
-rung_still states.Suspended m e = absurd (no_2 e)
+rung_still states.Suspended m e = absurd (true≢false e)
 rung_still states.Active m e = still m m.ahead true m.aborted
 rung_still states.Dead m e = still m m.ahead m.doorbell m.aborted
 

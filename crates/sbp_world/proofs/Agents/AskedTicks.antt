@@ -12,6 +12,7 @@ use Rattle.sbp_target.specs.Receiving as receiving
 use Rattle.sbp_target.specs.Receiving.{expired_from}
 use Rattle.sbp_target.specs.Sending.{with_side}
 use Rattle.std.specs.Prelude.{slice_index_or}
+use Rattle.std.proofs.lemmas.Option.{same_Some, none-some}
 use Rattle.sbp_world.specs.Agents.Asked.{AllAsk, AsksReally, TicksAskLaw}
 
 told_same : (left at : ℕ) (logins : List ℕ) (o : OutboxState) → (expired_from left at logins o).packets ≡ o.packets
@@ -25,18 +26,12 @@ record WasThere (l : Option Login) (login : Login) : Type 0 where
   is : l ≡ Some before
   fifo : before.fifo ≡ login.fifo
 
-none_login : (login : Login) → None ≡ Some login → ⊥
-none_login login e = cc
-
-one_login : (x y : Login) → Some x ≡ Some y → x ≡ y
-one_login x y e = cc
-
 was_by : (b : Bool) (x login : Login) → cond b None (Some (record x { remaining = one_less x.remaining })) ≡ Some login → WasThere (Some x) login
-was_by true x login e = absurd (none_login login e)
-was_by false x login e = record { before = x; is = refl; fifo = ap (λ (l : Login). l.fifo) (one_login (record x { remaining = one_less x.remaining }) login e) }
+was_by true x login e = absurd (none-some login e)
+was_by false x login e = record { before = x; is = refl; fifo = ap (λ (l : Login). l.fifo) (same_Some (record x { remaining = one_less x.remaining }) login e) }
 
 was_there : (l : Option Login) (login : Login) → ticked l ≡ Some login → WasThere l login
-was_there None login e = absurd (none_login login e)
+was_there None login e = absurd (none-some login e)
 was_there (Some x) login e = was_by (is_last x.remaining) x login e
 
 pub ticks : (node : NodeState) (outbox : OutboxState) → AllAsk outbox.packets node → (let s = receiving.ticked (scene node outbox) in AllAsk s.outbox.packets s.node)

@@ -46,7 +46,7 @@ use Rattle.sbp_target.proofs.Histories.Primitives.{Known, closing_known, expirin
 use Rattle.sbp_target.proofs.Histories.Seats.{Lives}
 use Rattle.sbp_world.specs.Agents.Management.Calls.{delivered, demanded, lapsed, requested}
 use Rattle.sbp_world.specs.Agents.Management.Offices.{Agrees, Office, by_sides, replied, started, started_by, ticked}
-use Rattle.sbp_world.proofs.Agents.Management.Calls.{barred_same}
+use Rattle.sbp_world.proofs.Agents.Management.Calls.{barred_same, from_self}
 use Rattle.sbp_world.proofs.Agents.Management.Calm.{Calm, From, accesses_by, answers, cuts_all, expires_agent, replies}
 use Rattle.sbp_world.proofs.Agents.Management.Managing.{quiet_says}
 use Rattle.sbp_world.proofs.Agents.Management.Places.{AreApart, sound_apart}
@@ -68,9 +68,6 @@ module _ (topology : Topology) (node : NodeState) (g : Good node) (o : Office) (
 
   apart : AreApart o.table.places
   apart = subst (λ (t : Table). AreApart t.places) (sym a.table) (sound_apart node.logins.places g.table.sound)
-
-  from_self : (layer : Layer Purpose) (lives : Lives) → Known layer lives → From lives layer
-  from_self layer lives k = record { lives = lives; known = k; before = λ p l kind h. h }
 
   from_same : (layer : Layer Purpose) → layer ≡ node.layer → From g.lives layer
   from_same layer same = from_self layer g.lives (subst (λ (l : Layer Purpose). Known l g.lives) (sym same) g.mid.known)

@@ -24,10 +24,8 @@ use Rattle.sbp_target.specs.Agents.{sent_to}
 use Rattle.sbp_target.specs.Desks.{new_desk, which_in}
 use Rattle.sbp_target.specs.Nodes.{NodeState, Scene, desk_at, login_at, scene}
 use Rattle.sbp_target.specs.Receiving.{expired_by}
-use Rattle.target_base.specs.Logins.{if_served}
 use Rattle.sbp_target.specs.Replies.{TellsBy, plain_in, replied_by, scene_of, served_login, stage, whole}
 use Rattle.sbp_target.proofs.Histories.Calling.{Good, not_eight}
-use Rattle.sbp_target.proofs.Histories.Following.{IsServed}
 use Rattle.sbp_target.proofs.Histories.Rested.{Came, came_for, for_ahead, for_main}
 use Rattle.sbp_target.proofs.Histories.Seats.{split}
 use Rattle.sbp_world.proofs.Agents.Management.Calm.{AreQuiet}
@@ -41,6 +39,7 @@ use Rattle.sbp_world.proofs.Agents.Mild.{IsGiven}
 use Rattle.sbp_world.proofs.Agents.Serials.{Paired, Within, one_none, paired_at, paired_more, requests_within}
 use Rattle.sbp_world.proofs.Agents.Registers.{Turned, ahead_lapses, beside_self, ended_turned, main_lapses}
 use Rattle.sbp_world.proofs.Agents.Rounds.{ahead_advances, main_advances}
+use Rattle.sbp_world.proofs.Agents.CrewSeats.{served_there}
 
 -- ---- all agents are settled
 pub record AllSettled (requests : List Request) (agents : List Agent) (node : NodeState) : Type 0 where
@@ -201,12 +200,6 @@ module _ {requests : List Request} (agents : List Agent) (node : NodeState) (a :
               (subst (λ (z : Option ℕ). Settled (desk_at node p).agent z (agent_in agents p)) (sym o.1) (a.each p l)))
 
 -- ---- a reply to an agent, and a time-out
-served_there : (node : NodeState) (q : ℕ) (i : IsServed node q) → served_login node q ≡ Some i.login
-served_there node q i = ap (λ (l : Option Login). if_served (length node.units) l) i.is ∙ on_unit (nat_lt i.login.unit (length node.units)) (let u = i.on_unit in grind (arith, nat_tests))
-  where
-    on_unit : (x : Bool) → x ≡ true → cond x (Some i.login) None ≡ Some i.login
-    on_unit true e = refl
-    on_unit false e = absurd (let no : false ≡ true = e in cc)
 
 module _ {requests : List Request} (node : NodeState) (g : Good node) (agents : List Agent) (is : AreOf requests agents node) where
   abbrev own : AllSettled requests agents node

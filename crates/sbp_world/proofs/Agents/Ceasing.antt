@@ -6,10 +6,11 @@ use Rattle.std.proofs.Math.ListN.{get_or-map}
 use Rattle.std.proofs.lemmas.Bool.Decides.{nat_tests}
 use Rattle.std.proofs.lemmas.List.{length-set, set_past}
 use Rattle.std.proofs.lemmas.List.Quantifiers.{position-Some}
+use Rattle.std.proofs.lemmas.Bool.{false≢true}
 use Rattle.async_packet.specs.Packet.{Packet, header_in}
 use Rattle.label_table.specs.declared.judgement.Asked.{Asked}
 use Rattle.label_table.specs.Bodies.{Body}
-use Rattle.label_table.specs.Layer.{Layer, answering_step, asking_step}
+use Rattle.label_table.specs.Layer.{Layer, asking_step}
 use Rattle.label_table.proofs.Owned.{position_none, set_at}
 use Rattle.login_table.specs.declared.login.Login.{Login}
 use Rattle.login_table.specs.Table.{Table, entered, is_live, place_at}
@@ -43,7 +44,7 @@ use Rattle.sbp_target.specs.Desks.{reset_desk}
 use Rattle.sbp_target.specs.Management.{ask_manager, clear_one, cut_placed, decided_by, effect_by, failed_by, lose_operation, lost_in, manager_asked, manager_body, manager_lost, manager_sent, place_in, tell_failed, with_manager}
 use Rattle.sbp_target.specs.Nodes.{NodeState, Scene, desk_at, login_at, scene, with_desk}
 use Rattle.sbp_target.specs.Receiving.{expired_from, held_from, tell_held}
-use Rattle.sbp_target.specs.Sending.{answer_step, answered_by, request_step as asks_step, sent_by, with_side}
+use Rattle.sbp_target.specs.Sending.{answered_by, request_step as asks_step, sent_by, with_side}
 use Rattle.sbp_target.specs.Serving.{answered, start, started_by}
 use Rattle.sbp_target.specs.Units.{clear_from, clear_unit, cut_all, cut_at, cut_from, is_cut}
 use Rattle.sbp_world.specs.Agents.Management.Offices.{Office, by_managed, by_side, by_sides, placed, placed_by}
@@ -55,9 +56,7 @@ use Rattle.sbp_world.proofs.Agents.Heeding.{desk_same, register_off, same_regist
 use Rattle.sbp_world.proofs.Agents.Serves.{ask_keeps}
 use Rattle.sbp_world.proofs.Agents.Sparing.{Empties, IsOld, IsReplaced, Spares}
 use Rattle.sbp_world.proofs.Agents.Using.{off_at}
-
-no : false ≡ true → ⊥
-no e = cc
+use Rattle.sbp_world.proofs.Lists.Registers.{answered_sides}
 
 -- ---- what is told of neither registers nor logins
 abbrev pub IsMute : Side → Type 0
@@ -281,10 +280,6 @@ module _ (base : List Side) where
 answer_sides : (r : List ℕ × Layer Purpose) (o : OutboxState) (source : ℕ) → (answered_by r o source).1.sides ≡ o.sides
 answer_sides (bytes, layer) o source = refl
 
-answered_sides : (request : Packet) (bytes : List ℕ) (rcode : ℕ) (given : List ℕ) (s : Scene) → (answered request bytes rcode given s).outbox.sides ≡ s.outbox.sides
-unfolding answer_step
-answered_sides request bytes rcode given s = answer_sides (answering_step s.node.layer request bytes rcode given) s.outbox (header_in request).source
-
 -- an operation that starts tells mute sides at most
 starts_tell : (source : ℕ) (request : Packet) (bytes : List ℕ) (r : Result Ask Busy × management.Machine) (s : Scene) → s.outbox.sides ≡ [] → More [] (started_by source request bytes r s).outbox.sides
 starts_tell source request bytes (Ok ask, m) s e =
@@ -307,7 +302,7 @@ record Own (id : ℕ) (x : Option Login) : Type 0 where
   id_is : login.login ≡ id
 
 own_of : (id : ℕ) (x : Option Login) → has_id id x ≡ true → Own id x
-own_of id None e = absurd (no e)
+own_of id None e = absurd (false≢true e)
 own_of id (Some login) e = record { login = login; is = refl; id_is = grind (arith, nat_tests) }
 
 has_own : (id : ℕ) (x : Option Login) (login : Login) → x ≡ Some login → login.login ≡ id → has_id id x ≡ true
@@ -325,7 +320,7 @@ one_place id places apart j k a b e f x y = by (nat_eq j k) refl
   where
     by : (c : Bool) → nat_eq j k ≡ c → j ≡ k
     by true q = grind (arith, nat_tests)
-    by false q = absurd (apart.apart j k a b (λ same. no (sym q ∙ (let yes : nat_eq j k ≡ true = grind (arith, nat_tests) in yes))) e f (x ∙ sym y))
+    by false q = absurd (apart.apart j k a b (λ same. false≢true (sym q ∙ (let yes : nat_eq j k ≡ true = grind (arith, nat_tests) in yes))) e f (x ∙ sym y))
 
 -- ---- logins that expire
 abbrev pub IsExpiring : Side → Type 0
@@ -475,7 +470,7 @@ module _ (node : NodeState) (live : AreLive node) (apart : AreApart node.logins.
         not_here : HasLive node.logins.places other → (b : Bool) → nat_eq other place ≡ b → b ≡ false
         not_here l true q =
             let there : other ≡ place = grind (arith, nat_tests) in
-            absurd (no (sym (free l.login (ap (place_at node.logins.places) (sym there) ∙ l.is)) ∙ l.live))
+            absurd (false≢true (sym (free l.login (ap (place_at node.logins.places) (sym there) ∙ l.is)) ∙ l.live))
         not_here l false q = refl
 
         by : (b : Bool) → before other ≡ b → slice_index_or E' other false ≡ cond (nat_eq other place) false (before other)
@@ -494,7 +489,7 @@ module _ (node : NodeState) (live : AreLive node) (apart : AreApart node.logins.
             let one : k ≡ r.place = one_place id node.logins.places apart k r.place own.login r.login own.is r.is own.id_is r.id_is in
             let both : Some l.login ≡ Some r.login = sym l.is ∙ ap (place_at node.logins.places) (here ∙ one) ∙ r.is in
             let same_login : l.login ≡ r.login = cc in
-            absurd (no (sym r.old ∙ sym (ap is_live same_login) ∙ l.live))
+            absurd (false≢true (sym r.old ∙ sym (ap is_live same_login) ∙ l.live))
         by false q = refl
 
     disabled_by : (id : ℕ) → IsReplaced node.logins.places id → (other : ℕ) → other < 8 → (x : Option ℕ) → position (has_id id) node.logins.places ≡ x → slice_index_or (disabled_at x E) other false ≡ cond (nat_eq other place) false (before other)
@@ -520,7 +515,7 @@ module _ (node : NodeState) (live : AreLive node) (apart : AreApart node.logins.
   module _ (place subject : ℕ) (own : Login) (was : place_at node.logins.places place ≡ Some own) (id_is : own.login ≡ subject) where
     left_off : (other : ℕ) → other < 8 → (x : Option ℕ) → position (has_id subject) node.logins.places ≡ x → slice_index_or (disabled_at x E) other false ≡ cond (nat_eq other place) false (before other)
     left_off other small None e =
-        absurd (no (sym (position_none (has_id subject) node.logins.places place None e (within node.logins.places place own was)) ∙ has_own subject (place_at node.logins.places place) own was id_is))
+        absurd (false≢true (sym (position_none (has_id subject) node.logins.places place None e (within node.logins.places place own was)) ∙ has_own subject (place_at node.logins.places place) own was id_is))
     left_off other small (Some k) e =
         let f = (found_at subject node.logins.places k e).own in
         let one : k ≡ place = one_place subject node.logins.places apart k place f.login own f.is was f.id_is id_is in

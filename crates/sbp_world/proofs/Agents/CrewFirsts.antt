@@ -139,7 +139,7 @@ serves_rests true start source access t = start_rests start source access t
 serves_rests false start source access t = refl
 
 -- a packet that is got is of the target's generation
-current_by : (c n r a e : Bool) → may_get (row_of (record { is_current = c; is_for_node = n; is_response = r; is_awaited = a; is_repeated = e })) ≡ true → c ≡ true
+pub current_by : (c n r a e : Bool) → may_get (row_of (record { is_current = c; is_for_node = n; is_response = r; is_awaited = a; is_repeated = e })) ≡ true → c ≡ true
 current_by true n r a e m = refl
 current_by false n r a e m = absurd (let no : false ≡ true = m in cc)
 

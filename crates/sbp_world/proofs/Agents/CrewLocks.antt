@@ -34,10 +34,10 @@ lockless reading_block e = refl
 lockless locking e = absurd (let no : true ≡ false = e in cc)
 
 -- ---- what a target asks for reads or writes
-first_tcode : (peer tcode : ℕ) → tcode < 16 → (peer * 2 ^ 16 + 0 * 2 ^ 10 + 1 * 2 ^ 8 + tcode * 2 ^ 4 + 0) % 256 ^ 4 / 2 ^ 4 % 2 ^ 4 ≡ tcode
+pub first_tcode : (peer tcode : ℕ) → tcode < 16 → (peer * 2 ^ 16 + 0 * 2 ^ 10 + 1 * 2 ^ 8 + tcode * 2 ^ 4 + 0) % 256 ^ 4 / 2 ^ 4 % 2 ^ 4 ≡ tcode
 first_tcode peer tcode small = omega arith
 
-quad_tcode : (peer tcode : ℕ) (bytes rest : List ℕ) → tcode < 16 → bytes ≡ big_bytes 4 (peer * 2 ^ 16 + 0 * 2 ^ 10 + 1 * 2 ^ 8 + tcode * 2 ^ 4 + 0) ++ rest → tcode_of bytes ≡ tcode
+pub quad_tcode : (peer tcode : ℕ) (bytes rest : List ℕ) → tcode < 16 → bytes ≡ big_bytes 4 (peer * 2 ^ 16 + 0 * 2 ^ 10 + 1 * 2 ^ 8 + tcode * 2 ^ 4 + 0) ++ rest → tcode_of bytes ≡ tcode
 unfolding tcode_of
 quad_tcode peer tcode bytes rest small e =
     ap (λ xs. big_number 4 xs / 2 ^ 4 % 2 ^ 4) e

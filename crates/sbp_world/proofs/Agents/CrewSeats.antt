@@ -40,10 +40,10 @@ sent_alike a b peer number generation serial = grind (arith, nat_tests)
 serial_of : (k l : ReplyKind) (m n : ℕ) → states.UnderWay k m ≡ states.UnderWay l n → m ≡ n
 serial_of k l m n e = cc
 
-not_both : (b : Bool) → b ≡ true → b ≡ false → ⊥
+pub not_both : (b : Bool) → b ≡ true → b ≡ false → ⊥
 not_both b e f = let no : true ≡ false = sym e ∙ f in cc
 
-served_there : (node : NodeState) (place : ℕ) (i : IsServed node place) → served_login node place ≡ Some i.login
+pub served_there : (node : NodeState) (place : ℕ) (i : IsServed node place) → served_login node place ≡ Some i.login
 served_there node place i = ap (λ (l : Option Login). if_served (length node.units) l) i.is ∙ on_unit (nat_lt i.login.unit (length node.units)) (let u = i.on_unit in grind (arith, nat_tests))
   where
     on_unit : (x : Bool) → x ≡ true → cond x (Some i.login) None ≡ Some i.login

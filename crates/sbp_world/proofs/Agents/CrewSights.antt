@@ -44,7 +44,7 @@ seen_test l g t a e = by_case (nat_lt l g) refl
     by_case true f = let z : nat_eq g t ≡ false = grind (arith, nat_tests) in ap not z ∙ sym f
     by_case false f = let z : nat_eq g t ≡ true = grind (arith, nat_tests) in ap not z ∙ sym f
 
-flag_by : (b : Bool) (x y : Layer Purpose) → (cond {A = Bool × Layer Purpose} b (true, x) (false, y)).0 ≡ b
+pub flag_by : (b : Bool) (x y : Layer Purpose) → (cond {A = Bool × Layer Purpose} b (true, x) (false, y)).0 ≡ b
 flag_by true x y = refl
 flag_by false x y = refl
 

@@ -16,6 +16,7 @@ use Rattle.sbp_target.specs.Units.{cut_at, cut_from, is_cut}
 use Rattle.sbp_world.proofs.Agents.Follows.{Settled}
 use Rattle.sbp_world.proofs.Agents.Steps.{reset_any}
 use Rattle.sbp_world.proofs.Agents.Walk.{other_id, same_id}
+use Rattle.sbp_world.proofs.Agents.Management.Places.{next_below}
 
 -- a cut agent is settled with any one that is in RESET
 pub cut_settled : (m : Machine) (pointer : Option ℕ) (a : Agent) → a.pointer ≡ pointer → Settled (reset_step m) pointer (cut_agent a)
@@ -81,9 +82,6 @@ module _ (before : NodeState) where
   cut_other : (q : ℕ) (node : NodeState) → q < 8 → length node.desks ≡ 8 → (p : ℕ) → p ≢ q → (desk_at (cut_node q node) p).agent ≡ (desk_at node p).agent
   cut_other q node b s p n = ap (λ (d : Desk). d.agent) (one_cut q node b s p ∙ ap (λ (x : Bool). cond x (reset_desk (desk_at node q)) (desk_at node p)) (other_id p q n))
 
-  next_of : (p k : ℕ) → p < k + 1 → nat_eq p k ≡ false → p < k
-  next_of p k l e = grind (arith, nat_tests)
-
   not_of : (p k : ℕ) → nat_eq p k ≡ false → p ≢ k
   not_of p k e = grind (arith, nat_tests)
 
@@ -100,13 +98,13 @@ module _ (before : NodeState) where
     where
       kept_by : (x : Bool) (p : ℕ) → p < k + 1 → test p ≡ false → nat_eq p k ≡ x → IsKept (desk_at before p) (desk_at (cut_node k node) p)
       kept_by true p l f e = absurd (let clash : true ≡ false = sym t ∙ ap test (sym (place_is p k e)) ∙ f in cc)
-      kept_by false p l f e = kept_then (desk_at before p) (desk_at node p) (desk_at (cut_node k node) p) (off_cut k node b w.size p (not_of p k e)) (w.kept p (next_of p k l e) f)
+      kept_by false p l f e = kept_then (desk_at before p) (desk_at node p) (desk_at (cut_node k node) p) (off_cut k node b w.size p (not_of p k e)) (w.kept p (next_below p k l e) f)
 
       by : (x : Bool) (p : ℕ) → p < k + 1 → nat_eq p k ≡ x → (desk_at (cut_node k node) p).agent ≡ cond (test p) (reset_step (desk_at before p).agent) (desk_at before p).agent
       by true p l e =
           subst (λ (i : ℕ). (desk_at (cut_node k node) i).agent ≡ cond (test i) (reset_step (desk_at before i).agent) (desk_at before i).agent) (sym (place_is p k e))
           (cut_own k node b w.size ∙ ap reset_step (w.rest k (omega arith)) ∙ ap (λ (c : Bool). cond c (reset_step (desk_at before k).agent) (desk_at before k).agent) (sym t))
-      by false p l e = cut_other k node b w.size p (not_of p k e) ∙ w.agent p (next_of p k l e)
+      by false p l e = cut_other k node b w.size p (not_of p k e) ∙ w.agent p (next_below p k l e)
 
   sweep_skip : (test : ℕ → Bool) (k : ℕ) (node : NodeState) → test k ≡ false → Sweeps test k node → Sweeps test (k + 1) node
   sweep_skip test k node t w = record {
@@ -121,13 +119,13 @@ module _ (before : NodeState) where
     where
       kept_by : (x : Bool) (p : ℕ) → p < k + 1 → test p ≡ false → nat_eq p k ≡ x → IsKept (desk_at before p) (desk_at node p)
       kept_by true p l f e = let same : p ≡ k = place_is p k e in w.kept_rest p (omega arith)
-      kept_by false p l f e = w.kept p (next_of p k l e) f
+      kept_by false p l f e = w.kept p (next_below p k l e) f
 
       by : (x : Bool) (p : ℕ) → p < k + 1 → nat_eq p k ≡ x → (desk_at node p).agent ≡ cond (test p) (reset_step (desk_at before p).agent) (desk_at before p).agent
       by true p l e =
           subst (λ (i : ℕ). (desk_at node i).agent ≡ cond (test i) (reset_step (desk_at before i).agent) (desk_at before i).agent) (sym (place_is p k e))
           (w.rest k (omega arith) ∙ ap (λ (c : Bool). cond c (reset_step (desk_at before k).agent) (desk_at before k).agent) (sym t))
-      by false p l e = w.agent p (next_of p k l e)
+      by false p l e = w.agent p (next_below p k l e)
 
   abbrev Where : Option ℕ → ℕ → Bool
   Where unit p = is_cut unit (login_at before p)

@@ -22,7 +22,7 @@ record Leaves (d : Demand) (t now : Target) : Type 0 where
   agents : now.agents ≡ demanded d t.agents
   registers : now.enabled ≡ enabled_by d t.enabled
 
-none_some : (d : Demand) → Some d ≡ None → ⊥
+pub none_some : (d : Demand) → Some d ≡ None → ⊥
 none_some d e = cc
 
 -- a request that no start serves asks for nothing of an agent

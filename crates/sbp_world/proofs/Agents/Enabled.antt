@@ -3,6 +3,7 @@ use Rattle.std.proofs.Common.{arith, ◌≡◌, ◌∙◌, refl, sym, ap, subst,
 use Rattle.std.specs.Prelude.{slice_index_or}
 use Rattle.std.proofs.lemmas.Bool.Decides.{nat_tests}
 use Rattle.std.proofs.lemmas.List.{set_past}
+use Rattle.std.proofs.lemmas.Bool.{false≢true}
 use Rattle.async_packet.specs.Labels.{LabelParts}
 use Rattle.async_packet.specs.Packet.{Packet}
 use Rattle.label_table.specs.Bodies.{block_write}
@@ -37,9 +38,6 @@ use Rattle.sbp_target.specs.Sending.{request_step}
 use Rattle.sbp_target.specs.Serving.{accessed_by, answered, asked_in, point, pointed_by, ring, rung_by}
 use Rattle.sbp_target.specs.Units.{announce_at, announce_from, announce_in, announce_to, clear_from, clear_unit, cut_all, cut_at, cut_from, hears, is_cut, is_pending, unsolicited_by}
 use Rattle.sbp_target.proofs.Histories.Framed as framed
-
-no : false ≡ true → ⊥
-no e = cc
 
 -- each place whose register is enabled is one of these
 abbrev pub Enabled : (ℕ → Type 0) → NodeState → Type 0
@@ -107,7 +105,7 @@ module _ (Live : ℕ → Type 0) where
 
   -- ---- unsolicited statuses
   sent_out : (place peer : ℕ) (node : NodeState) (r : Option LabelParts × (Layer Purpose × OutboxState)) → Enabled Live node → Enabled Live (unsolicited_by place peer node r).node
-  sent_out place peer node (Some label, (layer, outbox)) h = set_enabled node place (record (desk_at node place) { is_enabled = false }) (λ g. absurd (no g)) h
+  sent_out place peer node (Some label, (layer, outbox)) h = set_enabled node place (record (desk_at node place) { is_enabled = false }) (λ g. absurd (false≢true g)) h
   sent_out place peer node (None, (layer, outbox)) h = h
 
   announces_to : (place : ℕ) (login : Login) (s : Scene) → Enabled Live s.node → Enabled Live (announce_to place login s).node

@@ -5,6 +5,7 @@ use Rattle.std.proofs.Math.ListN.{get_or-map}
 use Rattle.std.proofs.lemmas.Bool.Decides.{nat_tests}
 use Rattle.std.proofs.lemmas.Grind.{common_steps}
 use Rattle.std.proofs.lemmas.List.{set_past}
+use Rattle.std.proofs.lemmas.Bool.{false≢true}
 use Rattle.async_packet.specs.Labels.{LabelParts}
 use Rattle.async_packet.specs.Packet.{Packet, header_in}
 use Rattle.label_table.specs.declared.judgement.Asked.{Asked}
@@ -59,7 +60,7 @@ use Rattle.sbp_target.proofs.Histories.Primitives.{Known, closing_known, expirin
 use Rattle.sbp_target.proofs.Histories.Seats.{Lives}
 use Rattle.sbp_target.proofs.Histories.Settled.{all_good, reaches}
 use Rattle.sbp_world.specs.Agents.Management.Offices.{Office}
-use Rattle.sbp_world.proofs.Agents.Management.Calls.{barred_same}
+use Rattle.sbp_world.proofs.Agents.Management.Calls.{barred_same, from_self}
 use Rattle.sbp_world.proofs.Agents.Management.Calm as calm
 use Rattle.sbp_world.proofs.Agents.Management.Calm.{Calm, From}
 use Rattle.sbp_world.proofs.Agents.Management.Managing.{decision_stands}
@@ -71,9 +72,6 @@ use Rattle.sbp_world.proofs.Agents.Enabled.{Enabled, accesses_by, clears_from, c
 use Rattle.sbp_world.proofs.Agents.Hiring.{reply_hires}
 use Rattle.sbp_world.proofs.Agents.Serves.{ask_keeps, start_keeps}
 use Rattle.sbp_world.proofs.Agents.Sparing.{Spares, reply_spares}
-
-no : false ≡ true → ⊥
-no e = cc
 
 same_desks : (Live : ℕ → Type 0) (node now : NodeState) → now.desks ≡ node.desks → Enabled Live node → Enabled Live now
 same_desks Live node now e h = subst (λ (ds : List Desk). (place : ℕ) → (slice_index_or ds place new_desk).is_enabled ≡ true → Live place) (sym e) h
@@ -120,7 +118,7 @@ asks_kept logins source ask s k = record {
   logins_are = ask_logins source ask s ∙ k.logins_are;
 }
 
-start_logins : (source : ℕ) (p : Packet) (bytes : List ℕ) (r : Result Ask Busy × management.Machine) (s : Scene) → (target_started source p bytes r s).node.logins ≡ s.node.logins
+pub start_logins : (source : ℕ) (p : Packet) (bytes : List ℕ) (r : Result Ask Busy × management.Machine) (s : Scene) → (target_started source p bytes r s).node.logins ≡ s.node.logins
 start_logins source p bytes (Ok ask, m) s = ask_logins source ask (answered p bytes 0 [] (scene (record s.node { manager = m }) s.outbox))
 start_logins source p bytes (Err busy, m) s = refl
 
@@ -142,11 +140,11 @@ module _ (old t : Table) where
       by : (b : Bool) → nat_lt place (length node.desks) ≡ b → ⊥
       by true l =
           let below : place < length node.desks = grind (arith, nat_tests) in
-          no (ap (λ (c : Bool). (cond c d (desk_at node place)).is_enabled) (sym same) ∙ sym (ap (λ (x : Desk). x.is_enabled) (set_at node.desks place place d new_desk below)) ∙ e)
+          false≢true (ap (λ (c : Bool). (cond c d (desk_at node place)).is_enabled) (sym same) ∙ sym (ap (λ (x : Desk). x.is_enabled) (set_at node.desks place place d new_desk below)) ∙ e)
       by false l =
           let beyond : length node.desks ≤ place = grind (arith, nat_tests) in
           let none : slice_index_or node.desks place new_desk ≡ new_desk = grind (arith, common_steps) in
-          no (sym (ap (λ (x : Desk). x.is_enabled) none) ∙ sym (ap (λ (ds : List Desk). (slice_index_or ds place new_desk).is_enabled) (set_past node.desks place d beyond)) ∙ e)
+          false≢true (sym (ap (λ (x : Desk). x.is_enabled) none) ∙ sym (ap (λ (ds : List Desk). (slice_index_or ds place new_desk).is_enabled) (set_past node.desks place d beyond)) ∙ e)
 
   off : (node : NodeState) (place : ℕ) → ((p : ℕ) → p ≢ place → HasLive old.places p → HasLive t.places p) → Enabled (HasLive old.places) node → Enabled (HasLive t.places) (with_desk node place (record (desk_at node place) { is_enabled = false }))
   off node place f h p e = by (nat_eq p place) refl
@@ -156,13 +154,13 @@ module _ (old t : Table) where
           let same : p ≡ place = grind (arith, nat_tests) in
           absurd (off_at node place (subst (λ k. (desk_at (with_desk node place (record (desk_at node place) { is_enabled = false })) k).is_enabled ≡ true) same e))
       by false q =
-          let apart : p ≢ place = λ same. let yes : nat_eq p place ≡ true = grind (arith, nat_tests) in no (sym q ∙ yes) in
-          set_enabled (λ k. k ≢ place → HasLive t.places k) node place (record (desk_at node place) { is_enabled = false }) (λ g. absurd (no g)) (λ k g d. f k d (h k g)) p e apart
+          let apart : p ≢ place = λ same. let yes : nat_eq p place ≡ true = grind (arith, nat_tests) in false≢true (sym q ∙ yes) in
+          set_enabled (λ k. k ≢ place → HasLive t.places k) node place (record (desk_at node place) { is_enabled = false }) (λ g. absurd (false≢true g)) (λ k g d. f k d (h k g)) p e apart
 
   effect_keeps : (effect : Effect) (subject : ℕ) (s : Scene) → Spares effect old t → Enabled (HasLive old.places) s.node → Enabled (HasLive t.places) (effect_by effect subject s).node
   effect_keeps effects.Nothing subject s f h = widen s.node f h
   effect_keeps (effects.Entered place replaced) subject s f h =
-      set_enabled (HasLive t.places) s.node place (record (desk_at s.node place) { pointer = None; is_enabled = false }) (λ g. absurd (no g)) (widen s.node f.0 h)
+      set_enabled (HasLive t.places) s.node place (record (desk_at s.node place) { pointer = None; is_enabled = false }) (λ g. absurd (false≢true g)) (widen s.node f.0 h)
   effect_keeps (effects.Back place) subject s f h = widen s.node f h
   effect_keeps (effects.Left place) subject s f h =
       let c = cut_placed (place_in place) cuts.Logout s in
@@ -184,9 +182,6 @@ module _ (node : NodeState) (g : Good node) (h : AreLive node) where
 
   abbrev office : Office
   office = record { table = node.logins; keys = node.keys; manager = node.manager; manages = None; asks = Nothing; decided = None }
-
-  from_self : (layer : Layer Purpose) (lives : Lives) → Known layer lives → From lives layer
-  from_self layer lives k = record { lives = lives; known = k; before = λ p l kind e. e }
 
   from_same : (layer : Layer Purpose) → layer ≡ node.layer → From g.lives layer
   from_same layer same = from_self layer g.lives (subst (λ (l : Layer Purpose). Known l g.lives) (sym same) g.mid.known)
@@ -308,7 +303,7 @@ module _ (node : NodeState) (g : Good node) (h : AreLive node) where
   -- ---- a sight, and a second
   sight_by : (r : Bool × Layer Purpose) → AreLive (reset_by r (scene node empty_outbox)).1.node
   sight_by (false, layer) = h
-  sight_by (true, layer) = λ place e. absurd (no (sym (all_off _ place) ∙ e))
+  sight_by (true, layer) = λ place e. absurd (false≢true (sym (all_off _ place) ∙ e))
     where
       all_off : (ds : List Desk) (place : ℕ) → (slice_index_or (map disabled ds) place new_desk).is_enabled ≡ false
       all_off ds place = ap (λ (d : Desk). d.is_enabled) (get_or-map disabled ds place new_desk)
@@ -323,7 +318,7 @@ module _ (node : NodeState) (g : Good node) (h : AreLive node) where
       by : (left : Option ℕ) → login.remaining ≡ left → is_live login ≡ true → login_ticked (Some login) ≡ Some login
       by None q l =
           ap (λ (x : Option ℕ). cond (is_last x) None (Some (record login { remaining = one_less x }))) q ∙ ap (λ (x : Option ℕ). Some (record login { remaining = x })) (sym q)
-      by (Some seconds) q l = absurd (let x : is_live login ≡ false = rw q refl in no (sym x ∙ l))
+      by (Some seconds) q l = absurd (let x : is_live login ≡ false = rw q refl in false≢true (sym x ∙ l))
 
   second_live : AreLive (alone ticks node).node
   unfolding ticked
@@ -333,7 +328,7 @@ module _ (node : NodeState) (g : Good node) (h : AreLive node) where
 
 -- ---- after every list of calls
 none_enabled : (units ready : ℕ) → AreLive (new_node units ready)
-none_enabled units ready place e = absurd (no (sym (ap (λ (d : Desk). d.is_enabled) (all_new place)) ∙ e))
+none_enabled units ready place e = absurd (false≢true (sym (ap (λ (d : Desk). d.is_enabled) (all_new place)) ∙ e))
   where
     all_new : (place : ℕ) → slice_index_or (replicate 8 new_desk) place new_desk ≡ new_desk
     all_new place = grind (arith, common_steps)

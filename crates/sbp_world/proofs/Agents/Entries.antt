@@ -2,7 +2,6 @@
 use Rattle.std.proofs.Common.{arith, ◌≡◌, ◌∙◌, ◌⊎◌, refl, sym, ap, subst, inl, inr, ℕ, zero, suc, ◌+◌, ◌<◌, nat_eq, nat_lt, Bool, true, false, cond, List, [], ◌∷◌, length, Option, Some, None}
 use Rattle.std.specs.Prelude.{position, slice_index_or}
 use Rattle.std.specs.List.{position_or_len}
-use Rattle.std.proofs.lemmas.Bool.Decides.{nat_tests}
 use Rattle.std.proofs.lemmas.Grind.{get_or-set_at}
 use Rattle.std.proofs.lemmas.List.{get_or-set_other, length-set}
 use Rattle.std.proofs.lemmas.List.Quantifiers.{position-Some}
@@ -25,10 +24,9 @@ use Rattle.sbp_world.proofs.Wire.Alike.{sent_alike}
 use Rattle.sbp_world.specs.Agents.Crews.{Has, Request, with_request, with_requests}
 use Rattle.sbp_world.specs.Agents.Hands.{AllLeave}
 use Rattle.sbp_world.proofs.Agents.Serials.{Within, requests_within}
+use Rattle.sbp_world.proofs.Common.{equal_numbers, is_inside}
 
 -- ---- numbers
-equal_by : (a b : ℕ) → nat_eq a b ≡ true → a ≡ b
-equal_by a b e = grind arith
 
 differ_by : (a b : ℕ) → nat_eq a b ≡ false → a ≡ b → ⊥
 differ_by a b e f = let x : nat_eq a b ≡ true = grind arith in cc
@@ -37,14 +35,11 @@ other_by : (a b : ℕ) → (a ≡ b → ⊥) → nat_eq a b ≡ false
 other_by a b differs = by_test (nat_eq a b) refl
   where
     by_test : (x : Bool) → nat_eq a b ≡ x → nat_eq a b ≡ false
-    by_test true e = absurd (differs (equal_by a b e))
+    by_test true e = absurd (differs (equal_numbers a b e))
     by_test false e = e
 
 same_by : (a b : ℕ) → a ≡ b → nat_eq a b ≡ true
 same_by a b e = grind arith
-
-below_by : (a b : ℕ) → a < b → nat_lt a b ≡ true
-below_by a b l = grind (arith, nat_tests)
 
 -- ---- what is found by a serial
 -- a serial that stands at one place alone
@@ -54,7 +49,7 @@ found_at requests place inside apart =
     let here : position_or_len (nat_eq s) requests.serials ≡ place =
     position_or_len_is (nat_eq s) requests.serials place 0 (omega arith) (λ k l. other_by s (slice_index_or requests.serials k 0) (apart k l)) (λ l. same_by s s refl) in
     ap (request_at requests)
-    (ap (λ n. cond (nat_lt n (length requests.serials)) (Some n) None) here ∙ ap (λ b. cond b (Some place) None) (below_by place (length requests.serials) inside))
+    (ap (λ n. cond (nat_lt n (length requests.serials)) (Some n) None) here ∙ ap (λ b. cond b (Some place) None) (is_inside place (length requests.serials) inside))
 
 pub found_here : (requests : RequestsState) → length requests.serials ≡ 1600 → ((one two : ℕ) → 0 < slice_index_or requests.serials one 0 → slice_index_or requests.serials one 0 ≡ slice_index_or requests.serials two 0 → one ≡ two) → (place : ℕ) → place < 1600 → 0 < slice_index_or requests.serials place 0 → find requests (slice_index_or requests.serials place 0) ≡ slice_index_or requests.requests place None
 found_here requests size apart place small written =
@@ -72,7 +67,7 @@ found_positive requests blank serial request found = by (position (nat_eq serial
     by None e f = absurd (let x : None ≡ Some request = f in cc)
     by (Some place) e f =
         let p = position-Some (nat_eq serial) requests.serials place 0 e in
-        by_serial place serial refl (sym (equal_by serial (slice_index_or requests.serials place 0) p.1)) f
+        by_serial place serial refl (sym (equal_numbers serial (slice_index_or requests.serials place 0) p.1)) f
 
 -- ---- places
 pub record Sized (bus : RequestsState) : Type 0 where
@@ -166,7 +161,7 @@ module _ (serial to peer : ℕ) (requests : List Request) (old : RequestsState) 
     where
       by : (b : Bool) → nat_eq place (place_of 0 to label.number) ≡ b → Placed (fresh label ∷ requests) old (add_step serial to (request_of 0 peer label) old) place
       by true e =
-          let same = equal_by place (place_of 0 to label.number) e in
+          let same = equal_numbers place (place_of 0 to label.number) e in
           inr (subst (λ p. Written (fresh label ∷ requests) (add_step serial to (request_of 0 peer label) old) p) (sym same) (own_written label (subst (λ p. p < 1600) same small)))
       by false e = inl (other_stays serial to 0 peer label old place (differ_by place (place_of 0 to label.number) e))
 

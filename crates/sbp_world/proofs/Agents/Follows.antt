@@ -1,5 +1,6 @@
 -- What follows a step of an agent leaves its term as it leaves the agent.
 use Rattle.std.proofs.Common.{◌≡◌, ◌∙◌, refl, sym, ap, subst, ℕ, ◌<◌, ◌&&◌, ◌||◌, not, nat_lt, is_some, Bool, true, false, cond, List, Option, Some, None}
+use Rattle.std.proofs.lemmas.Bool.{false≢true, true≢false}
 use Rattle.label_table.specs.declared.judgement.Asked.{Asked}
 use Rattle.label_table.specs.Bodies.{Body}
 use Rattle.label_table.specs.Layer.{Layer, asking_step, free_labels}
@@ -34,19 +35,13 @@ use Rattle.sbp_world.proofs.Agents.Steps.{lost_alike}
 use Rattle.sbp_world.proofs.Agents.Walk.{Gone, Holds, IsOther, Left, Out, Told, dead_on, desk_set, holds_set, holds_still, main_leaves, main_none, notes_hold, notes_pair, notes_told, other_on, out_as, out_more, told_as, told_out}
 use Rattle.sbp_world.proofs.Agents.Writes.{HasBody, asked_writes, has_body, no_body}
 
-no : false ≡ true → ⊥
-no e = cc
-
-no_2 : true ≡ false → ⊥
-no_2 e = cc
-
 not_asked : (a : Ask) → is_asked a ≡ false → a ≡ Nothing
 not_asked Nothing e = refl
-not_asked (Read offset len) e = absurd (no_2 e)
-not_asked (Write offset len) e = absurd (no_2 e)
+not_asked (Read offset len) e = absurd (true≢false e)
+not_asked (Write offset len) e = absurd (true≢false e)
 
 asked_not : (a : Ask) → is_asked a ≡ true → is_nothing a ≡ false
-asked_not Nothing e = absurd (no e)
+asked_not Nothing e = absurd (false≢true e)
 asked_not (Read offset len) e = refl
 asked_not (Write offset len) e = refl
 
@@ -129,18 +124,18 @@ dead_alike : (u : Bool) (a m : Machine) → Alike u a m → Alike u (record a { 
 dead_alike u a m al = record {
   phase = refl;
   flag = al.flag;
-  ahead = λ e. absurd (no e);
-  doorbell = λ e. absurd (no e);
-  present = λ e. absurd (no e);
-  orb = λ e. absurd (no e);
-  aborted = λ e. absurd (no e);
-  payload = λ e. absurd (no e);
-  segments = λ e. absurd (no e);
-  written = λ e. absurd (no e);
-  size = λ e. absurd (no e);
-  answer = λ e. absurd (no e);
-  chunk = λ e. absurd (no e);
-  status = λ e. absurd (no e);
+  ahead = λ e. absurd (false≢true e);
+  doorbell = λ e. absurd (false≢true e);
+  present = λ e. absurd (false≢true e);
+  orb = λ e. absurd (false≢true e);
+  aborted = λ e. absurd (false≢true e);
+  payload = λ e. absurd (false≢true e);
+  segments = λ e. absurd (false≢true e);
+  written = λ e. absurd (false≢true e);
+  size = λ e. absurd (false≢true e);
+  answer = λ e. absurd (false≢true e);
+  chunk = λ e. absurd (false≢true e);
+  status = λ e. absurd (false≢true e);
 }
 
 abbrev is_last : Phase → Bool
@@ -148,22 +143,22 @@ is_last phases.WritingLastStatus = true
 is_last _ = false
 
 last_is : (p : Phase) → is_last p ≡ true → p ≡ phases.WritingLastStatus
-last_is phases.Reset e = absurd (no e)
-last_is phases.Suspended e = absurd (no e)
+last_is phases.Reset e = absurd (false≢true e)
+last_is phases.Suspended e = absurd (false≢true e)
 last_is phases.WritingLastStatus e = refl
-last_is phases.Dead e = absurd (no e)
-last_is phases.Fetching e = absurd (no e)
-last_is phases.ReadingTable e = absurd (no e)
-last_is (phases.ReadingData wanted) e = absurd (no e)
-last_is phases.Answering e = absurd (no e)
-last_is phases.WritingStatus e = absurd (no e)
-last_is phases.ReadingNext e = absurd (no e)
+last_is phases.Dead e = absurd (false≢true e)
+last_is phases.Fetching e = absurd (false≢true e)
+last_is phases.ReadingTable e = absurd (false≢true e)
+last_is (phases.ReadingData wanted) e = absurd (false≢true e)
+last_is phases.Answering e = absurd (false≢true e)
+last_is phases.WritingStatus e = absurd (false≢true e)
+last_is phases.ReadingNext e = absurd (false≢true e)
 
 label_by : (p : Phase) (m : Machine) → is_last p ≡ false → is_sent p ≡ true → (main_loss p m causes.Label).0.dead ≡ Some causes.Label
-label_by phases.Reset m e s = absurd (no s)
-label_by phases.Suspended m e s = absurd (no s)
-label_by phases.WritingLastStatus m e s = absurd (no_2 e)
-label_by phases.Dead m e s = absurd (no s)
+label_by phases.Reset m e s = absurd (false≢true s)
+label_by phases.Suspended m e s = absurd (false≢true s)
+label_by phases.WritingLastStatus m e s = absurd (true≢false e)
+label_by phases.Dead m e s = absurd (false≢true s)
 label_by phases.Fetching m e s = refl
 label_by phases.ReadingTable m e s = refl
 label_by (phases.ReadingData wanted) m e s = refl
@@ -208,7 +203,7 @@ module _ (requests : List Request) (q : ℕ) (b : q < 8) (before : NodeState) (f
   Dropped m s = scene (with_agent s.node q (record m { phase = phases.Dead })) s.outbox
 
   falls_is : (x : Bool) (m : Machine) (s : Scene) → x ≡ true → m.phase ≡ phases.WritingLastStatus → (desk_at s.node q).agent ≡ m → lost_by x q login Main s ≡ (true, Dropped m s)
-  falls_is false m s e p h = absurd (no e)
+  falls_is false m s e p h = absurd (false≢true e)
   falls_is true m s e p h =
       let is : lost_step (desk_at s.node q).agent Main causes.Label ≡ (quiet, record m { phase = phases.Dead })
       = ap (λ (x : Machine). lost_step x Main causes.Label) h ∙ last_loses m causes.Label p in
@@ -287,7 +282,7 @@ module _ (requests : List Request) (q : ℕ) (b : q < 8) (before : NodeState) (f
           asks_ahead = none;
         });
         paired = λ last. paired_as (with_requests last s.outbox.packets requests) (desk_at s.node q) (agent_over (c last)) (c last) (over_idle (c last) refl none) (g.paired last);
-        calm = λ c. absurd (no_2 (sym asked ∙ quiet_if c));
+        calm = λ c. absurd (true≢false (sym asked ∙ quiet_if c));
       }
   block_leaves Calm l had lost a st quiet_if asked (false, s) g = (
     record {
@@ -302,7 +297,7 @@ module _ (requests : List Request) (q : ℕ) (b : q < 8) (before : NodeState) (f
       told = g.told;
       holds = g.holds;
     },
-    λ c. no_2 (sym asked ∙ quiet_if c),
+    λ c. true≢false (sym asked ∙ quiet_if c),
   )
 
   block_by : (x : Bool) (Calm : Type 0) (l : AgentStep × Machine) (had : Bool) (lost : Lost had l) (a : Agent) (st : Stepped false l.0 l.1 pointer a) → (Calm → is_asked l.0.ask ≡ false) → is_asked l.0.ask ≡ x → (s : Scene) → Told first a s.outbox → Holds q before l.1 s.node → Paired requests (desk_at s.node q) a → Lands Calm (ask_main q login l.0 s)
@@ -350,7 +345,7 @@ module _ (requests : List Request) (q : ℕ) (b : q < 8) (before : NodeState) (f
   lost_told dead a o e t = subst (λ (x : Option FailCause). Told first (dead_on x a) o) e t
 
   dies_then : (x : Bool) (Calm : Type 0) (m : Machine) (a : Agent) (s : Scene) → is_last m.phase ≡ false → x ≡ true → is_sent m.phase ≡ true → Fit m → is_asked a.asks ≡ true → is_some a.main ≡ false → a.pointer ≡ pointer → Alike a.untold a.machine m → (Calm → m.phase ≡ phases.WritingStatus) → Told first a s.outbox → Holds q before m s.node → Lands Calm (lost_by x q login Main s)
-  dies_then false Calm m a s y e sent f k n o al c t h = absurd (no e)
+  dies_then false Calm m a s y e sent f k n o al c t h = absurd (false≢true e)
   dies_then true Calm m a s y e sent f k n o al c t h =
       let l = lost_step m Main causes.Label in
       let lost = main_loses m causes.Label sent f in
@@ -446,7 +441,7 @@ module _ (requests : List Request) (q : ℕ) (b : q < 8) (before : NodeState) (f
 
   -- it found no label
   lost_ahead_by : (x : Bool) (Calm : Type 0) (m : Machine) (now : ℕ → Agent) (s : Scene) → x ≡ true → Fit m → is_ahead m.ahead ≡ true → ((last : ℕ) → (now last).asks ≡ Nothing) → ((last : ℕ) → is_asked (now last).asks_ahead ≡ true) → ((last : ℕ) → wants (now last).asks_ahead true ≡ false) → ((last : ℕ) → is_some (now last).main ≡ is_sent m.phase) → ((last : ℕ) → is_some (now last).ahead ≡ false) → ((last : ℕ) → (now last).pointer ≡ pointer) → ((last : ℕ) → Alike (now last).untold (now last).machine m) → Out first now s.outbox → Holds q before m s.node → AllPaired now s → Done requests q before first pointer Calm (lost_by x q login Ahead s).1
-  lost_ahead_by false Calm m now s e f u i k w n z o al t h p = absurd (no e)
+  lost_ahead_by false Calm m now s e f u i k w n z o al t h p = absurd (false≢true e)
   lost_ahead_by true Calm m now s e f u i k w n z o al t h p =
       let l = lost_step m Ahead causes.Label in
       let over = ahead_loses m causes.Label u f in
@@ -553,7 +548,7 @@ module _ (requests : List Request) (q : ℕ) (b : q < 8) (before : NodeState) (f
     main_done : (r : Bool × Scene) → (Calm → m.phase ≡ phases.WritingStatus) → is_asked step.ask ≡ true → Left requests q b before first m a r → Done requests q before first pointer Calm (after_main q login step r)
     main_done (true, s) c asked g = gone_done (is_asked step.ahead) s asked refl g
     main_done (false, s) c asked g =
-        let unturned : step.promoted ≡ false = never step.promoted (λ e. no_2 (sym asked ∙ (behind.turns e).1)) in
+        let unturned : step.promoted ≡ false = never step.promoted (λ e. true≢false (sym asked ∙ (behind.turns e).1)) in
         main_lands (is_last m.phase) Calm m a s refl (sym (sent_phase asked)) behind.fit (ap is_asked st.asks ∙ asked) (st.main ∙ unturned) st.pointer_is st.machine c g.told g.holds
       where
         never : (x : Bool) → (x ≡ true → ⊥) → x ≡ false
@@ -562,7 +557,7 @@ module _ (requests : List Request) (q : ℕ) (b : q < 8) (before : NodeState) (f
 
     idle_done : (u : Scene) → is_asked step.ask ≡ false → Told first a u.outbox → Holds q before m u.node → Paired requests (desk_at u.node q) a → Done requests q before first pointer Calm (after_main q login step (ask_main q login step u))
     idle_done u asked t h p =
-        let unahead : is_asked step.ahead ≡ false = never (is_asked step.ahead) (λ e. no (sym asked ∙ (behind.alone e).2)) in
+        let unahead : is_asked step.ahead ≡ false = never (is_asked step.ahead) (λ e. false≢true (sym asked ∙ (behind.alone e).2)) in
         let idle : a.asks ≡ Nothing = st.asks ∙ not_asked step.ask asked in
         let none : a.asks_ahead ≡ Nothing = st.asks_ahead ∙ not_asked step.ahead unahead in
         subst (λ (r : Bool × Scene). Done requests q before first pointer Calm (after_main q login step r)) (sym (main_none requests q b before first login step u asked))

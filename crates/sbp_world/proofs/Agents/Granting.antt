@@ -1,6 +1,7 @@
 -- What a decision of the management agent says, by its function, its status and its effect: a reconnect at status 00 takes a login back, and nothing
 -- else does; and a login at status 00 is to a unit whose number has 8 bits.
 use Rattle.std.proofs.Common.{arith, ◌≡◌, ◌∙◌, refl, sym, ap, subst, ℕ, ◌+◌, ◌*◌, ◌^◌, ◌<◌, ◌==◌, ◌&&◌, not, nat_eq, nat_lt, Bool, true, false, cond, List, length, Option, Some, None, Result, Ok, Err}
+use Rattle.std.proofs.lemmas.Bool.{false≢true}
 use Rattle.sbp_base.specs.Quadlets.{quad}
 use Rattle.login_table.specs.declared.login.Entered.{Entered}
 use Rattle.login_table.specs.declared.login.Login.{Login}
@@ -40,9 +41,6 @@ pub record Grants (word : FunctionWord) (status subject : ℕ) (effect : Effect)
   pub reconnects : word ≡ words.Reconnect → nat_eq status 0 ≡ true → IsBack effect
   pub unit : word ≡ words.Login → nat_eq status 0 ≡ true → subject < 256
 
-no : false ≡ true → ⊥
-no e = cc
-
 -- ---- the words of the functions
 abbrev IsNeither : FunctionWord → Type 0
 IsNeither words.Login = ⊥
@@ -81,7 +79,7 @@ module _ (subject : ℕ) where
 
   -- a status that is not 00
   fails : (word : FunctionWord) (status : ℕ) → nat_eq status 0 ≡ false → Grants word status subject effects.Nothing
-  fails word status e = record { back = λ b. absurd b; reconnects = λ w s. absurd (no (sym e ∙ s)); unit = λ w s. absurd (no (sym e ∙ s)) }
+  fails word status e = record { back = λ b. absurd b; reconnects = λ w s. absurd (false≢true (sym e ∙ s)); unit = λ w s. absurd (false≢true (sym e ∙ s)) }
 
   neither : (word : FunctionWord) (status : ℕ) (effect : Effect) → IsNeither word → (IsBack effect → ⊥) → Grants word status subject effect
   neither word status effect n b = record { back = λ x. absurd (b x); reconnects = λ w s. absurd (neither_reconnect word n w); unit = λ w s. absurd (neither_login word n w) }
@@ -123,8 +121,8 @@ unit_small unit keys e = by (nat_lt unit (length keys)) (nat_lt unit 256) refl e
   where
     by : (a b : Bool) → nat_lt unit 256 ≡ b → (a && b) ≡ true → unit < 256
     by true true f g = grind arith
-    by true false f g = absurd (no g)
-    by false b f g = absurd (no g)
+    by true false f g = absurd (false≢true g)
+    by false b f g = absurd (false≢true g)
 
 module _ (orb : ManagementOrb) (source eui : ℕ) (t : Table) (keys : List (List ℕ)) where
   abbrev Grant : FunctionWord → Outcome × Table → Type 0

@@ -1,6 +1,7 @@
 -- What a serial is for, by the terms, is what its transaction is under way for at the target.
 use Rattle.std.proofs.Common.{arith, ◌≡◌, ◌∙◌, refl, sym, ap, subst, inl, inr, ℕ, zero, suc, ◌+◌, ◌<◌, ◌⊎◌, nat_eq, is_some, Bool, true, false, cond, List, [], ◌∷◌, length, Option, Some, None}
 use Rattle.std.proofs.lemmas.Bool.Decides.{nat_tests}
+use Rattle.std.proofs.lemmas.Bool.{false≢true}
 use Rattle.bus_transactions.specs.Wire.{transaction}
 use Rattle.bus_transactions.proofs.Reaches.{goes_on}
 use Rattle.command_agent.specs.declared.step.Which.{Which}
@@ -37,9 +38,6 @@ use Rattle.sbp_world.specs.Agents.Purposes.{HasRequest}
 use Rattle.sbp_world.specs.Agents.Serials.{AreHandedAt, AreKnown, IsForAgent, IsHanded}
 use Rattle.sbp_world.proofs.Agents.Purposes.{g, has_request, label_generation, law, operation_by, state_is}
 
-no : false ≡ true → ⊥
-no e = cc
-
 -- ---- which agent waits for a serial
 record Neither (a : Agent) (serial : ℕ) : Type 0 where
   main : is_serial a.main serial ≡ false
@@ -75,7 +73,7 @@ among_at k (a ∷ agents) (suc i) serial which l n e =
     ∙ ap (λ m. for_agent m which) same
 
 pub is_its_serial : (x : Option ℕ) (serial : ℕ) → is_serial x serial ≡ true → x ≡ Some serial
-is_its_serial None serial e = absurd (no e)
+is_its_serial None serial e = absurd (false≢true e)
 is_its_serial (Some s) serial e = let same : s ≡ serial = grind (arith, nat_tests) in ap Some same
 
 is_that_serial : (x : Option ℕ) (s serial : ℕ) → x ≡ Some s → s ≡ serial → is_serial x serial ≡ true
@@ -86,7 +84,7 @@ pub record There (x : Option Sent) : Type 0 where
   pub is : x ≡ Some sent
 
 pub there : (x : Option Sent) → is_some x ≡ true → There x
-there None e = absurd (no e)
+there None e = absurd (false≢true e)
 there (Some sent) e = record { sent = sent; is = refl }
 
 record Number (x : Option ℕ) : Type 0 where
@@ -94,7 +92,7 @@ record Number (x : Option ℕ) : Type 0 where
   is : x ≡ Some number
 
 number_there : (x : Option ℕ) → is_some x ≡ true → Number x
-number_there None e = absurd (no e)
+number_there None e = absurd (false≢true e)
 number_there (Some number) e = record { number = number; is = refl }
 
 module _ (units ready : ℕ) (has : 0 < units) (start : List Disk) {past : List Moment} {lines : ℕ} (w : WorldState) (h : Holding units ready start past lines w) where
@@ -289,7 +287,7 @@ module _ (units ready : ℕ) (has : 0 < units) (start : List Disk) {past : List 
             is_that_serial (agent_in T.agents place).ahead n.number serial n.is (kept_serial place m.sent n.number (own_ahead place b m.sent m.is n.number n.is) m.peer_is m.number_is)
 
         by_that : is_serial (agent_in T.agents place).main serial ≡ false → (IsThat (desk_at w.target place).main (ids peer) number ⊎ IsThat (desk_at w.target place).ahead (ids peer) number) → IsForAgent T w.target place (ids peer) number serial
-        by_that e (inl m) = absurd (no (sym e ∙ main_that m))
+        by_that e (inl m) = absurd (false≢true (sym e ∙ main_that m))
         by_that e (inr m) = record { which = Ahead; is = waits_as Ahead (e, ahead_that m); kept = m }
 
         by_test : (x : Bool) → is_serial (agent_in T.agents place).main serial ≡ x → IsForAgent T w.target place (ids peer) number serial

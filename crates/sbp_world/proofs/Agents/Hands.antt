@@ -1,9 +1,8 @@
 -- What the target hands out, and the agents of the terms.
-use Rattle.std.proofs.Common.{◌≡◌, ◌∙◌, refl, sym, ap, subst, ℕ, ◌+◌, ◌<◌, Bool, true, false, cond, List, [], ◌∷◌, ◌++◌, length, map, Option, Some, None}
+use Rattle.std.proofs.Common.{◌≡◌, ◌∙◌, refl, sym, ap, subst, ℕ, ◌+◌, ◌<◌, Bool, false, List, [], ◌∷◌, ◌++◌, length, map, Option, Some, None}
 use Rattle.std.specs.Prelude.{position}
 use Rattle.async_packet.specs.Labels.{LabelParts}
 use Rattle.label_table.specs.Requests.{is_write}
-use Rattle.orb_layout.specs.declared.ask.Ask.TheVariants.{Nothing}
 use Rattle.orb_layout.specs.declared.ask.FailCause.{FailCause}
 use Rattle.orb_layout.specs.declared.ask.FailCause.TheVariants as causes
 use Rattle.packet_store.specs.Stored.{Stored}
@@ -20,7 +19,7 @@ use Rattle.sbp_journal.specs.declared.outbox.Outgoing.{Outgoing}
 use Rattle.sbp_journal.specs.declared.side.Side.{Side}
 use Rattle.sbp_journal.specs.declared.side.Side.TheVariants as sides
 use Rattle.sbp_laws.specs.Packets.{access_in_bytes}
-use Rattle.sbp_laws.specs.Targets.{Agent, Reply, Target, initiator_at, is_own_run, is_write_access, known_at, main_lost, over, plain_for, ran_on, sent_as, sent_for, taken_on, target_at, wants, wants_it}
+use Rattle.sbp_laws.specs.Targets.{Agent, Reply, Target, initiator_at, is_own_run, is_write_access, known_at, main_lost, over, plain_for, ran_on, sent_as, sent_for, taken_on, target_at, wants_it}
 use Rattle.sbp_laws.proofs.Going.{going_rests, own_run, run_rests, taken_rests, taken_still}
 use Rattle.sbp_world.specs.Sending.{asked, posted, sent, sent_all, sent_to}
 use Rattle.sbp_world.specs.Telling.{holder, initiator_of, ticket_at, told, told_all}
@@ -34,6 +33,7 @@ use Rattle.sbp_world.specs.Agents.Crews.{answered, crew_over, crew_packet, crew_
 use Rattle.sbp_world.specs.Agents.Hands.{AllLeave, AreTold, HandsLaw, IsOfStep, IsPart, IsRunOf, Leaves, MayResume, resumed}
 use Rattle.sbp_world.specs.Agents.Notes.{IsBehind, by_note}
 use Rattle.sbp_world.proofs.Agents.Notes.{notes_law, sends_for}
+use Rattle.sbp_world.proofs.Lists.MainAnswers.{sends_for as sends_reply}
 
 -- what is told is told behind a first note
 pub all_told : (told : List Side) → AreTold told → AllBehind told
@@ -133,14 +133,6 @@ module _ (start : List Disk) (past : List Moment) where
       }
 
   -- ---- a packet leaves
-
-  sends_reply : (place : Option ℕ) (writes : Bool) (serial : ℕ) (t : Target) → (sent_for place writes serial t).reply ≡ t.reply
-  sends_reply (Some place) writes serial t = refl
-  sends_reply None writes serial t = by (wants t.manager_asks writes)
-    where
-      by : (b : Bool) → (cond b (record t { manages = Some serial; manager_asks = Nothing }) (record t { pushes = serial ∷ t.pushes })).reply ≡ t.reply
-      by true = refl
-      by false = refl
 
   part_crew : (label : Option LabelParts) (bytes : List ℕ) (serial : ℕ) (t : Target) → IsPart label bytes → t.reply ≡ None → Crew (sent_as (part_of bytes) (is_write_access (access_in_bytes bytes)) serial t) (crew_packet label (is_write bytes) serial t.agents)
   part_crew None bytes serial t p e =

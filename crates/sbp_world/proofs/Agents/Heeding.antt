@@ -5,6 +5,7 @@ use Rattle.std.specs.Prelude.{slice_index_or}
 use Rattle.std.proofs.lemmas.Bool.Decides.{nat_tests}
 use Rattle.std.proofs.lemmas.Grind.{common_steps}
 use Rattle.std.proofs.lemmas.List.{set_past}
+use Rattle.std.proofs.lemmas.Bool.{false≢true}
 use Rattle.async_packet.specs.Labels.{LabelParts}
 use Rattle.async_packet.specs.Packet.{Packet, header_in}
 use Rattle.label_table.specs.declared.judgement.Asked.{Asked}
@@ -36,7 +37,6 @@ use Rattle.sbp_journal.specs.declared.side.Side.TheVariants as sides
 use Rattle.sbp_journal.specs.Outgoings.{OutboxState, empty_outbox}
 use Rattle.target_base.specs.declared.address.Access.{Access}
 use Rattle.target_base.specs.declared.address.Access.TheVariants as accesses
-use Rattle.target_base.specs.Logins.{if_served}
 use Rattle.sbp_target.specs.declared.desk.Desk.{Desk}
 use Rattle.sbp_target.specs.declared.purpose.Purpose.{Purpose}
 use Rattle.sbp_target.specs.declared.purpose.Purpose.TheVariants as purposes
@@ -51,9 +51,7 @@ use Rattle.sbp_target.specs.Serving.{accessed_by, answered, asked_in, enabled, p
 use Rattle.sbp_target.specs.Telling.{orb_of, tell_dead, tell_ended, tell_ran, tell_step}
 use Rattle.sbp_target.specs.Units.{announce_at, announce_from, announce_in, announce_to, clear_from, clear_unit, cut_all, cut_at, cut_from, hears, is_cut, is_pending, unsolicited_by}
 use Rattle.sbp_world.proofs.Agents.Loads.{came_not, came_there}
-
-no : false ≡ true → ⊥
-no e = cc
+use Rattle.sbp_world.proofs.Agents.AskedReplies.{served_is}
 
 none_loads : (ran : Option Outcome) (cdb payload : List ℕ) (place : ℕ) (plain : PlainDisk) → came plain.medium (left_by ran cdb payload place plain).medium ≡ true → is_some ran ≡ true
 none_loads None cdb payload place plain e = absurd (came_not plain.medium e)
@@ -88,7 +86,7 @@ desk_at_set node place d other f = by (nat_lt place (length node.desks)) refl
 
 pub register_off : (node : NodeState) (place : ℕ) (d : Desk) → d.is_enabled ≡ false → (other : ℕ) → (desk_at (with_desk node place d) other).is_enabled ≡ cond (nat_eq other place) false (desk_at node other).is_enabled
 register_off node place d e other =
-    desk_at_set node place d other (λ f. absurd (no (sym e ∙ f))) ∙ ap (λ b. cond (nat_eq other place) b (desk_at node other).is_enabled) e
+    desk_at_set node place d other (λ f. absurd (false≢true (sym e ∙ f))) ∙ ap (λ b. cond (nat_eq other place) b (desk_at node other).is_enabled) e
 
 -- the registers of two nodes are the same
 pub record SameRegisters (node now : NodeState) : Type 0 where
@@ -109,7 +107,7 @@ desk_same node place d e = record { each = λ other. desk_at_set node place d ot
     inside_by false l f =
         let past : length node.desks ≤ place = grind (arith, nat_tests) in
         let none : slice_index_or node.desks place new_desk ≡ new_desk = grind (arith, common_steps) in
-        absurd (no (sym (ap (λ (x : Desk). x.is_enabled) none) ∙ f))
+        absurd (false≢true (sym (ap (λ (x : Desk). x.is_enabled) none) ∙ f))
 
     inside : d.is_enabled ≡ true → place < length node.desks
     inside f = inside_by (nat_lt place (length node.desks)) refl (sym e ∙ f)
@@ -185,7 +183,7 @@ module _ (q unit : ℕ) (places : List (Option Login)) (before : ℕ → Bool) w
   C ran s = Heeds q unit places before ran s
 
   weaken : (ran : Bool) (s : Scene) → C ran s → C false s
-  weaken ran s h = record { registers = h.registers; heard = h.heard; has_run = λ e. absurd (no e); logins = h.logins }
+  weaken ran s h = record { registers = h.registers; heard = h.heard; has_run = λ e. absurd (false≢true e); logins = h.logins }
 
   -- a run is told
   runs : (orb : ℕ) (cdb payload : List ℕ) (outcome : Outcome) (s : Scene) → C false s → C true (scene s.node (with_side s.outbox (sides.Ran q orb cdb payload outcome)))
@@ -417,8 +415,8 @@ module _ (q unit : ℕ) (places : List (Option Login)) (before : ℕ → Bool) w
 
   heard_parts : (a b c d : Bool) → (a && (b && (not c && d))) ≡ true → (a ≡ true) × (b ≡ true)
   heard_parts true true c d e = (refl, refl)
-  heard_parts true false c d e = absurd (no e)
-  heard_parts false b c d e = absurd (no e)
+  heard_parts true false c d e = absurd (false≢true e)
+  heard_parts false b c d e = absurd (false≢true e)
 
   announces_in : (from place : ℕ) (login : Option Login) (s : Scene) → place_at places place ≡ login → C true s → C true (announce_in unit from place login s)
   announces_in from place None s e h = h
@@ -447,7 +445,7 @@ module _ (q unit : ℕ) (places : List (Option Login)) (before : ℕ → Bool) w
 
   -- a step that tells of a run
   runs_noted : (x : Option Outcome) (step : AgentStep) (s : Scene) → step.ran ≡ x → is_some x ≡ true → C false s → C true (noted q step s)
-  runs_noted None step s e f h = absurd (no f)
+  runs_noted None step s e f h = absurd (false≢true f)
   runs_noted (Some outcome) step s e f h =
       let m = (desk_at s.node q).agent in
       behind_run true step s (subst (λ y. C true (scene s.node (tell_ran q m y s.outbox))) (sym e) (runs (orb_of m) m.orb.cdb m.payload outcome s h))
@@ -497,14 +495,6 @@ module _ (q unit : ℕ) (places : List (Option Login)) (before : ℕ → Bool) w
       advances_with login (replied told q login.unit which answer s) w (f login refl) (λ e. stages_run told login.unit which answer s e) (stages told login.unit which answer s w.outbox h)
   replies_by told answer None which w f h = h
   replies_by told answer (Some login) None w f h = h
-
-  served_is : (units : ℕ) (x : Option Login) (login : Login) → if_served units x ≡ Some login → x ≡ Some login
-  served_is units None login e = e
-  served_is units (Some own) login e = by (nat_lt own.unit units) e
-    where
-      by : (b : Bool) → cond b (Some own) None ≡ Some login → Some own ≡ Some login
-      by true f = f
-      by false f = absurd (let x : None ≡ Some login = f in cc)
 
   pub replies : (told : Option Told) (peer : ℕ) (label : LabelParts) (answer : Answer) (w : Whole) → ((x : Login) → login_at w.node q ≡ Some x → x.unit ≡ unit) → C false (scene_of w) → C false (scene_of (replied_to told q peer label answer w))
   unfolding replied_to
@@ -560,7 +550,7 @@ module _ (q unit : ℕ) (places : List (Option Login)) (before : ℕ → Bool) w
   accesses_by accesses.Enable request bytes s o h = absurd o
 
   pub begins : (node : NodeState) → ((place : ℕ) → (desk_at node place).is_enabled ≡ before place) → node.logins.places ≡ places → C false (scene node empty_outbox)
-  begins node r l = record { registers = r; heard = tt; has_run = λ e. absurd (no e); logins = l }
+  begins node r l = record { registers = r; heard = tt; has_run = λ e. absurd (false≢true e); logins = l }
 
 -- the register of an agent is enabled
 pub enables : (node : NodeState) (place : ℕ) → place < length node.desks → (other : ℕ) → (desk_at (with_desk node place (record (desk_at node place) { is_enabled = true })) other).is_enabled ≡ cond (nat_eq other place) true (desk_at node other).is_enabled

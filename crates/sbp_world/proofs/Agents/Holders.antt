@@ -3,6 +3,7 @@ use Rattle.std.proofs.Common.{arith, ◌≡◌, ◌≢◌, ◌∙◌, refl, sym,
 use Rattle.std.specs.Prelude.{unwrap_or}
 use Rattle.std.proofs.lemmas.Bool.Decides.{nat_tests}
 use Rattle.std.proofs.lemmas.List.{get_or-replicate}
+use Rattle.std.proofs.lemmas.Bool.{false≢true}
 use Rattle.login_table.specs.declared.login.Login.{Login}
 use Rattle.login_table.specs.Sound.{IsSound}
 use Rattle.login_table.specs.Table.{Table, find, is_live, is_of_node, place_at}
@@ -43,9 +44,6 @@ use Rattle.sbp_world.proofs.Agents.Seats.{Seats, of_peer}
 use Rattle.sbp_world.proofs.Agents.Seating.{all_seats, line_seats, opened}
 use Rattle.sbp_world.proofs.Agents.Telling.{Of}
 
-no : false ≡ true → ⊥
-no e = cc
-
 -- ---- the initiator of an ID by the terms: no other has it
 pub finds : (more k i : ℕ) (t : Terms) (id : ℕ) → ((m : ℕ) → id_for t 0 (m + 1) ≡ id → m ≡ i) → id_for t 0 (i + 1) ≡ id → k ≤ i → i < k + more → initiator_from more k t id ≡ i
 finds zero k i t id alone is l m = absurd (omega (arith, l, m))
@@ -53,7 +51,7 @@ finds (suc more) k i t id alone is l m = by (nat_eq (id_for t 0 (k + 1)) id) ref
   where
     by : (b : Bool) → nat_eq (id_for t 0 (k + 1)) id ≡ b → (k < i → initiator_from more (k + 1) t id ≡ i) → cond b k (initiator_from more (k + 1) t id) ≡ i
     by true e rest = alone k (grind (arith, nat_tests))
-    by false e rest = rest (below k i l (λ same. no (sym e ∙ there (subst (λ x. id_for t 0 (x + 1) ≡ id) (sym same) is))))
+    by false e rest = rest (below k i l (λ same. false≢true (sym e ∙ there (subst (λ x. id_for t 0 (x + 1) ≡ id) (sym same) is))))
       where
         there : id_for t 0 (k + 1) ≡ id → nat_eq (id_for t 0 (k + 1)) id ≡ true
         there f = grind (arith, nat_tests)
@@ -76,9 +74,9 @@ passes unit node login e = by (is_live login) (nat_eq login.unit unit) (nat_eq l
   where
     by : (a b c : Bool) → is_live login ≡ a → nat_eq login.unit unit ≡ b → nat_eq login.node node ≡ c → (a && b && c) ≡ true → Passes unit node login
     by true true true p q r f = record { live = p; unit_is = grind (arith, nat_tests); node_is = grind (arith, nat_tests) }
-    by true true false p q r f = absurd (no f)
-    by true false c p q r f = absurd (no f)
-    by false b c p q r f = absurd (no f)
+    by true true false p q r f = absurd (false≢true f)
+    by true false c p q r f = absurd (false≢true f)
+    by false b c p q r f = absurd (false≢true f)
 
 fulfils : (unit node : ℕ) (login : Login) → is_live login ≡ true → login.unit ≡ unit → login.node ≡ node → is_of_node unit node login ≡ true
 fulfils unit node login live u n =
@@ -91,7 +89,7 @@ finds_place : (places : List (Option Login)) → IsSound places → (place : ℕ
 finds_place places sound place login there live = by (find (is_of_node login.unit login.node) places) refl
   where
     by : (found : Option ℕ) → find (is_of_node login.unit login.node) places ≡ found → found ≡ Some place
-    by None e = absurd (no (sym (not_found (is_of_node login.unit login.node) places place login there e) ∙ fulfils login.unit login.node login live refl refl))
+    by None e = absurd (false≢true (sym (not_found (is_of_node login.unit login.node) places place login there e) ∙ fulfils login.unit login.node login live refl refl))
     by (Some k) e =
         let f = login_found (is_of_node login.unit login.node) places k e in
         let p = passes login.unit login.node f.login f.passes in
@@ -100,7 +98,7 @@ finds_place places sound place login there live = by (find (is_of_node login.uni
         by_place : (b : Bool) → nat_eq k place ≡ b → (other : Login) → place_at places k ≡ Some other → Passes login.unit login.node other → Some k ≡ Some place
         by_place true q other stands p = ap Some (let same : k ≡ place = grind (arith, nat_tests) in same)
         by_place false q other stands p =
-            let apart : k ≢ place = λ same. let yes : nat_eq k place ≡ true = grind (arith, nat_tests) in no (sym q ∙ yes) in
+            let apart : k ≢ place = λ same. let yes : nat_eq k place ≡ true = grind (arith, nat_tests) in false≢true (sym q ∙ yes) in
             absurd ((sound.apart k place other login apart stands there).nodes p.unit_is p.live live p.node_is)
 
 -- ---- at a place of a history

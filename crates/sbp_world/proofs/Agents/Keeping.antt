@@ -36,7 +36,7 @@ use Rattle.sbp_target.proofs.Histories.Settled.{all_good, reaches}
 use Rattle.sbp_world.specs.Agents.Management.Offices.{Agrees, Office}
 use Rattle.sbp_world.specs.Agents.Management.Offices as office
 use Rattle.sbp_world.specs.Agents.Management.Calls as management
-use Rattle.sbp_world.proofs.Agents.Management.Calls.{barred_same, forgets_if}
+use Rattle.sbp_world.proofs.Agents.Management.Calls.{barred_same, forgets_if, from_self}
 use Rattle.sbp_world.proofs.Agents.Management.Calm.{Calm, From, expires_agent, replies}
 use Rattle.sbp_world.specs.Agents.Calls.{AgentsLaw, AreOf, delivered, lapsed, requested}
 use Rattle.sbp_world.specs.Agents.Crews.{Request, ToldAlike}
@@ -59,9 +59,6 @@ given_in (write_block header offset payload) = tt
 given_in (read_quadlet header offset) = tt
 given_in (read_block header offset asked) = tt
 given_in (lock header offset extended payload) = tt
-
-from_self : (layer : Layer Purpose) (lives : Lives) → Known layer lives → From lives layer
-from_self layer lives k = record { lives = lives; known = k; before = λ p l kind h. h }
 
 module _ {requests : List Request} (node : NodeState) (g : Good node) (o : Office) (a : Agrees o node) (agents : List Agent) (is : AreOf requests agents node) where
   from_same : (layer : Layer Purpose) → layer ≡ node.layer → From g.lives layer

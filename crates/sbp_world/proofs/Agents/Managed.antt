@@ -3,6 +3,7 @@ use Rattle.std.proofs.Common.{arith, ◌≡◌, ◌≢◌, ◌∙◌, refl, sym,
 use Rattle.std.specs.Prelude.{slice_set}
 use Rattle.std.proofs.Math.ListN.{length-set}
 use Rattle.std.proofs.lemmas.Bool.Decides.{nat_tests}
+use Rattle.std.proofs.lemmas.Bool.{false≢true, true≢false}
 use Rattle.label_table.specs.Layer.{Layer}
 use Rattle.label_table.proofs.Owned.{set_at}
 use Rattle.login_table.specs.declared.login.Login.{Login}
@@ -55,19 +56,14 @@ use Rattle.sbp_world.proofs.Agents.Lists.{AreNoEntries, all_over, at_other, at_o
 use Rattle.sbp_world.proofs.Agents.Serves.{ask_keeps, failed_crew}
 use Rattle.sbp_world.proofs.Agents.Steps.{abort_alike}
 use Rattle.sbp_world.proofs.Agents.Walk.{other_id, same_id}
+use Rattle.sbp_world.proofs.Lists.BusyCuts.{in_reset}
 
-no : false ≡ true → ⊥
-no e = cc
-
-no_2 : true ≡ false → ⊥
-no_2 e = cc
-
-in_place : (place : ℕ) → place < 8 → place_in place ≡ Some place
+pub in_place : (place : ℕ) → place < 8 → place_in place ≡ Some place
 in_place place b = by (nat_lt place 8) (grind (arith, nat_tests))
   where
     by : (x : Bool) → x ≡ true → cond x (Some place) None ≡ Some place
     by true e = refl
-    by false e = absurd (no e)
+    by false e = absurd (false≢true e)
 
 -- ---- one desk is another
 module _ (n : NodeState) (size : length n.desks ≡ 8) (place : ℕ) (b : place < 8) (d : Desk) where
@@ -180,18 +176,6 @@ record Stays (requests : List Request) (agents : List Agent) (s : Scene) : Type 
   entries : AreNoEntries s.outbox.sides
   settled : AllSettled requests agents s.node
 
-reset_phase : (p : Phase) → is_reset (state_in p) ≡ true → p ≡ phases.Reset
-reset_phase phases.Reset e = refl
-reset_phase phases.Suspended e = absurd (no e)
-reset_phase phases.WritingLastStatus e = absurd (no e)
-reset_phase phases.Dead e = absurd (no e)
-reset_phase phases.Fetching e = absurd (no e)
-reset_phase phases.ReadingTable e = absurd (no e)
-reset_phase (phases.ReadingData wanted) e = absurd (no e)
-reset_phase phases.Answering e = absurd (no e)
-reset_phase phases.WritingStatus e = absurd (no e)
-reset_phase phases.ReadingNext e = absurd (no e)
-
 module _ {requests : List Request} (node : NodeState) (g : Good node) (agents : List Agent) (is : AreOf requests agents node) (layer : Layer Purpose) (lives : Lives) (k : Known layer lives) (o : Office) (a : Agrees o node) where
   module _ (m : management.Machine) (t : Table) where
     abbrev then_node : NodeState
@@ -288,17 +272,17 @@ module _ {requests : List Request} (node : NodeState) (g : Good node) (agents : 
     free_reset : (place : ℕ) → place < 8 → ((login : Login) → place_at o.table.places place ≡ Some login → is_live login ≡ false) → (desk_at node place).agent.phase ≡ phases.Reset
     free_reset place b free =
         split (is_reset (state_in (desk_at node place).agent.phase)) ((desk_at node place).agent.phase ≡ phases.Reset)
-        (λ e. reset_phase (desk_at node place).agent.phase e)
+        (λ e. in_reset (desk_at node place).agent.phase e)
         (λ e.
         let i = g.mid.served place b (not_eight place b) e in
         let there : place_at o.table.places place ≡ Some i.login = ap (λ (x : Table). place_at x.places place) a.table ∙ i.is in
-        absurd (no (sym (free i.login there) ∙ i.live)))
+        absurd (false≢true (sym (free i.login there) ∙ i.live)))
 
     fresh_settled : (place : ℕ) → place < 8 → (desk_at node place).agent.phase ≡ phases.Reset → Settled (desk_at node place).agent None new_agent
     fresh_settled place b r =
         let f = g.mid.fits place b (not_eight place b) in
         let idle : is_ahead (desk_at node place).agent.ahead ≡ false = f.agent.bare (ap (λ (p : Phase). is_bare p) r) in
-        let listless : has_list (desk_at node place).agent.phase ≡ true → ⊥ = λ e. no (sym (ap has_list r) ∙ e) in
+        let listless : has_list (desk_at node place).agent.phase ≡ true → ⊥ = λ e. false≢true (sym (ap has_list r) ∙ e) in
         record {
           machine = record {
             phase = sym r;
@@ -309,12 +293,12 @@ module _ {requests : List Request} (node : NodeState) (g : Good node) (agents : 
             orb = λ e. absurd (listless e);
             aborted = λ e. absurd (listless e);
             payload = λ e. absurd (listless e);
-            segments = λ e. absurd (no (sym (ap moves_data r) ∙ e));
-            written = λ e. absurd (no (sym (ap answers r) ∙ e));
-            size = λ e. absurd (no (sym (ap answers r) ∙ e));
-            answer = λ e. absurd (no (sym (ap answers r) ∙ e));
-            chunk = λ e. absurd (no (sym (ap answers r) ∙ e));
-            status = λ e. absurd (no (sym (ap writes_status r) ∙ e));
+            segments = λ e. absurd (false≢true (sym (ap moves_data r) ∙ e));
+            written = λ e. absurd (false≢true (sym (ap answers r) ∙ e));
+            size = λ e. absurd (false≢true (sym (ap answers r) ∙ e));
+            answer = λ e. absurd (false≢true (sym (ap answers r) ∙ e));
+            chunk = λ e. absurd (false≢true (sym (ap answers r) ∙ e));
+            status = λ e. absurd (false≢true (sym (ap writes_status r) ∙ e));
           };
           main = sym (ap (λ (p : Phase). is_sent p) r);
           ahead = sym idle;

@@ -1,6 +1,7 @@
 -- What a step of an agent does beside its transactions: no reply makes it dead for want of a label, a read ahead is a read, and a command that ends
 -- with an empty answer is followed by its status.
 use Rattle.std.proofs.Common.{◌≡◌, ◌∙◌, refl, sym, ap, ℕ, ◌+◌, ◌*◌, ◌==◌, Bool, true, false, cond, List, ◌++◌, length, Option, Some, None, Result, Ok, Err}
+use Rattle.std.proofs.lemmas.Option.{none-some}
 use Rattle.orb_layout.specs.declared.ask.Ask.TheVariants.{Read}
 use Rattle.orb_layout.specs.declared.ask.FailCause.{FailCause}
 use Rattle.orb_layout.specs.declared.ask.FailCause.TheVariants as causes
@@ -50,9 +51,6 @@ abbrev Fails : Result (List ℕ) FailCause → Type 0
 Fails (Ok bytes) = Unit {0}
 Fails (Err cause) = IsOther (Some cause)
 
-none_ran : (o : Outcome) → None ≡ Some o → ⊥
-none_ran o e = cc
-
 sized : (b : Bool) (bytes : List ℕ) → Fails (cond b (Ok bytes) (Err causes.Grammar))
 sized true bytes = tt
 sized false bytes = tt
@@ -73,7 +71,7 @@ write_fails NoLabel g = absurd g
 
 -- a step that tells of no run
 unran : (s : AgentStep × Machine) → s.0.ran ≡ None → IsOther s.0.dead → wants s.0.ahead true ≡ false → Mild s
-unran s r o e = record { other = o; reads = e; ends = λ x f z. absurd (none_ran x (sym r ∙ f)); runs = λ x f. absurd (none_ran x (sym r ∙ f)) }
+unran s r o e = record { other = o; reads = e; ends = λ x f z. absurd (none-some x (sym r ∙ f)); runs = λ x f. absurd (none-some x (sym r ∙ f)) }
 
 mild_end : (m : Machine) (kind : StatusKind) (dead : Option FailCause) → IsOther dead → Mild (end_step m kind dead)
 mild_end m kind dead o = unran (end_step m kind dead) refl o refl
@@ -118,7 +116,7 @@ mild_checked m place plain told (Some kind) = mild_end m kind (death_by kind) (d
 mild_checked m place plain told None =
     let n = record m { segments = unread_buffer m.orb } in
     mild_if (reads_table m.orb) (asks (Read m.orb.descriptor (8 * m.orb.data_size)), record m { phase = phases.ReadingTable }) (judged n told (need_of n.orb.cdb (plan_of n) plain place))
-    (record { other = tt; reads = refl; ends = λ x f z. absurd (none_ran x f); runs = λ x f. absurd (none_ran x f) }) (mild_judged n told (need_of n.orb.cdb (plan_of n) plain place))
+    (record { other = tt; reads = refl; ends = λ x f z. absurd (none-some x f); runs = λ x f. absurd (none-some x f) }) (mild_judged n told (need_of n.orb.cdb (plan_of n) plain place))
 
 mild_ahead : (dead : Option FailCause) (next : OrbPointer) (s : AgentStep × Machine) → Mild s → Mild (ahead_of dead next s)
 mild_ahead None (At next) s h = record { other = h.other; reads = refl; ends = h.ends; runs = h.runs }
@@ -139,8 +137,8 @@ module _ (place : ℕ) (plain : PlainDisk) (told : Told) where
   moved_if false p q h i = i
 
   turn_moves : (m : Machine) (next : ℕ) (ahead : ReadAhead) → Moved (turn_step m next ahead)
-  turn_moves m next aheads.Idle = record { other = tt; reads = refl; ends = λ x f z. absurd (none_ran x f); runs = λ x f. absurd (none_ran x f) }
-  turn_moves m next (aheads.UnderWay rung) = record { other = tt; reads = refl; ends = λ x f z. absurd (none_ran x f); runs = λ x f. absurd (none_ran x f) }
+  turn_moves m next aheads.Idle = record { other = tt; reads = refl; ends = λ x f z. absurd (none-some x f); runs = λ x f. absurd (none-some x f) }
+  turn_moves m next (aheads.UnderWay rung) = record { other = tt; reads = refl; ends = λ x f z. absurd (none-some x f); runs = λ x f. absurd (none-some x f) }
   turn_moves m next (aheads.Kept orb) = mild_check (record (turned m next) { orb = orb }) place plain told
 
   follow_moves : (m : Machine) (next : OrbPointer) → Moved (follow_step m next)
@@ -148,11 +146,11 @@ module _ (place : ℕ) (plain : PlainDisk) (told : Told) where
   follow_moves m Null = mild_wait m
 
   status_moves : (m : Machine) (failure : Option FailCause) → IsOther failure → Moved (status_written m failure)
-  status_moves m (Some cause) o = record { other = o; reads = refl; ends = λ x f z. absurd (none_ran x f); runs = λ x f. absurd (none_ran x f) }
+  status_moves m (Some cause) o = record { other = o; reads = refl; ends = λ x f z. absurd (none-some x f); runs = λ x f. absurd (none-some x f) }
   status_moves m None o = follow_moves m m.orb.next
 
   next_moves : (m : Machine) (read : Result (List ℕ) FailCause) → Fails read → Moved (next_read m read)
-  next_moves m (Err cause) o = record { other = o; reads = refl; ends = λ x f z. absurd (none_ran x f); runs = λ x f. absurd (none_ran x f) }
+  next_moves m (Err cause) o = record { other = o; reads = refl; ends = λ x f z. absurd (none-some x f); runs = λ x f. absurd (none-some x f) }
   next_moves m (Ok bytes) o = follow_moves (record m { orb = record m.orb { next = pointer_at bytes 0 } }) (pointer_at bytes 0)
 
   orb_moves : (m : Machine) (read : Result (List ℕ) FailCause) → Fails read → Moved (orb_read m read)
@@ -189,19 +187,19 @@ module _ (place : ℕ) (plain : PlainDisk) (told : Told) where
   main_moves phases.Answering m answer g = chunk_moves m (write_failure answer) (write_fails answer g)
   main_moves phases.WritingStatus m answer g = status_moves m (write_failure answer) (write_fails answer g)
   main_moves phases.ReadingNext m answer g = next_moves m (payload_of answer 8) (payload_fails answer 8 g)
-  main_moves phases.WritingLastStatus m answer g = record { other = tt; reads = refl; ends = λ x f z. absurd (none_ran x f); runs = λ x f. absurd (none_ran x f) }
-  main_moves phases.Reset m answer g = record { other = tt; reads = refl; ends = λ x f z. absurd (none_ran x f); runs = λ x f. absurd (none_ran x f) }
-  main_moves phases.Suspended m answer g = record { other = tt; reads = refl; ends = λ x f z. absurd (none_ran x f); runs = λ x f. absurd (none_ran x f) }
-  main_moves phases.Dead m answer g = record { other = tt; reads = refl; ends = λ x f z. absurd (none_ran x f); runs = λ x f. absurd (none_ran x f) }
+  main_moves phases.WritingLastStatus m answer g = record { other = tt; reads = refl; ends = λ x f z. absurd (none-some x f); runs = λ x f. absurd (none-some x f) }
+  main_moves phases.Reset m answer g = record { other = tt; reads = refl; ends = λ x f z. absurd (none-some x f); runs = λ x f. absurd (none-some x f) }
+  main_moves phases.Suspended m answer g = record { other = tt; reads = refl; ends = λ x f z. absurd (none-some x f); runs = λ x f. absurd (none-some x f) }
+  main_moves phases.Dead m answer g = record { other = tt; reads = refl; ends = λ x f z. absurd (none-some x f); runs = λ x f. absurd (none-some x f) }
 
   ahead_moves : (m : Machine) (read : Result (List ℕ) FailCause) → Mild (ahead_read m read)
-  ahead_moves m (Ok bytes) = record { other = tt; reads = refl; ends = λ x f z. absurd (none_ran x f); runs = λ x f. absurd (none_ran x f) }
-  ahead_moves m (Err cause) = record { other = tt; reads = refl; ends = λ x f z. absurd (none_ran x f); runs = λ x f. absurd (none_ran x f) }
+  ahead_moves m (Ok bytes) = record { other = tt; reads = refl; ends = λ x f z. absurd (none-some x f); runs = λ x f. absurd (none-some x f) }
+  ahead_moves m (Err cause) = record { other = tt; reads = refl; ends = λ x f z. absurd (none-some x f); runs = λ x f. absurd (none-some x f) }
 
   all_mild : (which : Which) (m : Machine) (answer : Answer) → IsGiven answer → Mild (replied m place plain told which answer)
   all_mild Main m answer g = main_moves m.phase m answer g
   all_mild Ahead m answer g =
-      mild_if (is_ahead m.ahead) (ahead_step m answer) (quiet, m) (ahead_moves m (payload_of answer 32)) (record { other = tt; reads = refl; ends = λ x f z. absurd (none_ran x f); runs = λ x f. absurd (none_ran x f) })
+      mild_if (is_ahead m.ahead) (ahead_step m answer) (quiet, m) (ahead_moves m (payload_of answer 32)) (record { other = tt; reads = refl; ends = λ x f z. absurd (none-some x f); runs = λ x f. absurd (none-some x f) })
 
 pub reply_mild : (m : Machine) (place : ℕ) (plain : PlainDisk) (told : Option Told) (which : Which) (answer : Answer) → IsGiven answer → Mild (reply_step m place plain told which answer)
 unfolding reply_step

@@ -4,6 +4,7 @@ use Rattle.std.specs.Prelude.{position}
 use Rattle.std.specs.List.{filter}
 use Rattle.std.proofs.lemmas.Bool.Decides.{nat_tests}
 use Rattle.std.proofs.lemmas.List.Quantifiers.{position-Some}
+use Rattle.std.proofs.lemmas.Bool.{false≢true}
 use Rattle.async_packet.specs.Labels.{LabelParts}
 use Rattle.async_packet.specs.Packet.{Packet, header_in}
 use Rattle.async_packet.specs.Reading.{reading}
@@ -41,13 +42,10 @@ is_peer topology id = has_id topology id && not (nat_eq (id_of topology 0) id)
 abbrev pub Peer : Topology → ℕ → Type 0
 Peer topology id = is_peer topology id ≡ true
 
-no : false ≡ true → ⊥
-no e = cc
-
 peer_parts : (a b : Bool) → (a && not b) ≡ true → (a ≡ true) × (b ≡ false)
 peer_parts true false e = (refl, refl)
-peer_parts true true e = absurd (no e)
-peer_parts false b e = absurd (no e)
+peer_parts true true e = absurd (false≢true e)
+peer_parts false b e = absurd (false≢true e)
 
 pub peer_known : (topology : Topology) (id : ℕ) → Peer topology id → has_id topology id ≡ true
 peer_known topology id p = (peer_parts (has_id topology id) (nat_eq (id_of topology 0) id) p).0
@@ -56,7 +54,7 @@ pub peer_other : (topology : Topology) (id : ℕ) → Peer topology id → id_of
 peer_other topology id p e =
     let other = (peer_parts (has_id topology id) (nat_eq (id_of topology 0) id) p).1 in
     let same : nat_eq (id_of topology 0) id ≡ true = grind (arith, nat_tests) in
-    no (sym other ∙ same)
+    false≢true (sym other ∙ same)
 
 pub peer_of : (topology : Topology) (id : ℕ) → has_id topology id ≡ true → (id_of topology 0 ≡ id → ⊥) → Peer topology id
 peer_of topology id k d = by (nat_eq (id_of topology 0) id) refl

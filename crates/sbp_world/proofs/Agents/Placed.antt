@@ -6,6 +6,7 @@ use Rattle.std.proofs.lemmas.Bool.Decides.{nat_tests}
 use Rattle.std.proofs.lemmas.Grind.{common_steps, get_or-set_at}
 use Rattle.std.proofs.lemmas.List.{ext_get_or, length-map}
 use Rattle.std.proofs.lemmas.List.Quantifiers.{position-Some}
+use Rattle.std.proofs.lemmas.Bool.{false≢true}
 use Rattle.bus_transactions.proofs.Rooms.{position_map}
 use Rattle.label_table.proofs.Owned.{position_none}
 use Rattle.login_table.specs.declared.login.Login.{Login}
@@ -32,9 +33,6 @@ pub record Placed (Of : (initiator id : ℕ) → Type 0) (logins : List (Option 
   pub count : length places ≡ 8
   pub each : (j : ℕ) → Has Of (place_at logins j) (place_in places j)
 
-no : false ≡ true → ⊥
-no e = cc
-
 module _ (Of : (initiator id : ℕ) → Type 0) (logins : List (Option Login)) (places : List (Option Holder)) (p : Placed Of logins places) where
   -- ---- one place has another login and another holder
   pub set_placed : (k : ℕ) (x : Option Login) (y : Option Holder) → k < 8 → Has Of x y → Placed Of (set logins k x) (set places k y)
@@ -48,7 +46,7 @@ module _ (Of : (initiator id : ℕ) → Type 0) (logins : List (Option Login)) (
           subst (λ (a : Option Login). Has Of a (place_in (set places k y) j)) (sym (get_or-set_at logins k j x None same (omega arith)))
           (subst (λ (b : Option Holder). Has Of x b) (sym (get_or-set_at places k j y None same (omega arith))) h)
       by j false q =
-          let apart : j ≢ k = λ same. let yes : nat_eq j k ≡ true = grind (arith, nat_tests) in no (sym q ∙ yes) in
+          let apart : j ≢ k = λ same. let yes : nat_eq j k ≡ true = grind (arith, nat_tests) in false≢true (sym q ∙ yes) in
           subst (λ (a : Option Login). Has Of a (place_in (set places k y) j)) (sym (get_or-set_other logins k j x None apart))
           (subst (λ (b : Option Holder). Has Of (place_at logins j) b) (sym (get_or-set_other places k j y None apart)) (p.each j))
 
@@ -65,8 +63,8 @@ module _ (Of : (initiator id : ℕ) → Type 0) (logins : List (Option Login)) (
   IsThere id k x y = (login : Login) × (holder : Holder) × (x ≡ Some login) × (y ≡ Some holder) × (holder.login ≡ id) × (login.login ≡ id)
 
   there_as : (id : ℕ) (k : ℕ) (x : Option Login) (y : Option Holder) → Has Of x y → has_login id y ≡ true → IsThere id k x y
-  there_as id k None None h e = absurd (no e)
-  there_as id k (Some login) None h e = absurd (no e)
+  there_as id k None None h e = absurd (false≢true e)
+  there_as id k (Some login) None h e = absurd (false≢true e)
   there_as id k None (Some holder) h e = absurd h
   there_as id k (Some login) (Some holder) h e =
       let is : holder.login ≡ id = grind (arith, nat_tests) in (login, holder, refl, refl, is, sym h.login_is ∙ is)
@@ -87,17 +85,17 @@ module _ (Of : (initiator id : ℕ) → Type 0) (logins : List (Option Login)) (
       λ g.
       let is : holder.login ≡ id = h.login_is ∙ ap (λ (x : Login). x.login) same ∙ g in
       let yes : nat_eq holder.login id ≡ true = grind (arith, nat_tests) in
-      no (sym e ∙ yes)
+      false≢true (sym e ∙ yes)
 
   beyond : (id j : ℕ) (b : Bool) → has_login id (place_in places j) ≡ b → position (has_login id) places ≡ None → b ≡ false
   beyond id j false q e = refl
   beyond id j true q e = absurd (by (place_in places j) refl q)
     where
       by : (y : Option Holder) → place_in places j ≡ y → has_login id y ≡ true → ⊥
-      by None f g = no g
+      by None f g = false≢true g
       by (Some holder) f g =
           let inside : j < length places = grind (arith, common_steps) in
-          no (sym (position_none (has_login id) places j None e inside) ∙ ap (has_login id) f ∙ g)
+          false≢true (sym (position_none (has_login id) places j None e inside) ∙ ap (has_login id) f ∙ g)
 
   none_there : (id : ℕ) → position (has_login id) places ≡ None → (j : ℕ) (login : Login) → place_at logins j ≡ Some login → login.login ≢ id
   none_there id e j login f = none_as id (place_at logins j) (place_in places j) (p.each j) (beyond id j (has_login id (place_in places j)) refl e) login f
@@ -185,7 +183,7 @@ module _ (Of : (initiator id : ℕ) → Type 0) (logins : List (Option Login)) (
               subst (λ (b : Option Holder). Has Of (place_at logins j) b) (sym (get_or-set_at places k j (Some (record holder { list = list })) None same inside))
               (subst (λ (i : ℕ). Has Of (place_at logins i) (Some (record holder { list = list }))) (sym same) (as_holder (place_at logins k) holder h))
           at j false q =
-              let apart : j ≢ k = λ same. let yes : nat_eq j k ≡ true = grind (arith, nat_tests) in no (sym q ∙ yes) in
+              let apart : j ≢ k = λ same. let yes : nat_eq j k ≡ true = grind (arith, nat_tests) in false≢true (sym q ∙ yes) in
               subst (λ (b : Option Holder). Has Of (place_at logins j) b) (sym (get_or-set_other places k j (Some (record holder { list = list })) None apart)) (p.each j)
 
 -- ---- seconds and resets
@@ -197,7 +195,7 @@ second_has Of (Some login) (Some holder) h = record { login_is = h.login_is; uni
   where
     by : (left : Option ℕ) → is_none (one_less left) ≡ true → is_none left ≡ true
     by None e = refl
-    by (Some seconds) e = absurd (no e)
+    by (Some seconds) e = absurd (false≢true e)
 
 pub second_placed : (Of : (initiator id : ℕ) → Type 0) (logins : List (Option Login)) (places : List (Option Holder)) → Placed Of logins places → Placed Of (map second_gone logins) places
 second_placed Of logins places p = map_placed Of logins places p Of second_gone refl (second_has Of)
@@ -206,7 +204,7 @@ held_has : (Of Now : (initiator id : ℕ) → Type 0) (x : Option Login) (y : Op
 held_has Of Now None None h = h
 held_has Of Now None (Some holder) h = h
 held_has Of Now (Some login) None h = h
-held_has Of Now (Some login) (Some holder) h = record { login_is = h.login_is; unit_is = h.unit_is; live = λ e. absurd (no e) }
+held_has Of Now (Some login) (Some holder) h = record { login_is = h.login_is; unit_is = h.unit_is; live = λ e. absurd (false≢true e) }
 
 pub held_placed : (Of Now : (initiator id : ℕ) → Type 0) (logins : List (Option Login)) (places : List (Option Holder)) → Placed Of logins places → Placed Now (map held logins) places
 held_placed Of Now logins places p = map_placed Of logins places p Now held refl (held_has Of Now)

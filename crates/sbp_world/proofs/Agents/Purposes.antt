@@ -46,7 +46,7 @@ use Rattle.sbp_world.proofs.Agents.Management.Still.{hist}
 use Rattle.sbp_world.specs.Agents.Purposes.{ArePurposesAt, HasPurpose, HasRequest}
 
 -- ---- labels of a layer, and of the layer without what its transactions are for
-peer_bare : (P : Type 0) → bare_place {P = P} no_peer ≡ no_peer
+pub peer_bare : (P : Type 0) → bare_place {P = P} no_peer ≡ no_peer
 peer_bare P = ap (λ xs. record { peer = None; table = (no_peer {P = P}).table; purposes = xs }) refl
 
 module _ {P : Type 0} where

@@ -2,6 +2,7 @@
 use Rattle.std.proofs.Common.{arith, ◌≡◌, ◌∙◌, refl, sym, ap, subst, ℕ, zero, suc, ◌+◌, ◌-◌, ◌^◌, ◌<◌, ◌≤◌, not, nat_eq, nat_lt, Bool, true, false, cond, List, [], ◌∷◌, ◌++◌, length, map, Option, Some, None, Result, Ok, Err}
 use Rattle.std.specs.Prelude.{if◌then◌else◌, replicate, slice_index_or, slice_set}
 use Rattle.std.proofs.lemmas.Grind.{common_steps}
+use Rattle.std.proofs.lemmas.Bool.{false≢true}
 use Rattle.bus_transactions.specs.Wire.{as_sending}
 use Rattle.label_table.specs.declared.reply.Stale.{Stale}
 use Rattle.packet_store.specs.declared.sent.Sent.{Sent}
@@ -71,9 +72,6 @@ use Rattle.sbp_world.proofs.Agents.Heeding.{same_registers}
 use Rattle.sbp_world.proofs.Agents.Holders.{seats_after}
 use Rattle.sbp_world.proofs.Agents.Seats.{Seats}
 use Rattle.sbp_world.proofs.Agents.Seating.{all_seats, opened as seats_opened}
-
-no : false ≡ true → ⊥
-no e = cc
 
 first_bytes : (told : List (Option Told)) → AreTold told → BytesTold (first_told told)
 first_bytes [] t = tt

@@ -1,6 +1,7 @@
 -- A time-out of a transaction of an agent, and a write of its registers, to its term.
 use Rattle.std.proofs.Common.{arith, ◌≡◌, ◌≢◌, ◌∙◌, refl, sym, ap, subst, ℕ, ◌<◌, nat_eq, is_some, Bool, true, false, cond, List, [], length, Option, Some, None, Ok}
 use Rattle.std.proofs.Math.ListN.{length-set}
+use Rattle.std.proofs.lemmas.Bool.{false≢true, true≢false}
 use Rattle.async_packet.specs.Packet.{Packet}
 use Rattle.label_table.specs.Layer.{Layer}
 use Rattle.label_table.proofs.Owned.{set_at}
@@ -48,12 +49,6 @@ use Rattle.sbp_world.proofs.Agents.Steps.{doorbell_alike, fetch_same}
 use Rattle.sbp_world.proofs.Agents.Serials.{Paired, turning_unless}
 use Rattle.sbp_world.proofs.Agents.Turns.{ahead_follows, ahead_is, ahead_settled, ahead_turns, fits, lapse_ends, main_follows, main_is, main_stepped, main_turns, quiet_done, settled_done}
 use Rattle.sbp_world.proofs.Agents.Walk.{Holds, Out, Told as Tells, holds_still, same_id, other_id, silent_more}
-
-no : false ≡ true → ⊥
-no e = cc
-
-no_2 : true ≡ false → ⊥
-no_2 e = cc
 
 -- ---- what a turn makes of the agent of a place, however its packets are numbered
 pub record Turned (requests : List Request) (q : ℕ) (node : NodeState) (first : Agent) (s : Scene) : Type 0 where

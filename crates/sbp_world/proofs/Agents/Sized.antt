@@ -50,11 +50,11 @@ pub idle_sized : (m : Machine) → is_sent m.phase ≡ false → IsSized m
 idle_sized m e = nothing_sized m (idle_under m.phase m e)
 
 -- a chunk of an answer
-chunk_few : (left : ℕ) (c : Option Chunk) → (cut_to left c).length ≤ left
+pub chunk_few : (left : ℕ) (c : Option Chunk) → (cut_to left c).length ≤ left
 chunk_few left None = omega arith
 chunk_few left (Some c) = omega arith
 
-taken_size : (n written : ℕ) (answer : List ℕ) → n ≤ length answer - written → length (take n (drop written answer)) ≡ n
+pub taken_size : (n written : ℕ) (answer : List ℕ) → n ≤ length answer - written → length (take n (drop written answer)) ≡ n
 taken_size n written answer h = length-take-le n (drop written answer) (subst (λ k. n ≤ k) (sym (length-drop written answer)) h)
 
 pub answer_sized : (m : Machine) → IsSized (answer_step m).1

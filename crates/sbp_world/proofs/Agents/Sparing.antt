@@ -4,6 +4,7 @@ use Rattle.std.specs.Prelude.{is_none, position}
 use Rattle.std.proofs.lemmas.Bool.Decides.{nat_tests}
 use Rattle.std.proofs.lemmas.Grind.{get_or-set_at}
 use Rattle.std.proofs.lemmas.List.Quantifiers.{position-Some}
+use Rattle.std.proofs.lemmas.Bool.{false≢true}
 use Rattle.sbp_base.specs.Quadlets.{quad}
 use Rattle.login_table.specs.declared.login.Entered.{Entered}
 use Rattle.login_table.specs.declared.login.Login.{Login}
@@ -33,9 +34,6 @@ use Rattle.mgmt_agent.specs.Machine.{Machine, beside, decide_step, decided_as, e
 use Rattle.mgmt_agent.specs.Statuses.{function_of, status_of}
 use Rattle.sbp_world.specs.Agents.Enabled.{HasLive}
 use Rattle.sbp_world.proofs.Agents.Hiring.{not_old}
-
-no : false ≡ true → ⊥
-no e = cc
 
 -- a login that another one replaces is not live
 pub record IsReplaced (places : List (Option Login)) (id : ℕ) : Type 0 where
@@ -67,7 +65,7 @@ set_spares places k x l p own h = by (nat_eq p k) refl
     by : (b : Bool) → nat_eq p k ≡ b → HasLive (set places k x) p
     by true q = own (grind (arith, nat_tests))
     by false q =
-        let apart : p ≢ k = λ same. let yes : nat_eq p k ≡ true = grind (arith, nat_tests) in no (sym q ∙ yes) in
+        let apart : p ≢ k = λ same. let yes : nat_eq p k ≡ true = grind (arith, nat_tests) in false≢true (sym q ∙ yes) in
         record { login = h.login; is = get_or-set_other places k p x None apart ∙ h.is; live = h.live }
 
 live_set : (places : List (Option Login)) (k : ℕ) (login : Login) → k < length places → is_live login ≡ true → (p : ℕ) → p ≡ k → HasLive (set places k (Some login)) p
@@ -82,7 +80,7 @@ without_spares (Some k) asked places e p h =
     (λ same.
     let is : Some h.login ≡ Some f.login = sym h.is ∙ ap (place_at places) same ∙ f.stands in
     let own : h.login ≡ f.login = cc in
-    absurd (no (sym (not_old asked f.login f.passes) ∙ sym (ap is_live own) ∙ h.live))) h
+    absurd (false≢true (sym (not_old asked f.login f.passes) ∙ sym (ap is_live own) ∙ h.live))) h
 
 replaced_old : (k : Option ℕ) (asked : LoginRequest) (places : List (Option Login)) → find (is_old asked) places ≡ k → IsOld (id_at k places) places
 replaced_old None asked places e = tt

@@ -1,5 +1,6 @@
 -- Agents that are alike make the same steps.
 use Rattle.std.proofs.Common.{◌≡◌, ◌∙◌, refl, sym, ap, subst, ℕ, ◌+◌, ◌-◌, ◌*◌, ◌%◌, ◌==◌, ◌&&◌, ◌||◌, Bool, true, false, cond, List, ◌++◌, length, take, drop, Option, Some, None, Result, Ok, Err}
+use Rattle.std.proofs.lemmas.Bool.{false≢true}
 use Rattle.orb_layout.specs.declared.ask.Ask.{Ask}
 use Rattle.orb_layout.specs.declared.ask.Ask.TheVariants.{Read, Write}
 use Rattle.orb_layout.specs.declared.ask.FailCause.{FailCause}
@@ -37,9 +38,6 @@ use Rattle.command_agent.specs.Machine.{Machine, awaits_run, chunk_of, is_ahead,
 use Rattle.command_agent.specs.Checks.{verdict, death_by, reads_table}
 use Rattle.command_agent.specs.Steps.{abort_step, advanced, ahead_lost, ahead_of, ahead_read, ahead_step, answer_chunk, answer_grown, answer_step, asks, check_step, checked, chunk_written, data_grown, data_read, data_step, dead_step, doorbell_in, doorbell_step, elements_read, end_step, fail_step, fetch_step, follow_step, is_label, judged, lost, lost_step, main_lost, next_read, orb_read, point_in, point_step, pointed, quiet, ran_as, replied, reply_step, reread_step, reset_step, run_step, sent, served, status_written, table_read, told_or, turn_step, turned, unread_buffer, wait_step, with_ahead, with_outcome}
 use Rattle.sbp_world.specs.Agents.Alike.{Alike, AlikeLaw, StepsAlike, TellsAlike, answers, has_list, moves_data}
-
-no : false ≡ true → ⊥
-no e = cc
 
 -- ---- an agent in the words of another: in a list; while its data are read; while its answer is written
 abbrev late : Machine → Machine → Machine
@@ -82,11 +80,11 @@ module _ (u v : Bool) where
       orb = λ e. refl;
       aborted = λ e. refl;
       payload = λ e. refl;
-      segments = λ e. absurd (no e);
-      written = λ e. absurd (no e);
-      size = λ e. absurd (no e);
-      answer = λ e. absurd (no e);
-      chunk = λ e. absurd (no e);
+      segments = λ e. absurd (false≢true e);
+      written = λ e. absurd (false≢true e);
+      size = λ e. absurd (false≢true e);
+      answer = λ e. absurd (false≢true e);
+      chunk = λ e. absurd (false≢true e);
       status = λ e. refl;
     };
   }
@@ -101,11 +99,11 @@ module _ (u v : Bool) where
       orb = λ e. refl;
       aborted = λ e. refl;
       payload = λ e. refl;
-      segments = λ e. absurd (no e);
-      written = λ e. absurd (no e);
-      size = λ e. absurd (no e);
-      answer = λ e. absurd (no e);
-      chunk = λ e. absurd (no e);
+      segments = λ e. absurd (false≢true e);
+      written = λ e. absurd (false≢true e);
+      size = λ e. absurd (false≢true e);
+      answer = λ e. absurd (false≢true e);
+      chunk = λ e. absurd (false≢true e);
       status = λ e. refl;
     };
   }
@@ -117,17 +115,17 @@ module _ (u v : Bool) where
       phase = refl;
       flag = refl;
       ahead = λ e. refl;
-      doorbell = λ e. absurd (no e);
-      present = λ e. absurd (no e);
-      orb = λ e. absurd (no e);
-      aborted = λ e. absurd (no e);
-      payload = λ e. absurd (no e);
-      segments = λ e. absurd (no e);
-      written = λ e. absurd (no e);
-      size = λ e. absurd (no e);
-      answer = λ e. absurd (no e);
-      chunk = λ e. absurd (no e);
-      status = λ e. absurd (no e);
+      doorbell = λ e. absurd (false≢true e);
+      present = λ e. absurd (false≢true e);
+      orb = λ e. absurd (false≢true e);
+      aborted = λ e. absurd (false≢true e);
+      payload = λ e. absurd (false≢true e);
+      segments = λ e. absurd (false≢true e);
+      written = λ e. absurd (false≢true e);
+      size = λ e. absurd (false≢true e);
+      answer = λ e. absurd (false≢true e);
+      chunk = λ e. absurd (false≢true e);
+      status = λ e. absurd (false≢true e);
     };
   }
 
@@ -148,12 +146,12 @@ module _ (u v : Bool) where
       orb = λ e. refl;
       aborted = λ e. refl;
       payload = λ e. refl;
-      segments = λ e. absurd (no e);
-      written = λ e. absurd (no e);
-      size = λ e. absurd (no e);
-      answer = λ e. absurd (no e);
-      chunk = λ e. absurd (no e);
-      status = λ e. absurd (no e);
+      segments = λ e. absurd (false≢true e);
+      written = λ e. absurd (false≢true e);
+      size = λ e. absurd (false≢true e);
+      answer = λ e. absurd (false≢true e);
+      chunk = λ e. absurd (false≢true e);
+      status = λ e. absurd (false≢true e);
     };
   }
 
@@ -169,12 +167,12 @@ module _ (u v : Bool) where
       orb = λ e. refl;
       aborted = λ e. refl;
       payload = λ e. refl;
-      segments = λ e. absurd (no e);
-      written = λ e. absurd (no e);
-      size = λ e. absurd (no e);
-      answer = λ e. absurd (no e);
-      chunk = λ e. absurd (no e);
-      status = λ e. absurd (no e);
+      segments = λ e. absurd (false≢true e);
+      written = λ e. absurd (false≢true e);
+      size = λ e. absurd (false≢true e);
+      answer = λ e. absurd (false≢true e);
+      chunk = λ e. absurd (false≢true e);
+      status = λ e. absurd (false≢true e);
     };
   }
 
@@ -190,12 +188,12 @@ module _ (u v : Bool) where
       orb = λ e. refl;
       aborted = λ e. refl;
       payload = λ e. refl;
-      segments = λ e. absurd (no e);
-      written = λ e. absurd (no e);
-      size = λ e. absurd (no e);
-      answer = λ e. absurd (no e);
-      chunk = λ e. absurd (no e);
-      status = λ e. absurd (no e);
+      segments = λ e. absurd (false≢true e);
+      written = λ e. absurd (false≢true e);
+      size = λ e. absurd (false≢true e);
+      answer = λ e. absurd (false≢true e);
+      chunk = λ e. absurd (false≢true e);
+      status = λ e. absurd (false≢true e);
     };
   }
 
@@ -211,12 +209,12 @@ module _ (u v : Bool) where
       orb = λ e. refl;
       aborted = λ e. refl;
       payload = λ e. refl;
-      segments = λ e. absurd (no e);
-      written = λ e. absurd (no e);
-      size = λ e. absurd (no e);
-      answer = λ e. absurd (no e);
-      chunk = λ e. absurd (no e);
-      status = λ e. absurd (no e);
+      segments = λ e. absurd (false≢true e);
+      written = λ e. absurd (false≢true e);
+      size = λ e. absurd (false≢true e);
+      answer = λ e. absurd (false≢true e);
+      chunk = λ e. absurd (false≢true e);
+      status = λ e. absurd (false≢true e);
     };
   }
 
@@ -227,17 +225,17 @@ module _ (u v : Bool) where
       phase = refl;
       flag = refl;
       ahead = λ e. refl;
-      doorbell = λ e. absurd (no e);
-      present = λ e. absurd (no e);
-      orb = λ e. absurd (no e);
-      aborted = λ e. absurd (no e);
-      payload = λ e. absurd (no e);
-      segments = λ e. absurd (no e);
-      written = λ e. absurd (no e);
-      size = λ e. absurd (no e);
-      answer = λ e. absurd (no e);
-      chunk = λ e. absurd (no e);
-      status = λ e. absurd (no e);
+      doorbell = λ e. absurd (false≢true e);
+      present = λ e. absurd (false≢true e);
+      orb = λ e. absurd (false≢true e);
+      aborted = λ e. absurd (false≢true e);
+      payload = λ e. absurd (false≢true e);
+      segments = λ e. absurd (false≢true e);
+      written = λ e. absurd (false≢true e);
+      size = λ e. absurd (false≢true e);
+      answer = λ e. absurd (false≢true e);
+      chunk = λ e. absurd (false≢true e);
+      status = λ e. absurd (false≢true e);
     };
   }
 
@@ -255,11 +253,11 @@ module _ (u v : Bool) where
       aborted = λ e. refl;
       payload = λ e. refl;
       segments = λ e. refl;
-      written = λ e. absurd (no e);
-      size = λ e. absurd (no e);
-      answer = λ e. absurd (no e);
-      chunk = λ e. absurd (no e);
-      status = λ e. absurd (no e);
+      written = λ e. absurd (false≢true e);
+      size = λ e. absurd (false≢true e);
+      answer = λ e. absurd (false≢true e);
+      chunk = λ e. absurd (false≢true e);
+      status = λ e. absurd (false≢true e);
     };
   }
 
@@ -275,12 +273,12 @@ module _ (u v : Bool) where
       orb = λ e. refl;
       aborted = λ e. refl;
       payload = λ e. refl;
-      segments = λ e. absurd (no e);
-      written = λ e. absurd (no e);
-      size = λ e. absurd (no e);
-      answer = λ e. absurd (no e);
-      chunk = λ e. absurd (no e);
-      status = λ e. absurd (no e);
+      segments = λ e. absurd (false≢true e);
+      written = λ e. absurd (false≢true e);
+      size = λ e. absurd (false≢true e);
+      answer = λ e. absurd (false≢true e);
+      chunk = λ e. absurd (false≢true e);
+      status = λ e. absurd (false≢true e);
     };
   }
 
@@ -308,7 +306,7 @@ module _ (w : Bool) where
     size = λ e. s;
     answer = λ e f. t f;
     chunk = λ e f. ap (λ y. take (chunk_of m m.written (length y)).length (drop m.written y)) (t f);
-    status = λ e. absurd (no e);
+    status = λ e. absurd (false≢true e);
   }
 
   chunk_asks : (m : Machine) (x o : List ℕ) → length x ≡ length m.answer → (answer_step (bare x o m)).0 ≡ (answer_step m).0
@@ -332,11 +330,11 @@ module _ (u v : Bool) where
           orb = λ e. refl;
           aborted = λ e. refl;
           payload = λ e. refl;
-          segments = λ e. absurd (no e);
-          written = λ e. absurd (no e);
-          size = λ e. absurd (no e);
-          answer = λ e. absurd (no e);
-          chunk = λ e. absurd (no e);
+          segments = λ e. absurd (false≢true e);
+          written = λ e. absurd (false≢true e);
+          size = λ e. absurd (false≢true e);
+          answer = λ e. absurd (false≢true e);
+          chunk = λ e. absurd (false≢true e);
           status = λ e. refl;
         };
       }
@@ -357,11 +355,11 @@ module _ (u v : Bool) where
       orb = λ e. refl;
       aborted = λ e. refl;
       payload = λ e. refl;
-      segments = λ e. absurd (no e);
-      written = λ e. absurd (no e);
-      size = λ e. absurd (no e);
-      answer = λ e. absurd (no e);
-      chunk = λ e. absurd (no e);
+      segments = λ e. absurd (false≢true e);
+      written = λ e. absurd (false≢true e);
+      size = λ e. absurd (false≢true e);
+      answer = λ e. absurd (false≢true e);
+      chunk = λ e. absurd (false≢true e);
       status = λ e. refl;
     };
   }
@@ -693,17 +691,17 @@ reset_any u a m = record {
   phase = refl;
   flag = refl;
   ahead = λ e. refl;
-  doorbell = λ e. absurd (no e);
-  present = λ e. absurd (no e);
-  orb = λ e. absurd (no e);
-  aborted = λ e. absurd (no e);
-  payload = λ e. absurd (no e);
-  segments = λ e. absurd (no e);
-  written = λ e. absurd (no e);
-  size = λ e. absurd (no e);
-  answer = λ e. absurd (no e);
-  chunk = λ e. absurd (no e);
-  status = λ e. absurd (no e);
+  doorbell = λ e. absurd (false≢true e);
+  present = λ e. absurd (false≢true e);
+  orb = λ e. absurd (false≢true e);
+  aborted = λ e. absurd (false≢true e);
+  payload = λ e. absurd (false≢true e);
+  segments = λ e. absurd (false≢true e);
+  written = λ e. absurd (false≢true e);
+  size = λ e. absurd (false≢true e);
+  answer = λ e. absurd (false≢true e);
+  chunk = λ e. absurd (false≢true e);
+  status = λ e. absurd (false≢true e);
 }
 
 pub abort_alike : (u : Bool) (a m : Machine) (orb : ℕ) → Alike u a m → Alike u (abort_step a orb) (abort_step m orb)

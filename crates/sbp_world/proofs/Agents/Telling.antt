@@ -1,6 +1,7 @@
 -- What the target tells in a call changes who has a place as it changes its logins.
 use Rattle.std.proofs.Common.{arith, ◌≡◌, ◌∙◌, refl, sym, ap, subst, ℕ, suc, ◌<◌, ◌%◌, nat_eq, Bool, true, false, cond, List, [], ◌∷◌, ◌++◌, length, Option, Some, None}
 use Rattle.std.specs.Prelude.{is_none, position}
+use Rattle.std.proofs.lemmas.Bool.{false≢true}
 use Rattle.label_table.specs.declared.judgement.Asked.{Asked}
 use Rattle.label_table.specs.Bodies.{Body}
 use Rattle.label_table.specs.Layer.{Layer, asking_step}
@@ -51,9 +52,6 @@ use Rattle.sbp_world.proofs.Agents.Placed.{IsHolder, Placed, back_placed, entere
 -- which initiator's node has an ID
 abbrev pub Of : Topology → (initiator id : ℕ) → Type 0
 Of topology initiator id = (id_of topology (suc initiator) ≡ id) × (suc initiator < length topology.ids)
-
-no : false ≡ true → ⊥
-no e = cc
 
 module _ (topology : Topology) where
   -- ---- what says nothing of logins and of the operation

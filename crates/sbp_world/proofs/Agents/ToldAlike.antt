@@ -1,5 +1,5 @@
 -- What the target tells of a run, and what was told to it: of one outcome and of as many bytes, and of the same bytes where the medium tells its bytes.
-use Rattle.std.proofs.Common.{arith, ◌≡◌, ◌∙◌, refl, sym, ap, subst, ℕ, ◌<◌, ◌&&◌, nat_lt, Bool, true, false, cond, List, [], ◌∷◌, ◌++◌, length, Option, Some, None, Result, Ok, Err, is_some}
+use Rattle.std.proofs.Common.{arith, ◌≡◌, ◌∙◌, refl, sym, ap, subst, ℕ, ◌<◌, ◌&&◌, Bool, true, false, List, [], ◌∷◌, ◌++◌, length, Option, Some, None, Result, Ok, Err, is_some}
 use Rattle.std.specs.Prelude.{IfSome, is_none, replicate, slice_set, unwrap_or}
 use Rattle.std.proofs.lemmas.List.{get_or-set_same, length-replicate}
 use Rattle.async_packet.specs.Labels.{LabelParts}
@@ -35,7 +35,6 @@ use Rattle.sbp_target.specs.Nodes.{NodeState, desk_at, login_at, scene, with_des
 use Rattle.sbp_target.specs.Receiving.{TellsIn, answer_in, concluded, expire_agent, expired, expired_by, expired_in, expired_with, received, received_as, with_layer}
 use Rattle.sbp_target.specs.Replies.{Tells, TellsBy, advance, advanced_with, announced_by, came, changed_by, follow_all, plain_in, replied as step_replied, replied_by, replied_to, replied_with, served_login, stage, whole}
 use Rattle.sbp_target.specs.Telling.{orb_of, tell_ran}
-use Rattle.target_base.specs.Logins.{if_served}
 use Rattle.sbp_target.proofs.Histories.Calling.{Good}
 use Rattle.sbp_world.specs.Telling.{holder}
 use Rattle.sbp_world.specs.Worlds.{WorldState}
@@ -45,6 +44,7 @@ use Rattle.sbp_world.specs.Agents.Hands.{IsOfStep, IsRunOf, run_told, run_untold
 use Rattle.sbp_world.proofs.Agents.Loads.{came_there}
 use Rattle.sbp_world.proofs.Agents.UnitsKept.{Keeps, KeepsSteps, announces_by, follows, keeps_steps, lost_runs, notes_tell}
 use Rattle.sbp_world.proofs.Agents.UnitsMarked.{came_not}
+use Rattle.sbp_world.proofs.Agents.AskedReplies.{served_is}
 
 -- ---- a run
 
@@ -243,17 +243,9 @@ module _ (node : NodeState) (g : Good node) (told : Option Told) (disks : List D
   abbrev layered : Layer Purpose → NodeState
   layered layer = record node { layer = layer }
 
-  served_there : (units : ℕ) (x : Option Login) (login : Login) → if_served units x ≡ Some login → x ≡ Some login
-  served_there units None login e = absurd (let no : None ≡ Some login = e in cc)
-  served_there units (Some other) login e = by (nat_lt other.unit units) e
-    where
-      by : (b : Bool) → cond b (Some other) None ≡ Some login → Some other ≡ Some login
-      by true e = e
-      by false e = absurd (let no : None ≡ Some login = e in cc)
-
   reply_told : (place : ℕ) (answer : Answer) (layer : Layer Purpose) (login : Option Login) (which : Option Which) → served_login node place ≡ login → TellsBy told place answer login which (stage (layered layer) disks) before now → ToldBy place login which node disks (replied_by told place answer login which (whole (scene (layered layer) empty_outbox) disks)).outbox.sides told
   reply_told place answer layer (Some login) (Some which) e t =
-      let there = served_there (length node.units) (login_at node place) login e in
+      let there = served_is (length node.units) (login_at node place) login e in
       let inside : place < 8 = (let l = within node.logins.places place login there in let c = g.table.sound.size in omega arith) in
       advance_told (layered layer) g.mid.size disks place inside login told which answer before now t
   reply_told place answer layer None which e t = (t.0, refl)

@@ -1,6 +1,7 @@
 -- Each turn of an agent: a reply, a time-out, a write of ORB_POINTER or of DOORBELL.
 use Rattle.std.proofs.Common.{◌≡◌, ◌∙◌, refl, sym, ap, subst, ℕ, ◌<◌, ◌&&◌, ◌||◌, not, is_some, Bool, true, false, cond, List, Option, None}
 use Rattle.std.specs.Prelude.{slice_set}
+use Rattle.std.proofs.lemmas.Bool.{false≢true, true≢false}
 use Rattle.label_table.specs.Layer.{Layer}
 use Rattle.login_table.specs.declared.login.Login.{Login}
 use Rattle.orb_layout.specs.declared.ask.Ask.{Ask}
@@ -21,8 +22,6 @@ use Rattle.sbp_target.specs.Desks.{taken}
 use Rattle.sbp_target.specs.Nodes.{NodeState, Scene, desk_at, scene, with_desk}
 use Rattle.sbp_target.specs.Receiving.{expired_with}
 use Rattle.sbp_target.specs.Replies.{Stage, advanced_with, came, changed_by, follow_all, replied_with, scene_of, stage, whole}
-use Rattle.sbp_target.specs.Agents.{ask_main, noted, send_ahead}
-use Rattle.sbp_target.specs.Telling.{tell_step}
 use Rattle.sbp_target.proofs.Histories.Calling.{Good, not_eight}
 use Rattle.sbp_target.proofs.Histories.Following.{Fits}
 use Rattle.sbp_target.proofs.Histories.Stepped.{Behind, Over, is_asked}
@@ -33,17 +32,9 @@ use Rattle.sbp_world.proofs.Agents.Follows.{Done, Settled, Stepped, follows, ove
 use Rattle.sbp_world.proofs.Agents.Mild.{Mild}
 use Rattle.sbp_world.proofs.Agents.Serials.{Paired, Turning, one_unless, paired_as, paired_more, requests_within}
 use Rattle.sbp_world.proofs.Agents.Walk.{Holds, Told as Tells, desk_set, holds_set, holds_still, told_out}
-
-no : false ≡ true → ⊥
-no e = cc
-
-no_2 : true ≡ false → ⊥
-no_2 e = cc
+use Rattle.sbp_world.proofs.Agents.AskedLate.{quiet_follow}
 
 -- ---- a step that asks for nothing and tells nothing
-quiet_follow : (q : ℕ) (login : Login) (step : AgentStep) (s : Scene) → step ≡ quiet → follow q login step s ≡ s
-unfolding follow ask_main noted tell_step send_ahead
-quiet_follow q login step s e = subst (λ (x : AgentStep). follow q login x s ≡ s) (sym e) refl
 
 pub settled_done : {Calm : Type 0} (requests : List Request) (q : ℕ) (before : NodeState) (first : Agent) (pointer : Option ℕ) (m : Machine) (s : Scene) → Settled m pointer first → Tells first first s.outbox → Holds q before m s.node → Paired requests (desk_at s.node q) first → Done requests q before first pointer Calm s
 settled_done requests q before first pointer m s st t h p = record {
@@ -79,8 +70,8 @@ ahead_flag true i k had d x e a f = turned had d
     turned false c = refl
 ahead_flag false true true had d x e a f = f ∙ a refl ∙ ap (λ (h : Bool). h && not (d || false)) (sym (a refl))
 ahead_flag false true false true d x e a f = f ∙ e
-ahead_flag false true false false d x e a f = absurd (no_2 e)
-ahead_flag false false true had d x e a f = absurd (no e)
+ahead_flag false true false false d x e a f = absurd (true≢false e)
+ahead_flag false false true had d x e a f = absurd (false≢true e)
 ahead_flag false false false had d x e a f = e
 
 module _ {requests : List Request} (node : NodeState) (g : Good node) (q : ℕ) (b : q < 8) (a : Agent) (is : IsOf requests a (desk_at node q)) where

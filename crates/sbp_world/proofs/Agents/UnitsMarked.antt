@@ -2,7 +2,6 @@
 -- load moved one.
 use Rattle.std.proofs.Common.{arith, ◌≡◌, ◌∙◌, refl, sym, ap, ℕ, suc, ◌+◌, ◌^◌, ◌==◌, ◌&&◌, nat_eq, not, Bool, true, false, cond, List, [], ◌∷◌, length, Option, Some, None, Result, Ok, Err}
 use Rattle.std.specs.List.{cons_option}
-use Rattle.std.proofs.lemmas.Bool.Decides.{nat_tests}
 use Rattle.login_table.specs.declared.login.Login.{Login}
 use Rattle.login_table.specs.Sound.{IsSound}
 use Rattle.login_table.specs.Table.{place_at, units_places}
@@ -17,6 +16,7 @@ use Rattle.rbc_disk.specs.declared.request.Request.TheVariants as requests
 use Rattle.sbp_laws.specs.DiskFold.{all_but, asks_load, is_good, moves_disc, places_of}
 use Rattle.sbp_target.specs.Replies.{came}
 use Rattle.target_base.specs.Places.{is_of_unit, is_place, mask_of}
+use Rattle.sbp_world.proofs.Wire.Shares.{flip}
 
 -- ---- masks
 
@@ -55,16 +55,13 @@ other_bit true true k place later rest e h = ap (λ b. places_of (cond (not b) (
 other_bit true false k place later rest e h = ap (λ b. places_of (cond (not b) (k ∷ all_but place later) (all_but place later))) e ∙ ap (λ n. 2 ^ k + n) h
 other_bit false same k place later rest e h = h ∙ omega arith
 
-same_turned : (m n : ℕ) → nat_eq m n ≡ nat_eq n m
-same_turned m n = grind (arith, nat_tests)
-
 others_bits : (k unit place : ℕ) (places : List (Option Login)) → AreNumbered k places → places_of (all_but place (units_places unit places)) ≡ bits_from k unit (Some place) places
 others_bits k unit place [] n = refl
 others_bits k unit place (None ∷ places) n = others_bits (k + 1) unit place places (numbered_rest k None places n) ∙ omega arith
 others_bits k unit place (Some login ∷ places) n =
     let rest = others_bits (k + 1) unit place places (numbered_rest k (Some login) places n) in
     ap (λ p. places_of (all_but place (cons_option (cond (nat_eq login.unit unit) (Some p) None) (units_places unit places)))) (numbered_first k login places n)
-    ∙ other_bit (nat_eq login.unit unit) (nat_eq place k) k place (units_places unit places) (bits_from (k + 1) unit (Some place) places) (same_turned k place) rest
+    ∙ other_bit (nat_eq login.unit unit) (nat_eq place k) k place (units_places unit places) (bits_from (k + 1) unit (Some place) places) (flip k place) rest
 
 one_bit : (of_unit : Bool) (k : ℕ) (later : List ℕ) (rest : ℕ) → places_of later ≡ rest → places_of (cons_option (cond of_unit (Some k) None) later) ≡ cond (of_unit && true) (2 ^ k) 0 + rest
 one_bit true k later rest h = ap (λ n. 2 ^ k + n) h

@@ -4,6 +4,7 @@ use Rattle.std.proofs.Common.{arith, ◌≡◌, ◌∙◌, refl, sym, ap, subst,
 use Rattle.std.specs.Prelude.{slice_index_or, slice_set, unwrap_or}
 use Rattle.std.proofs.lemmas.Bool.Decides.{nat_tests}
 use Rattle.std.proofs.lemmas.List.{length-set, set_past}
+use Rattle.std.proofs.lemmas.Bool.{false≢true}
 use Rattle.label_table.proofs.Owned.{set_at}
 use Rattle.login_table.specs.declared.login.Login.{Login}
 use Rattle.login_table.specs.Table.{Table, find, is_of_node}
@@ -25,9 +26,6 @@ use Rattle.sbp_world.proofs.Agents.Management.Told.{office_in, one_note as offic
 use Rattle.sbp_world.proofs.Agents.Management.Still.{hist}
 use Rattle.sbp_world.proofs.Agents.Disabling.{IsStill, enabled_in, one_note, wire_in}
 use Rattle.sbp_world.proofs.Agents.Heeding.{AreHeard, Hears, IsHeard, all_off, off, ran_by}
-
-no : false ≡ true → ⊥
-no e = cc
 
 -- ---- a list of eight registers
 pub off_at : (enabled : List Bool) (place other : ℕ) → length enabled ≡ 8 → other < 8 → slice_index_or (slice_set enabled place false) other false ≡ cond (nat_eq other place) false (slice_index_or enabled other false)
@@ -85,7 +83,7 @@ module _ (start : List Disk) (past : List Moment) (q unit : ℕ) (logins : List 
     pub size : length (enabled_in start past w) ≡ 8
 
   pub faces_itself : length (enabled_in start past v) ≡ 8 → Facing v false
-  faces_itself size = record { table = refl; ids = λ n. refl; holders = λ place. same_holder (holder v place); runs = λ e. absurd (no e); size = size }
+  faces_itself size = record { table = refl; ids = λ n. refl; holders = λ place. same_holder (holder v place); runs = λ e. absurd (false≢true e); size = size }
 
   -- a note of the turn
   noted : (note : Note) (w : WorldState) (ran now : Bool) → Facing w ran → IsStill note → (office_in start past (with_note note w)).table ≡ (office_in start past w).table → ((n : ℕ) → id_for (wire_in start past (with_note note w)) 0 n ≡ id_for (wire_in start past w) 0 n) → (now ≡ true → last_unit (hist past (with_note note w)) ≡ unit) → Facing (with_note note w) now

@@ -1,10 +1,8 @@
 -- A request that was made of a body writes where its body does.
-use Rattle.std.proofs.Common.{◌≡◌, ◌∙◌, refl, ap, subst, ℕ, ◌+◌, ◌*◌, ◌/◌, ◌%◌, ◌^◌, ◌<◌, nat_le, Bool, true, false, cond, List, [], ◌∷◌, ◌++◌, length, Option, Some, None, arith}
+use Rattle.std.proofs.Common.{◌≡◌, ◌∙◌, refl, ap, subst, ℕ, nat_le, Bool, true, false, cond, List, length, Option, Some, None, arith}
 use Rattle.std.proofs.lemmas.Bool.Decides.{nat_tests}
 use Rattle.async_packet.specs.Canon.{canon, four, three}
 use Rattle.async_packet.specs.Fields.{largest, tcode_of}
-use Rattle.byteorder.specs.Endian.{big_bytes, big_number}
-use Rattle.byteorder.specs.Numbers.{big_from-bytes}
 use Rattle.label_table.specs.declared.judgement.Asked.{Asked}
 use Rattle.label_table.specs.Bodies.{Body, block_read, block_write, header_to, quadlet_read, quadlet_write, request_with}
 use Rattle.label_table.specs.Layer.{Layer, asked_at, asking_in, asking_step, peer_at, peer_place, unlabelled}
@@ -18,6 +16,8 @@ use Rattle.sbp_target.specs.declared.purpose.Purpose.{Purpose}
 use Rattle.sbp_target.specs.Agents.{agent_body}
 use Rattle.sbp_target.proofs.Histories.Stepped.{Carries, is_asked}
 use Rattle.sbp_world.proofs.Agents.Management.Requests.{writes_body}
+use Rattle.sbp_world.proofs.Hosts.Mild.{tcode_same}
+use Rattle.sbp_world.proofs.Agents.CrewLocks.{quad_tcode}
 
 -- ---- the bytes of a request are its body's with its label in them
 
@@ -40,28 +40,11 @@ step_has layer peer body purpose = in_has (peer_place peer layer) layer peer (un
 
 -- ---- they begin with a tcode of 0 or 1 where the body writes
 
-tcode_same : (number : ℕ) (bytes : List ℕ) → tcode_of (with_label number bytes) ≡ tcode_of bytes
-unfolding with_label tcode_of
-tcode_same number [] = refl
-tcode_same number (x ∷ []) = refl
-tcode_same number (x ∷ y ∷ []) = refl
-tcode_same number (x ∷ y ∷ z ∷ bytes) = omega arith
-
 abbrev tcode_for : Body → ℕ
 tcode_for (quadlet_write offset value) = 0
 tcode_for (block_write offset payload) = 1
 tcode_for (quadlet_read offset) = 4
 tcode_for (block_read offset asked) = 5
-
-first_tcode : (peer tcode : ℕ) → tcode < 16 → (peer * 2 ^ 16 + 0 * 2 ^ 10 + 1 * 2 ^ 8 + tcode * 2 ^ 4 + 0) % 256 ^ 4 / 2 ^ 4 % 2 ^ 4 ≡ tcode
-first_tcode peer tcode small = omega arith
-
-quad_tcode : (peer tcode : ℕ) (bytes rest : List ℕ) → tcode < 16 → bytes ≡ big_bytes 4 (peer * 2 ^ 16 + 0 * 2 ^ 10 + 1 * 2 ^ 8 + tcode * 2 ^ 4 + 0) ++ rest → tcode_of bytes ≡ tcode
-unfolding tcode_of
-quad_tcode peer tcode bytes rest small e =
-    ap (λ xs. big_number 4 xs / 2 ^ 4 % 2 ^ 4) e
-    ∙ ap (λ n. n / 2 ^ 4 % 2 ^ 4) (big_from-bytes 4 (peer * 2 ^ 16 + 0 * 2 ^ 10 + 1 * 2 ^ 8 + tcode * 2 ^ 4 + 0) rest)
-    ∙ first_tcode peer tcode small
 
 body_tcode : (node peer : ℕ) (body : Body) → tcode_of (canon (request_with (header_to node peer 0) body)) ≡ tcode_for body
 unfolding three four

@@ -1,6 +1,5 @@
 -- Each call of an initiator is what the wire takes a call of a node for.
-use Rattle.std.proofs.Common.{arith, ◌≡◌, refl, sym, subst, ℕ, ◌+◌, ◌^◌, ◌<◌, ◌≤◌, ◌==◌, nat_lt, Bool, true, false, cond, List, [], ◌∷◌, Option, Some, None, Result, Ok, Err}
-use Rattle.std.proofs.lemmas.Bool.Decides.{nat_tests}
+use Rattle.std.proofs.Common.{arith, ◌≡◌, refl, sym, subst, ℕ, ◌+◌, ◌^◌, ◌<◌, ◌≤◌, nat_lt, Bool, true, false, cond, List, [], ◌∷◌, Option, Some, None, Result, Ok, Err}
 use Rattle.async_packet.specs.Labels.{LabelParts}
 use Rattle.async_packet.specs.Packet.{Packet, header_in}
 use Rattle.bus_transactions.specs.Fitting.{AreBytes, AreSmall, IsLayer}
@@ -34,6 +33,7 @@ use Rattle.sbp_world.proofs.FitInitiator.Acts.{acts_fit}
 use Rattle.sbp_world.proofs.FitInitiator.Memory.{free_fits, new_memory_fits}
 use Rattle.sbp_world.proofs.FitInitiator.Requests.{Answers, cause_of, requested}
 use Rattle.sbp_world.proofs.FitInitiator.Turns.{Keeps, Said, Tells, drops, ends_for, fits_memory}
+use Rattle.sbp_world.proofs.Common.{same_number}
 
 -- what is known of an initiator with so many actions, by its own count
 renews : (known : ℕ → Type 0) (acts : ℕ) (s : InitiatorState) → FitsState known acts (acts + 1) s → FitsState known s.counts.acts (s.counts.acts + 1) s
@@ -79,9 +79,6 @@ module _ (known : ℕ → Type 0) (ids : AreIds known) (generation : ℕ) (bytes
   is_judged : (judged : Judged) → judged ≡ judged_for (cause_of judged)
   is_judged judgements.Got = refl
   is_judged (judgements.Ignored cause) = refl
-
-  same_number : (n : ℕ) → (n == n) ≡ true
-  same_number n = grind (arith, nat_tests)
 
   answered_by : (p : Packet) (rcode : ℕ) (r : List ℕ × Layer Purpose) → Answering known ids before (as_before rcode) p bytes r.1 (answer_to p r.0 ∷ []) [] → (let t = responded_as r (header_in p).source empty_outbox (record s { layer = before }) in Answering known ids before (as_before rcode) p bytes t.1.layer t.0.packets t.0.sides × FitsState known s.counts.acts (s.counts.acts + 1) t.1)
   answered_by p rcode (response, layer) m = (m, h.fits)

@@ -35,11 +35,9 @@ use Rattle.orb_list.specs.Lists.{ListState, drop_lists, dummy_lists, free_lists,
 use Rattle.sbp_initiator.specs.Commands.{prepared_as, put_lists}
 use Rattle.sbp_journal.specs.declared.event.Cmd.{Cmd}
 use Rattle.sbp_world.specs.FitInitiator.{BytesCommand, FitsMemory, FitsPlace, FitsSlot}
+use Rattle.sbp_world.proofs.FitTarget.Agents.{quads_bytes}
 
 -- ---- bytes that are written
-quads_bytes : (quads : List ℕ) → AreBytes (quad_bytes quads)
-quads_bytes [] = no_bytes
-quads_bytes (q ∷ quads) = bytes_append (big_bytes 4 q) (quad_bytes quads) (bytes_quad q) (quads_bytes quads)
 
 pub bytes_patch : (old : List ℕ) (at : ℕ) (bytes : List ℕ) → AreBytes old → AreBytes bytes → AreBytes (patch old at bytes)
 bytes_patch old at bytes a b =
@@ -281,7 +279,7 @@ rcode_small : (rcode : Rcode) → rcode_number rcode < 2 ^ 4
 rcode_small TypeError = omega arith
 rcode_small AddressError = omega arith
 
-taken_length : (at count : ℕ) (xs : List ℕ) → at + count ≤ length xs → length (take count (drop at xs)) ≡ count
+pub taken_length : (at count : ℕ) (xs : List ℕ) → at + count ≤ length xs → length (take count (drop at xs)) ≡ count
 taken_length at count xs h = simp (length-take, length-drop) (omega arith)
 
 read_by : (m : Memory) (out : List ℕ) (r : Result Spot Rcode) → FitsMemory m → AreBytes out → IfInside m (length out) r → FitsRead (length out) (read_at m out r)

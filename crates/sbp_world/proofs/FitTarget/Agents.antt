@@ -112,14 +112,14 @@ pointer_fits bytes at a = pointer_if _ (offset_at bytes at) (offset_fits bytes a
 pub orb_fits : (bytes : List ℕ) → AreBytes bytes → FitsOrb (command_orb bytes)
 orb_fits bytes a = record { next = pointer_fits bytes 0 a; descriptor = offset_fits bytes 8 a }
 
-aligned_fits : (offset : ℕ) → offset < 2 ^ 48 → aligned offset < 2 ^ 48
+pub aligned_fits : (offset : ℕ) → offset < 2 ^ 48 → aligned offset < 2 ^ 48
 aligned_fits offset h = omega arith
 
 -- ---- buffers
-chunk_inside : (segment : Segment) (done : ℕ) → FitsSegment segment → nat_lt done segment.length ≡ true → segment.base + done < 2 ^ 48
+pub chunk_inside : (segment : Segment) (done : ℕ) → FitsSegment segment → nat_lt done segment.length ≡ true → segment.base + done < 2 ^ 48
 chunk_inside segment done h e = grind (arith, nat_tests)
 
-chunk_by : (b : Bool) (segment : Segment) (done limit left : ℕ) (rest : Option Chunk) → nat_lt done segment.length ≡ b → FitsSegment segment → (cut_to left rest).offset < 2 ^ 48 → (cut_to left (cond b (Some (chunk (segment.base + done) (min limit (segment.length - done)))) rest)).offset < 2 ^ 48
+pub chunk_by : (b : Bool) (segment : Segment) (done limit left : ℕ) (rest : Option Chunk) → nat_lt done segment.length ≡ b → FitsSegment segment → (cut_to left rest).offset < 2 ^ 48 → (cut_to left (cond b (Some (chunk (segment.base + done) (min limit (segment.length - done)))) rest)).offset < 2 ^ 48
 chunk_by true segment done limit left rest e h r = chunk_inside segment done h e
 chunk_by false segment done limit left rest e h r = r
 

@@ -1,6 +1,8 @@
 -- What a request that is got asks for has an answer that fits, and names addresses of 48 bits.
 use Rattle.std.proofs.Common.{arith, ◌≡◌, ◌≢◌, refl, sym, ◌∙◌, subst, ℕ, ◌+◌, ◌-◌, ◌^◌, ◌<◌, ◌≤◌, ◌==◌, ◌&&◌, nat_le, Bool, true, false, cond, List, length, Option, Some, None}
 use Rattle.std.proofs.lemmas.Bool.Decides.{nat_tests}
+use Rattle.std.proofs.lemmas.Bool.{false≢true}
+use Rattle.std.proofs.lemmas.Option.{same_Some}
 use Rattle.async_packet.specs.declared.packet.Header.{Header}
 use Rattle.async_packet.specs.Packet.{Packet, lock, lock_response, read_block, read_block_response, read_quadlet, read_quadlet_response, write_block, write_quadlet, write_response}
 use Rattle.bus_transactions.specs.Fitting.{AreBytes}
@@ -36,9 +38,6 @@ answer_small (read_block_response header rcode payload) b = either_small (rcode 
 answer_small (lock header offset extended payload) b = tt
 answer_small (lock_response header rcode extended payload) b = either_small (rcode == 0) Done rcode tt
 
-untrue : false ≡ true → ⊥
-untrue e = cc
-
 abbrev pub FitsAccess : Packet → Access → Type 0
 FitsAccess p accesses.State = (given : List ℕ) → length given ≡ 4 → Gives p 0 given
 FitsAccess p accesses.Pointer = (given : List ℕ) → length given ≡ 8 → Gives p 0 given
@@ -53,33 +52,30 @@ FitsDemand size p (demands.Rom at len) = (at + len ≤ size) × ((given : List �
 FitsDemand size p (demands.Manage orb) = ((rcode : ℕ) (given : List ℕ) → Gives p rcode given) × (orb < 2 ^ 48)
 FitsDemand size p (demands.Agent place access) = FitsAccess p access
 
-same : (a b : Access) → Some a ≡ Some b → a ≡ b
-same a b e = cc
-
 eight : (n : ℕ) → (n == 8) ≡ true → n ≡ 8
 eight n e = grind (arith, nat_tests)
 
 point_fits_if : (c : Bool) (header : Header) (offset : ℕ) (payload : List ℕ) (access : Access) → AreBytes payload → cond c (Some (accesses.Point (pointer_at payload 0))) None ≡ Some access → FitsAccess (write_block header offset payload) access
 point_fits_if true header offset payload access b e =
-    subst (λ (x : Access). FitsAccess (write_block header offset payload) x) (same (accesses.Point (pointer_at payload 0)) access e) (λ rcode given. tt, pointer_fits payload 0 b)
+    subst (λ (x : Access). FitsAccess (write_block header offset payload) x) (same_Some (accesses.Point (pointer_at payload 0)) access e) (λ rcode given. tt, pointer_fits payload 0 b)
 point_fits_if false header offset payload access b e = cc
 
 pointer_fits_if : (c : Bool) (header : Header) (offset asked : ℕ) (access : Access) → (asked == 8) ≡ c → cond c (Some accesses.Pointer) None ≡ Some access → FitsAccess (read_block header offset asked) access
 pointer_fits_if true header offset asked access f e =
-    subst (λ (x : Access). FitsAccess (read_block header offset asked) x) (same accesses.Pointer access e) (λ given l r. l ∙ sym (eight asked f))
+    subst (λ (x : Access). FitsAccess (read_block header offset asked) x) (same_Some accesses.Pointer access e) (λ given l r. l ∙ sym (eight asked f))
 pointer_fits_if false header offset asked access f e = cc
 
 access_fits : (register : Register) (p : Packet) (access : Access) → BytesOf p → accessed register p ≡ Some access → FitsAccess p access
 access_fits registers.AgentState (write_quadlet header offset value) access b e = cc
 access_fits registers.AgentState (write_block header offset payload) access b e = cc
-access_fits registers.AgentState (read_quadlet header offset) access b e = subst (λ (x : Access). FitsAccess (read_quadlet header offset) x) (same accesses.State access e) (λ given l r. l)
+access_fits registers.AgentState (read_quadlet header offset) access b e = subst (λ (x : Access). FitsAccess (read_quadlet header offset) x) (same_Some accesses.State access e) (λ given l r. l)
 access_fits registers.AgentState (read_block header offset asked) access b e = cc
 access_fits registers.AgentState (write_response header rcode) access b e = cc
 access_fits registers.AgentState (read_quadlet_response header rcode value) access b e = cc
 access_fits registers.AgentState (read_block_response header rcode payload) access b e = cc
 access_fits registers.AgentState (lock header offset extended payload) access b e = cc
 access_fits registers.AgentState (lock_response header rcode extended payload) access b e = cc
-access_fits registers.AgentReset (write_quadlet header offset value) access b e = subst (λ (x : Access). FitsAccess (write_quadlet header offset value) x) (same accesses.Reset access e) (λ rcode given. tt)
+access_fits registers.AgentReset (write_quadlet header offset value) access b e = subst (λ (x : Access). FitsAccess (write_quadlet header offset value) x) (same_Some accesses.Reset access e) (λ rcode given. tt)
 access_fits registers.AgentReset (write_block header offset payload) access b e = cc
 access_fits registers.AgentReset (read_quadlet header offset) access b e = cc
 access_fits registers.AgentReset (read_block header offset asked) access b e = cc
@@ -97,7 +93,7 @@ access_fits registers.OrbPointer (read_quadlet_response header rcode value) acce
 access_fits registers.OrbPointer (read_block_response header rcode payload) access b e = cc
 access_fits registers.OrbPointer (lock header offset extended payload) access b e = cc
 access_fits registers.OrbPointer (lock_response header rcode extended payload) access b e = cc
-access_fits registers.Doorbell (write_quadlet header offset value) access b e = subst (λ (x : Access). FitsAccess (write_quadlet header offset value) x) (same accesses.Ring access e) (λ rcode given. tt)
+access_fits registers.Doorbell (write_quadlet header offset value) access b e = subst (λ (x : Access). FitsAccess (write_quadlet header offset value) x) (same_Some accesses.Ring access e) (λ rcode given. tt)
 access_fits registers.Doorbell (write_block header offset payload) access b e = cc
 access_fits registers.Doorbell (read_quadlet header offset) access b e = cc
 access_fits registers.Doorbell (read_block header offset asked) access b e = cc
@@ -106,7 +102,7 @@ access_fits registers.Doorbell (read_quadlet_response header rcode value) access
 access_fits registers.Doorbell (read_block_response header rcode payload) access b e = cc
 access_fits registers.Doorbell (lock header offset extended payload) access b e = cc
 access_fits registers.Doorbell (lock_response header rcode extended payload) access b e = cc
-access_fits registers.UnsolicitedStatusEnable (write_quadlet header offset value) access b e = subst (λ (x : Access). FitsAccess (write_quadlet header offset value) x) (same accesses.Enable access e) (λ rcode given. tt)
+access_fits registers.UnsolicitedStatusEnable (write_quadlet header offset value) access b e = subst (λ (x : Access). FitsAccess (write_quadlet header offset value) x) (same_Some accesses.Enable access e) (λ rcode given. tt)
 access_fits registers.UnsolicitedStatusEnable (write_block header offset payload) access b e = cc
 access_fits registers.UnsolicitedStatusEnable (read_quadlet header offset) access b e = cc
 access_fits registers.UnsolicitedStatusEnable (read_block header offset asked) access b e = cc
@@ -166,15 +162,15 @@ somewhere None p f = (not_complete 6, omega arith)
 
 -- a read inside the ROM
 rom_gives : (p : Packet) → is_read p ≡ true → (given : List ℕ) → length given ≡ length_in p → Gives p 0 given
-rom_gives (write_quadlet header offset value) e given l = absurd (untrue e)
-rom_gives (write_block header offset payload) e given l = absurd (untrue e)
+rom_gives (write_quadlet header offset value) e given l = absurd (false≢true e)
+rom_gives (write_block header offset payload) e given l = absurd (false≢true e)
 rom_gives (read_quadlet header offset) e given l = λ r. l
 rom_gives (read_block header offset asked) e given l = λ r. l
-rom_gives (write_response header rcode) e given l = absurd (untrue e)
-rom_gives (read_quadlet_response header rcode value) e given l = absurd (untrue e)
-rom_gives (read_block_response header rcode payload) e given l = absurd (untrue e)
-rom_gives (lock header offset extended payload) e given l = absurd (untrue e)
-rom_gives (lock_response header rcode extended payload) e given l = absurd (untrue e)
+rom_gives (write_response header rcode) e given l = absurd (false≢true e)
+rom_gives (read_quadlet_response header rcode value) e given l = absurd (false≢true e)
+rom_gives (read_block_response header rcode payload) e given l = absurd (false≢true e)
+rom_gives (lock header offset extended payload) e given l = absurd (false≢true e)
+rom_gives (lock_response header rcode extended payload) e given l = absurd (false≢true e)
 
 row_reads : (r : Reached) → row_of r ≡ by_rom → r.reads_rom ≡ true
 row_reads r e = by r.is_lock r.is_empty r.writes_rom r.reads_rom r.is_served r.is_start e
@@ -214,9 +210,9 @@ rom_fits size p e = by (is_read p) (nat_le rom_start (offset_in p)) (nat_le (off
   where
     by : (a b c : Bool) → is_read p ≡ a → nat_le rom_start (offset_in p) ≡ b → nat_le (offset_in p + length_in p) (rom_start + size) ≡ c → (a && (b && c)) ≡ true → FitsDemand size p (demands.Rom (offset_in p - rom_start) (length_in p))
     by true true true x y z f = (rom_inside size (offset_in p) (length_in p) y z, rom_gives p x)
-    by true true false x y z f = absurd (untrue f)
-    by true false c x y z f = absurd (untrue f)
-    by false b c x y z f = absurd (untrue f)
+    by true true false x y z f = absurd (false≢true f)
+    by true false c x y z f = absurd (false≢true f)
+    by false b c x y z f = absurd (false≢true f)
 
 demand_by_fits : (row : Row) (size : ℕ) (p : Packet) → row_of (reached size p) ≡ row → BytesOf p → FitsDemand size p (demand_by row p)
 demand_by_fits by_type size p e b = (not_complete 5, omega arith)

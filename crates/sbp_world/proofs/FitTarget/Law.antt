@@ -1,5 +1,5 @@
 -- Each call of a target is what the wire takes a call of a node for.
-use Rattle.std.proofs.Common.{arith, ◌≡◌, refl, sym, ◌∙◌, subst, ℕ, zero, suc, ◌+◌, ◌^◌, ◌<◌, ◌≤◌, ◌==◌, nat_eq, nat_lt, Bool, true, false, cond, List, [], ◌∷◌, length, map, get_or, set, Option, Some, None, Result, Ok, Err}
+use Rattle.std.proofs.Common.{arith, ◌≡◌, refl, sym, ◌∙◌, subst, ℕ, zero, suc, ◌+◌, ◌^◌, ◌<◌, ◌≤◌, nat_eq, nat_lt, Bool, true, false, cond, List, [], ◌∷◌, length, map, get_or, set, Option, Some, None, Result, Ok, Err}
 use Rattle.std.proofs.Math.ListN.{get_or-eq_default, get_or-map}
 use Rattle.std.proofs.lemmas.List.{length-map}
 use Rattle.std.proofs.lemmas.Bool.Decides.{nat_tests}
@@ -51,6 +51,7 @@ use Rattle.sbp_world.proofs.FitTarget.Nodes.{fits_layer, seat_reset}
 use Rattle.sbp_world.proofs.FitTarget.Pass.{In, Leaves, Said, cuts_all}
 use Rattle.sbp_world.proofs.FitTarget.Replies.{concludes, times_out}
 use Rattle.sbp_world.proofs.FitTarget.Served.{answers_at, empty_fits, serves}
+use Rattle.sbp_world.proofs.Common.{same_number}
 
 -- ---- a delivery
 module _ (known : ℕ → Type 0) (ids : AreIds known) (told : Option Told) (disks : List Disk) (generation : ℕ) (bytes : List ℕ) (node : NodeState) (h : Holds known node) (may : MayReceive known told generation bytes node) where
@@ -101,9 +102,6 @@ module _ (known : ℕ → Type 0) (ids : AreIds known) (told : Option Told) (dis
         fits = g.fits;
         layer = g.made.beside.comes;
       }
-
-  same_number : (n : ℕ) → (n == n) ≡ true
-  same_number n = grind (arith, nat_tests)
 
   done_as : (f : Finding Purpose) → IsFoundAs node.layer generation bytes f → Done f (received_as told bytes f start)
   unfolding request_step

@@ -34,7 +34,6 @@ use Rattle.sbp_target.specs.Sending.{request_step}
 use Rattle.sbp_target.specs.Nodes.{Scene, scene, desk_at, login_at, with_desk}
 use Rattle.sbp_target.specs.Agents.{follow}
 use Rattle.sbp_target.specs.Units.{clear_from, clear_unit, cut_all}
-use Rattle.target_base.specs.Logins.{if_served}
 use Rattle.sbp_target.specs.Replies.{stage, Whole, scene_of, came, changed_by, announced_by, follow_all, advanced_with, advance, plain_at, replied, replied_with, served_login, replied_by, replied_to}
 use Rattle.sbp_target.specs.Management.{manager_body, place_in, cut_placed, tell_left, tell_failed, effect_by, decided_by, with_manager, manager_lost, lost_in, lose_operation, manager_sent, manager_asked, ask_manager, managed_with, managed_in, manage}
 use Rattle.sbp_target.specs.Receiving.{concluded, expired_with, expired_by, expire_agent, timed_out}
@@ -43,6 +42,7 @@ use Rattle.sbp_world.proofs.FitTarget.Agents.{BytesIn, FitsAsk, FitsStep, abort_
 use Rattle.sbp_world.proofs.FitTarget.Manager.{FitsReply, managed_fits}
 use Rattle.sbp_world.proofs.FitTarget.Nodes.{IfBody, fits_desk, fits_layer, fits_manager, manager_body_fits, none_main}
 use Rattle.sbp_world.proofs.FitTarget.Pass.{At, In, IsServed, Keeps, Said, announces_all, anywhere, cuts_all, cuts_at, follows, pick, requests}
+use Rattle.sbp_world.proofs.Agents.AskedReplies.{served_is}
 
 module _ (known : ℕ → Type 0) (P : Said) where
   abbrev Of : Layer Purpose → OutboxState → Type 0
@@ -108,20 +108,9 @@ module _ (known : ℕ → Type 0) (P : Said) where
         advances_by told q login which answer w (reply_step (desk_at w.node q).agent q (plain_at s login.unit) told which answer)
         (reply_fits (desk_at w.node q).agent q (plain_at s login.unit) told which answer t b (h.fits.agents q)) v h
 
-    served_in : (units : ℕ) (x : Option Login) (login : Login) → if_served units x ≡ Some login → x ≡ Some login
-    served_in units None login e = cc
-    served_in units (Some other) login e = by (nat_lt other.unit units) e
-      where
-        by : (b : Bool) → cond b (Some other) None ≡ Some login → Some other ≡ Some login
-        by true f = f
-        by false f = absurd (off f)
-          where
-            off : None ≡ Some login → ⊥
-            off z = cc
-
     replies_by : (told : Option Told) (q peer : ℕ) (label : LabelParts) (answer : Answer) (login : Option Login) (which : Option Which) (w : Whole) → served_login w.node q ≡ login → which_in (desk_at w.node q) peer label ≡ which → BytesTold told → BytesIn answer → In known P (scene_of w) → In known P (scene_of (replied_by told q answer login which w))
     replies_by told q peer label answer (Some login) (Some which) w e f t b h =
-        let is : login_at w.node q ≡ Some login = served_in (length w.node.units) (login_at w.node q) login e in
+        let is : login_at w.node q ≡ Some login = served_is (length w.node.units) (login_at w.node q) login e in
         let n = which_known (desk_at w.node q) login peer label which (subst (λ (x : Option Login). FitsSeat known (desk_at w.node q).main (desk_at w.node q).ahead x) is (h.fits.seats q)) f in
         advances told q login which answer w t b
         (record { there = n; fifo = (subst (λ (x : Option Login). FitsLogin known x) is (h.fits.logins q)).0 })

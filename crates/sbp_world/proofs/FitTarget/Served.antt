@@ -1,6 +1,5 @@
 -- A request that is served takes what is said before its answer to what is said behind it, by an answer that fits.
-use Rattle.std.proofs.Common.{arith, ◌≡◌, refl, sym, ap, ◌∙◌, subst, ℕ, ◌+◌, ◌^◌, ◌<◌, ◌≤◌, ◌&&◌, not, is_none, Bool, true, false, cond, List, [], ◌∷◌, ◌++◌, length, take, drop, Option, Some, None, Result, Ok, Err}
-use Rattle.std.proofs.lemmas.List.{length-drop, length-take}
+use Rattle.std.proofs.Common.{arith, ◌≡◌, refl, sym, ap, ◌∙◌, subst, ℕ, ◌+◌, ◌^◌, ◌<◌, ◌&&◌, not, is_none, Bool, true, false, cond, List, [], ◌∷◌, ◌++◌, length, take, drop, Option, Some, None, Result, Ok, Err}
 use Rattle.byteorder.specs.Endian.{big_bytes}
 use Rattle.async_packet.specs.Packet.{Packet, header_in}
 use Rattle.bus_transactions.specs.Fitting.{AreBytes, FitsAnswer}
@@ -48,6 +47,7 @@ use Rattle.sbp_world.proofs.FitTarget.Nodes.{fits_desk, fits_layer}
 use Rattle.sbp_world.proofs.FitTarget.Pass.{In, IsServed, Keeps, Leaves, Said, anywhere, cuts_at, follows}
 use Rattle.sbp_world.proofs.FitTarget.Replies.{asks_manager}
 use Rattle.sbp_target.proofs.Reached.{demand_place}
+use Rattle.sbp_world.proofs.FitInitiator.Memory.{taken_length}
 
 -- an answer to this request with such an rcode takes P to Q
 pub record Answers (P Q : Said) (request : Packet) (bytes : List ℕ) (stated : ℕ → Bool) : Type 0 where
@@ -56,9 +56,6 @@ pub record Answers (P Q : Said) (request : Packet) (bytes : List ℕ) (stated : 
 -- nothing is given
 pub empty_fits : (p : Packet) (rcode : ℕ) → Gives p rcode [] → rcode < 2 ^ 4 → FitsAnswer p rcode []
 empty_fits p rcode g s = record { small = s; bytes = no_bytes; gives = g }
-
-taken_length : (at len : ℕ) (xs : List ℕ) → at + len ≤ length xs → length (take len (drop at xs)) ≡ len
-taken_length at len xs h = simp (length-take, length-drop) (omega arith)
 
 module _ (known : ℕ → Type 0) (P Q : Said) (request : Packet) (bytes : List ℕ) (stated : ℕ → Bool) (a : Answers P Q request bytes stated) where
   answers_by : (r : List ℕ × Layer Purpose) (o : OutboxState) → Q r.1 (o.packets ++ answer_to request r.0 ∷ []) o.sides → (let x = answered_by r o (header_in request).source in Q x.0 x.1.packets x.1.sides)

@@ -33,6 +33,7 @@ use Rattle.sbp_world.proofs.Hosts.Acts.{act_left}
 use Rattle.sbp_world.proofs.Hosts.Beside.{beside_rests, pin_told}
 use Rattle.sbp_world.proofs.Hosts.Hosting.{hands_keep, hosts_are, state_here, state_there}
 use Rattle.sbp_world.proofs.Hosts.Liners.{host_listed, refuses_act}
+use Rattle.sbp_world.proofs.Common.{some_none}
 
 -- ---- what it hands out
 
@@ -40,12 +41,6 @@ pub record Requests (s : InitiatorState) (outbox : OutboxState) : Type 0 where
   pub packet : Outgoing
   pub to : packet.to ≡ s.target
   pub is : outbox ≡ record { packets = packet ∷ []; sides = [] }
-
-some_none : {A : Type 0} (number : ℕ) → Some number ≡ None → A
-some_none number e = absurd (differ e)
-  where
-    differ : Some number ≡ None → ⊥
-    differ e = cc
 
 asked_requests : (number : ℕ) (s : InitiatorState) (r : Option Asked × Layer Purpose) → (asked_as r (actions.Abort number) empty_outbox s).0 ≡ None → Requests s (asked_as r (actions.Abort number) empty_outbox s).1.0
 unfolding done_step

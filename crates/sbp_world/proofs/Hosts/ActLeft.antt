@@ -32,6 +32,9 @@ use Rattle.sbp_world.proofs.Hosts.Layered.{AreTame, is_tame, tame_more}
 use Rattle.sbp_world.proofs.Hosts.Listed.{behind_more}
 use Rattle.sbp_world.proofs.Hosts.PointerNotes.{pointer}
 use Rattle.sbp_world.proofs.Hosts.Requested.{done_sends}
+use Rattle.sbp_world.proofs.Pointers.Asks.{no_packet}
+use Rattle.sbp_world.proofs.Common.{some_none}
+use Rattle.sbp_world.proofs.Hosts.KnowActs.{no_packets}
 
 pub untrue : {A : Type 0} → false ≡ true → A
 untrue e = absurd (differ e)
@@ -208,24 +211,6 @@ pub record ActLeft (action : Action) (s : InitiatorState) (t : Turn) : Type 0 wh
   pub quiet : t.0.packets ≡ [] → t.1.layer ≡ s.layer
   pub asking : (packet : Outgoing) → t.0.packets ≡ packet ∷ [] → HasAsked action s packet t.1.layer
   pub names : rings action ≡ true → is_some s.lists.slots.present ≡ true → (past : List Moment) (i : ℕ) → pointer (behind t.0.sides past) i ≡ pointer past i
-
-some_none : {A : Type 0} (number : ℕ) → Some number ≡ None → A
-some_none number e = absurd (differ e)
-  where
-    differ : Some number ≡ None → ⊥
-    differ e = cc
-
-no_packets : {A : Type 0} (packet : Outgoing) → packet ∷ [] ≡ [] → A
-no_packets packet e = absurd (differ e)
-  where
-    differ : packet ∷ [] ≡ [] → ⊥
-    differ e = cc
-
-no_packet : {A : Type 0} (packet : Outgoing) → [] ≡ packet ∷ [] → A
-no_packet packet e = absurd (differ e)
-  where
-    differ : [] ≡ packet ∷ [] → ⊥
-    differ e = cc
 
 module _ (action : Action) (s : InitiatorState) where
   asked_left : (demand : Demand) → demand_of action s ≡ Some demand → (r : Option Asked × Layer Purpose) → asked_for demand s ≡ r → (asked_as r action empty_outbox s).0 ≡ None → ActLeft action s (asked_as r action empty_outbox s).1

@@ -79,7 +79,7 @@ manages running status o s =
 
 -- ---- a status block
 
-not_got : (cause : Cause) → judgements.Ignored cause ≡ judgements.Got → ⊥
+pub not_got : (cause : Cause) → judgements.Ignored cause ≡ judgements.Got → ⊥
 not_got cause e = cc
 
 -- where it is got, it is answered complete

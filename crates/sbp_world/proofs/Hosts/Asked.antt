@@ -1,18 +1,18 @@
 -- What the transaction layer sends when it is asked for something: a request, under a label.
-use Rattle.std.proofs.Common.{arith, ◌≡◌, refl, sym, ◌∙◌, ap, ℕ, suc, ◌+◌, ◌<◌, Bool, true, false, cond, List, [], ◌∷◌, length, Option, Some, None}
+use Rattle.std.proofs.Common.{arith, ◌≡◌, refl, sym, ◌∙◌, ap, ℕ, suc, ◌+◌, ◌<◌, Bool, true, false, cond, List, length, Option, Some, None}
 use Rattle.async_packet.specs.Canon.{IsValid}
 use Rattle.async_packet.specs.Labels.{LabelParts}
 use Rattle.label_table.specs.declared.judgement.Asked.{Asked}
-use Rattle.label_table.specs.declared.place.Place.{Place}
 use Rattle.label_table.specs.Bodies.{Body, header_to, request_with}
 use Rattle.label_table.specs.Layer.{Layer, asked_at, asking_in, asking_step, peer_at, peer_place, unlabelled}
 use Rattle.label_table.specs.Peers.{begun_for}
-use Rattle.label_table.specs.Table.{begin_at, begin_step, lowest_from, serves}
+use Rattle.label_table.specs.Table.{begin_at, begin_step, lowest_from}
 use Rattle.label_table.proofs.Calls.{after_kept}
 use Rattle.sbp_journal.specs.Transactions.{Kind, part_of, request}
 use Rattle.sbp_initiator.specs.declared.purpose.Purpose.{Purpose}
 use Rattle.bus_transactions.specs.Fitting.{IsLayer}
 use Rattle.bus_transactions.proofs.MoveAsk.{asked_bytes}
+use Rattle.sbp_world.proofs.Pointers.Spelled.{below}
 
 -- under this label
 pub record IsRequest (number : ℕ) (bytes : List ℕ) : Type 0 where
@@ -32,12 +32,6 @@ IfRequest (Some asked) = IsRequest asked.label.number asked.bytes
 pub below_by : (b : Bool) (number count n : ℕ) (rest : Option ℕ) → cond b (Some number) rest ≡ Some n → (rest ≡ Some n → n < number + 1 + count) → n < number + suc count
 below_by true number count n rest e h = let f : number ≡ n = cc in omega arith
 below_by false number count n rest e h = let f = h e in omega arith
-
-below : (number : ℕ) (bytes : List ℕ) (places : List Place) (n : ℕ) → lowest_from number bytes places ≡ Some n → n < number + length places
-unfolding lowest_from
-below number bytes [] n e = cc
-below number bytes (place ∷ places) n e =
-    below_by (serves number bytes place) number (length places) n (lowest_from (number + 1) bytes places) e (λ f. below (number + 1) bytes places n f)
 
 module _ (layer : Layer Purpose) (peer : ℕ) (body : Body) (purpose : Purpose) (c : IsLayer layer) (v : IsValid (request_with (header_to layer.node peer 0) body)) where
   found_request : (k : ℕ) (number : Option ℕ) → ((n : ℕ) → number ≡ Some n → n < 64) → IfRequest (asked_at k layer (begun_for (peer_at layer k) peer purpose (begin_at number (peer_at layer k).table (unlabelled layer peer body)))).0

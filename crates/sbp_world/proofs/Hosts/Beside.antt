@@ -1,6 +1,7 @@
 -- Notes that say nothing of an initiator's slots leave its terms, and so does a packet that is sent, but for that of an abort.
 use Rattle.std.proofs.Common.{arith, ◌≡◌, refl, sym, ◌∙◌, ap, subst, ℕ, zero, suc, ◌<◌, ◌==◌, ◌&&◌, not, max, nat_eq, Bool, true, false, cond, List, [], ◌∷◌, length, map, slice_set, Option, Some, None, Result, Ok, Err}
 use Rattle.std.proofs.lemmas.Bool.Decides.{nat_tests}
+use Rattle.std.proofs.lemmas.Bool.{not-true}
 use Rattle.bus_memory.proofs.Written.{replicated}
 use Rattle.orb_layout.specs.declared.status.StatusKind.{StatusKind}
 use Rattle.orb_list.specs.declared.fault.ListFault.{ListFault}
@@ -70,12 +71,8 @@ beside_of T R s f b c e g h r =
     subst (λ x. Rows (T b) (map f (R x)) s) (sym g)
     (subst (λ y. Frees (over_at (T y)) f → Rows (T y) (map f (R false)) s) (sym e) (λ h. rests (T false) s (R false) f h r) h)
 
-not_here : (b : Bool) → not b ≡ true → b ≡ false
-not_here true e = cc
-not_here false e = refl
-
-turned : (i j : ℕ) → not (nat_eq i j) ≡ true → nat_eq j i ≡ false
-turned i j e = let d : nat_eq i j ≡ false = not_here (nat_eq i j) e in grind (arith, nat_tests)
+pub turned : (i j : ℕ) → not (nat_eq i j) ≡ true → nat_eq j i ≡ false
+turned i j e = let d : nat_eq i j ≡ false = not-true (nat_eq i j) e in grind (arith, nat_tests)
 
 -- ---- the ORB of a number
 
@@ -153,7 +150,7 @@ module _ (past : List Moment) (i : ℕ) (s : SlotTable) (r : AreRows past i s) w
         place = λ m l. cond b (cond (nat_eq m n) (cond (nat_eq l 0) low (terms.slot_at past i m l)) (terms.slot_at past i m l)) (terms.slot_at past i m l);
         prepared = λ x. cond b (cond (nat_eq x low) (Some (orb n 0)) (terms.prepared_in past i x)) (terms.prepared_in past i x);
         pinned = terms.pinned_orb past i;
-      }) (λ c. cond c (slice_set (terms.slots past i) (lowest_vacant (terms.slots past i)) (used (orb n 0))) (terms.slots past i)) s (terms.freed now i) (nat_eq i j) (nat_eq j i) (not_here (nat_eq i j) e) (turned i j e) (frees now i) r
+      }) (λ c. cond c (slice_set (terms.slots past i) (lowest_vacant (terms.slots past i)) (used (orb n 0))) (terms.slots past i)) s (terms.freed now i) (nat_eq i j) (nat_eq j i) (not-true (nat_eq i j) e) (turned i j e) (frees now i) r
   beside_append j n (suc k) cdb buffer e =
       let now = said (notes.Append j n (suc k) cdb buffer) ∷ past in
       let low = lowest_vacant (terms.slots past j) in
@@ -168,33 +165,33 @@ module _ (past : List Moment) (i : ℕ) (s : SlotTable) (r : AreRows past i s) w
         place = λ m l. cond b (cond (nat_eq m n) (cond (nat_eq l (suc k)) low (terms.slot_at past i m l)) (terms.slot_at past i m l)) (terms.slot_at past i m l);
         prepared = λ x. cond b (cond (nat_eq x low) (Some (orb n (suc k))) (terms.prepared_in past i x)) (terms.prepared_in past i x);
         pinned = terms.pinned_orb past i;
-      }) (λ c. cond c (slice_set (terms.slots past i) (lowest_vacant (terms.slots past i)) (used (orb n (suc k)))) (terms.slots past i)) s (terms.freed now i) (nat_eq i j) (nat_eq j i) (not_here (nat_eq i j) e) (turned i j e) (frees now i) r
+      }) (λ c. cond c (slice_set (terms.slots past i) (lowest_vacant (terms.slots past i)) (used (orb n (suc k)))) (terms.slots past i)) s (terms.freed now i) (nat_eq i j) (nat_eq j i) (not-true (nat_eq i j) e) (turned i j e) (frees now i) r
 
   beside_low : (j n k : ℕ) → not (nat_eq i j) ≡ true → AreRows (said (notes.Low j n k) ∷ past) i s
   beside_low j n k e =
       let now = said (notes.Low j n k) ∷ past in
-      beside_of (λ b. low_terms b n k (terms_at past i)) (λ c. terms.slots past i) s (terms.freed now i) (nat_eq i j) (nat_eq j i) (not_here (nat_eq i j) e) (turned i j e) (frees now i) r
+      beside_of (λ b. low_terms b n k (terms_at past i)) (λ c. terms.slots past i) s (terms.freed now i) (nat_eq i j) (nat_eq j i) (not-true (nat_eq i j) e) (turned i j e) (frees now i) r
 
   beside_linked : (j n k : ℕ) → not (nat_eq i j) ≡ true → AreRows (said (notes.Linked j n k) ∷ past) i s
   beside_linked j n k e =
       let now = said (notes.Linked j n k) ∷ past in
-      beside_of (λ b. link_terms b n k (terms_at past i)) (λ c. terms.slots past i) s (terms.freed now i) (nat_eq i j) (nat_eq j i) (not_here (nat_eq i j) e) (turned i j e) (frees now i) r
+      beside_of (λ b. link_terms b n k (terms_at past i)) (λ c. terms.slots past i) s (terms.freed now i) (nat_eq i j) (nat_eq j i) (not-true (nat_eq i j) e) (turned i j e) (frees now i) r
 
   beside_taken : (j n k : ℕ) (status : StatusKind) (answer : List ℕ) → not (nat_eq i j) ≡ true → AreRows (said (notes.Taken j n k status answer) ∷ past) i s
   beside_taken j n k status answer e =
       let now = said (notes.Taken j n k status answer) ∷ past in
       let taken : TakenStatus = record { status = status; src = terms.src_in (access_at (wire_terms past) (terms.last_got past)) } in
-      beside_of (λ b. taken_terms b n k taken (max (terms.passed past j n) (suc k)) (terms_at past i)) (λ c. rows_taken c n k status (terms.slots past i)) s (terms.freed now i) (nat_eq i j) (nat_eq j i) (not_here (nat_eq i j) e) (turned i j e) (frees now i) r
+      beside_of (λ b. taken_terms b n k taken (max (terms.passed past j n) (suc k)) (terms_at past i)) (λ c. rows_taken c n k status (terms.slots past i)) s (terms.freed now i) (nat_eq i j) (nat_eq j i) (not-true (nat_eq i j) e) (turned i j e) (frees now i) r
 
   beside_drop : (j n : ℕ) → not (nat_eq i j) ≡ true → AreRows (said (notes.Drop j n) ∷ past) i s
   beside_drop j n e =
       let now = said (notes.Drop j n) ∷ past in
-      beside_of (λ b. drop_terms b (terms_at past i)) (λ c. cond c (map put_to_rest (terms.slots past i)) (terms.slots past i)) s (terms.freed now i) (nat_eq i j) (nat_eq j i) (not_here (nat_eq i j) e) (turned i j e) (frees now i) r
+      beside_of (λ b. drop_terms b (terms_at past i)) (λ c. cond c (map put_to_rest (terms.slots past i)) (terms.slots past i)) s (terms.freed now i) (nat_eq i j) (nat_eq j i) (not-true (nat_eq i j) e) (turned i j e) (frees now i) r
 
   beside_abort : (j : ℕ) (word : OpWord) → not (nat_eq i j) ≡ true → AreRows (said (notes.Op j operations.Abort word) ∷ past) i s
   beside_abort j word e =
       let now = said (notes.Op j operations.Abort word) ∷ past in
-      beside_of (λ b. pin_terms b None (terms_at past i)) (λ c. terms.slots past i) s (terms.freed now i) (nat_eq i j) (nat_eq j i) (not_here (nat_eq i j) e) (turned i j e) (frees now i) r
+      beside_of (λ b. pin_terms b None (terms_at past i)) (λ c. terms.slots past i) s (terms.freed now i) (nat_eq i j) (nat_eq j i) (not-true (nat_eq i j) e) (turned i j e) (frees now i) r
 
   rest_of : (note : Note) → Frees (over_at (terms_at past i)) (terms.freed (said note ∷ past) i) → Rows (terms_at past i) (map (terms.freed (said note ∷ past) i) (terms.slots past i)) s
   rest_of note h = rests (terms_at past i) s (terms.slots past i) (terms.freed (said note ∷ past) i) h r
@@ -274,17 +271,17 @@ module _ (past : List Moment) (i : ℕ) (s : SlotTable) (r : AreRows past i s) w
   beside_sent serial generation zero to bytes e = rest_of (notes.Sent serial generation zero to bytes) (frees (said (notes.Sent serial generation zero to bytes) ∷ past) i)
   beside_sent serial generation (suc j) to bytes e =
       let now = said (notes.Sent serial generation (suc j) to bytes) ∷ past in
-      let d : nat_eq (suc j) (suc i) ≡ false = not_here (nat_eq (suc j) (suc i)) e in
+      let d : nat_eq (suc j) (suc i) ≡ false = not-true (nat_eq (suc j) (suc i)) e in
       let c : nat_eq i j ≡ false = grind (arith, nat_tests) in
       beside_of (λ b. pin_terms b (pins (event_of past) j (terms.present_list past j) (terms.pinned_orb past j)) (terms_at past i)) (λ x. terms.slots past i) s (terms.freed now i) (nat_eq i j) false c refl (frees now i) r
 
   beside_seen : (node generation : ℕ) → not (nat_eq node (suc i)) ≡ true → AreRows (said (notes.Seen node generation) ∷ past) i s
   beside_seen zero generation e =
       let now = said (notes.Seen zero generation) ∷ past in
-      beside_of (λ b. terms_at past i) (λ c. cond (c && not (generation == (wire_terms past).generation zero)) new_slots (terms.slots past i)) s (terms.freed now i) false (nat_eq zero (suc i)) refl (not_here (nat_eq zero (suc i)) e) (frees now i) r
+      beside_of (λ b. terms_at past i) (λ c. cond (c && not (generation == (wire_terms past).generation zero)) new_slots (terms.slots past i)) s (terms.freed now i) false (nat_eq zero (suc i)) refl (not-true (nat_eq zero (suc i)) e) (frees now i) r
   beside_seen (suc j) generation e =
       let now = said (notes.Seen (suc j) generation) ∷ past in
-      let d : nat_eq (suc j) (suc i) ≡ false = not_here (nat_eq (suc j) (suc i)) e in
+      let d : nat_eq (suc j) (suc i) ≡ false = not-true (nat_eq (suc j) (suc i)) e in
       let c : nat_eq i j ≡ false = grind (arith, nat_tests) in
       beside_of (λ b. pin_terms b (cond (generation == (wire_terms past).generation (suc j)) (terms.pinned_orb past j) None) (terms_at past i)) (λ c. cond (c && not (generation == (wire_terms past).generation (suc j))) new_slots (terms.slots past i)) s (terms.freed now i) (nat_eq i j) (nat_eq (suc j) (suc i)) c d (frees now i) r
 

@@ -48,7 +48,7 @@ src_by : (bytes : List ℕ) (kind : Option StatusKind) (block : StatusBlock) →
 src_by bytes None block e = cc
 src_by bytes (Some kind) block e = cc
 
-pick_read : {G : Type 0} (b : Bool) (fault : OrbFault) (rest : Result StatusBlock OrbFault) (block : StatusBlock) → (rest ≡ Ok block → G) → cond b (Err fault) rest ≡ Ok block → G
+pub pick_read : {G : Type 0} (b : Bool) (fault : OrbFault) (rest : Result StatusBlock OrbFault) (block : StatusBlock) → (rest ≡ Ok block → G) → cond b (Err fault) rest ≡ Ok block → G
 pick_read true fault rest block g e = cc
 pick_read false fault rest block g e = g e
 

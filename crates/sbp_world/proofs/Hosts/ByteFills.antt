@@ -1,8 +1,7 @@
 -- What a request that is written into a slot leaves of the page tables and the buffers of a memory.
-use Rattle.std.proofs.Common.{arith, ◌≡◌, refl, sym, ap, ◌∙◌, ℕ, ◌+◌, ◌-◌, ◌*◌, ◌<◌, ◌≤◌, ◌==◌, ◌&&◌, nat_le, nat_lt, Bool, true, false, cond, sum, List, [], ◌∷◌, ◌++◌, length, take, drop, slice_index_or, length-take, Option, Some, None}
+use Rattle.std.proofs.Common.{arith, ◌≡◌, refl, sym, ap, ◌∙◌, ℕ, ◌+◌, ◌-◌, ◌*◌, ◌<◌, ◌≤◌, ◌&&◌, nat_le, nat_lt, Bool, true, false, cond, sum, List, [], ◌∷◌, ◌++◌, length, take, drop, slice_index_or, length-take, Option, Some, None}
 use Rattle.std.proofs.lemmas.Bool.Decides.{nat_tests}
 use Rattle.std.proofs.lemmas.List.{get_or-take}
-use Rattle.std.proofs.lemmas.List.Sums.{sum_by-cons}
 use Rattle.bus_memory.specs.Laws.{IsWhole, is_same}
 use Rattle.bus_memory.specs.Memory.{Memory, bytes_in, patch, slot_at, with_armed, with_bytes}
 use Rattle.bus_memory.specs.Windows.{IsWindow, start}
@@ -17,6 +16,8 @@ use Rattle.sbp_initiator.specs.Commands.{asked_by}
 use Rattle.sbp_journal.specs.declared.event.Cmd.{Cmd}
 use Rattle.sbp_laws.specs.Served.{byte_of, data_at, in_front, or_byte}
 use Rattle.sbp_world.proofs.Hosts.ByteLists.{data_before, data_in, data_laid, data_of, is_in}
+use Rattle.sbp_world.proofs.Common.{same_number}
+use Rattle.sbp_world.proofs.Hosts.BytePlaces.{total}
 
 -- ---- bytes that are set in a window
 
@@ -24,13 +25,7 @@ pub set_in : (m : Memory) (window : Window) (at : ℕ) (bytes : List ℕ) (asked
 set_in m window at bytes asked b whole w e =
     window_set m window at bytes asked whole.slots whole.places w ∙ ap (λ c. cond c (patch (bytes_in m asked) at bytes) (bytes_in m asked)) e
 
-pub same_slot : (slot : ℕ) → (slot == slot) ≡ true
-same_slot slot = grind (arith, nat_tests)
-
 -- ---- data in segments
-
-total : (count : ℕ) (rest : List ℕ) → sum (count ∷ rest) ≡ count + sum rest
-total count rest = sum_by-cons (λ v. v) count rest
 
 -- a byte of one segment, and of those behind it
 segment_byte : (old : List ℕ) (at count : ℕ) (payload : List ℕ) (j : ℕ) (others : Option ℕ) → at + count ≤ length old → (is_in at count j ≡ true → others ≡ None) → or_byte others (slice_index_or (patch old at (take count payload)) j 0) ≡ or_byte (cond (is_in at count j) (data_at (Some (j - at)) payload) others) (slice_index_or old j 0)
@@ -81,7 +76,7 @@ segments_byte m slot at (count ∷ rest) payload j whole s h =
     let room = whole.sizes (windows.Buffer slot) in
     let others = data_in (behind at count) rest (drop count payload) j in
     segments_byte (with_bytes m (windows.Buffer slot) at (take count payload)) slot (behind at count) rest (drop count payload) j (whole_set m (windows.Buffer slot) at (take count payload) whole s (omega arith)) s (omega arith)
-    ∙ (ap (λ xs. or_byte others (slice_index_or xs j 0)) (set_in m (windows.Buffer slot) at (take count payload) (windows.Buffer slot) true whole s (same_slot slot))
+    ∙ (ap (λ xs. or_byte others (slice_index_or xs j 0)) (set_in m (windows.Buffer slot) at (take count payload) (windows.Buffer slot) true whole s (same_number slot))
     ∙ segment_byte old at count payload j others (omega arith) (λ i. data_before (behind at count) rest (drop count payload) j (let k : j < at + count = grind (arith, nat_tests) in omega arith)))
 
 segments_keep : (m : Memory) (slot at : ℕ) (counts payload : List ℕ) (asked : Window) → IsWhole m → slot < 32 → at + sum counts + 19 * length counts ≤ 32768 → is_same (windows.Buffer slot) asked ≡ false → bytes_in (data_in_segments m slot at counts payload) asked ≡ bytes_in m asked
@@ -110,7 +105,7 @@ plain_byte old payload j room = by_short (nat_lt j (length payload)) refl
 data_byte : (m : Memory) (slot : ℕ) (segments payload : List ℕ) (j : ℕ) → IsWhole m → slot < 32 → length payload ≤ 16384 → sum segments ≤ 16384 → length segments ≤ 64 → slice_index_or (slot_at (data_written m slot segments payload) slot).buffer j 0 ≡ or_byte (data_of segments payload j) (slice_index_or (slot_at m slot).buffer j 0)
 data_byte m slot [] payload j whole s p h l =
     let room = whole.sizes (windows.Buffer slot) in
-    ap (λ xs. slice_index_or xs j 0) (set_in m (windows.Buffer slot) 0 payload (windows.Buffer slot) true whole s (same_slot slot))
+    ap (λ xs. slice_index_or xs j 0) (set_in m (windows.Buffer slot) 0 payload (windows.Buffer slot) true whole s (same_number slot))
     ∙ plain_byte (slot_at m slot).buffer payload j (omega arith)
 data_byte m slot (count ∷ rest) payload j whole s p h l = segments_byte m slot 0 (count ∷ rest) payload j whole s (omega arith)
 
@@ -156,7 +151,7 @@ module _ (m : Memory) (slot : ℕ) (cmd : Cmd) (node login : ℕ) (whole : IsWho
   written_table =
       let table = table_bytes slot 0 cmd.segments in
       data_keeps with_table slot cmd.segments cmd.payload (windows.Table slot) wholes.table_whole s small q.segments refl
-      ∙ (set_in with_orb (windows.Table slot) 0 table (windows.Table slot) true wholes.orb_whole s (same_slot slot)
+      ∙ (set_in with_orb (windows.Table slot) 0 table (windows.Table slot) true wholes.orb_whole s (same_number slot)
       ∙ (ap (λ xs. patch xs 0 table) (orb_keeps (windows.Table slot) refl)
       ∙ ap (λ n. table ++ drop n (slot_at m slot).table) (let e : 0 + length table ≡ length table = omega arith in e)))
 

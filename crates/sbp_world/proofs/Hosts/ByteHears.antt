@@ -31,7 +31,6 @@ use Rattle.sbp_journal.specs.Addresses.{Access, access_of}
 use Rattle.sbp_journal.specs.Outgoings.{OutboxState, empty_outbox}
 use Rattle.sbp_journal.specs.Run.{Moment, said}
 use Rattle.sbp_journal.specs.Wire.{terms}
-use Rattle.sbp_journal.specs.declared.cause.Cause.{Cause}
 use Rattle.sbp_journal.specs.declared.cause.Cause.TheVariants as causes
 use Rattle.sbp_journal.specs.declared.cause.Judged.{Judged}
 use Rattle.sbp_journal.specs.declared.cause.Judged.TheVariants as judgements
@@ -51,6 +50,7 @@ use Rattle.sbp_world.proofs.Hosts.GotRequests.{request_got}
 use Rattle.sbp_world.proofs.Hosts.MemoryHolds.{IsCoded}
 use Rattle.sbp_world.proofs.Hosts.Shown.{IsHeard}
 use Rattle.sbp_world.proofs.Hosts.ByteLeaves.{before, block_calm, calm_call, drop_calm, last_calls, unpin_calm, whole_before}
+use Rattle.sbp_world.proofs.Hosts.AnsweringBlocks.{not_got}
 
 -- ---- what is brought
 
@@ -60,9 +60,6 @@ none = None
 none_if : (b : Bool) → cond b none none ≡ none
 none_if true = refl
 none_if false = refl
-
-not_got : (cause : Cause) → judgements.Ignored cause ≡ judgements.Got → ⊥
-not_got cause e = cc
 
 -- a FIFO stands behind every buffer
 fifo_high : (logins : ℕ) (out : Bool) (offset : ℕ) (f : Fifo) → fifo_at logins out offset ≡ Some f → 0x1200_2000 ≤ offset

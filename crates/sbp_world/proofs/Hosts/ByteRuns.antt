@@ -51,18 +51,13 @@ use Rattle.sbp_world.proofs.Hosts.PointSees.{see_left}
 use Rattle.sbp_world.proofs.Hosts.Runs.{first_host}
 use Rattle.sbp_world.proofs.Hosts.Shown.{IsElsewhere, IsHeard}
 use Rattle.sbp_world.proofs.Hosts.Telling.{action_law}
+use Rattle.sbp_world.proofs.Common.{untrue}
 
 -- ---- what an initiator tells in a delivery, in a time-out and as it sees a generation
 
-differ : {A : Type 0} → false ≡ true → A
-differ e = absurd (wrong e)
-  where
-    wrong : false ≡ true → ⊥
-    wrong e = cc
-
 kept_note : (note : Note) (i : ℕ) → is_tame note ≡ true → is_left i note ≡ true → is_kept i note ≡ true
 kept_note (notes.Append j n k cdb buffer) i e f = f
-kept_note (notes.Got serial) i e f = differ e
+kept_note (notes.Got serial) i e f = untrue e
 kept_note note i e f = refl
 
 pub kept_side : (side : Side) (past : List Moment) (i : ℕ) → IsTame side → IsStill side → byte_terms (by_side side past) i ≡ byte_terms past i

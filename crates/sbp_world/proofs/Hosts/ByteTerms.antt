@@ -1,6 +1,7 @@
 -- What the history says of the page tables and the buffers of an initiator, and the notes that leave it.
 use Rattle.std.proofs.Common.{arith, ◌≡◌, refl, sym, ap, subst, ◌∙◌, ℕ, suc, ◌+◌, ◌<◌, ◌==◌, ◌&&◌, nat_eq, not, Bool, true, false, cond, List, [], ◌∷◌, slice_index_or, Option, Some, None}
 use Rattle.std.proofs.lemmas.Bool.Decides.{nat_tests}
+use Rattle.std.proofs.lemmas.Bool.{not-true}
 use Rattle.bus_memory.specs.Memory.{Memory, slot_at}
 use Rattle.bus_memory.specs.Windows.{start}
 use Rattle.bus_memory.specs.declared.window.Window.TheVariants as windows
@@ -22,6 +23,7 @@ use Rattle.sbp_world.specs.Hosts.Bytes.{byte_brought, byte_held, is_got_by}
 use Rattle.sbp_world.proofs.Hosts.ByteCalls.{KeepsBytes}
 use Rattle.sbp_world.proofs.Hosts.Prepares.{itself}
 use Rattle.sbp_world.proofs.Hosts.Shown.{NotTo}
+use Rattle.sbp_world.proofs.Common.{turned as other_way}
 
 pub record ByteTerms : Type 0 where
   pub command : ℕ → ℕ → Option Cmd
@@ -68,13 +70,6 @@ is_kept i (notes.Append j n k cdb buffer) = not (i == j)
 is_kept i (notes.Got serial) = false
 is_kept i _ = true
 
-not_here : (b : Bool) → not b ≡ true → b ≡ false
-not_here true e = cc
-not_here false e = refl
-
-other_way : (i j : ℕ) → nat_eq i j ≡ false → nat_eq j i ≡ false
-other_way i j e = grind (arith, nat_tests)
-
 -- an ORB that is appended
 abbrev with_append : (b same : Bool) → (i n k : ℕ) → List Moment → Option Cmd → (low other place : ℕ) → Option Cmd → ByteTerms → ByteTerms
 with_append b same i n k past command low other place now t = record {
@@ -91,7 +86,7 @@ append_other past i j n k cdb buffer e =
     ap (λ b. with b (nat_eq j i)) e ∙ ap (with false) (other_way i j e)
 
 pub bytes_kept : (note : Note) (past : List Moment) (i : ℕ) → is_kept i note ≡ true → byte_terms (said note ∷ past) i ≡ byte_terms past i
-bytes_kept (notes.Append j n k cdb buffer) past i e = append_other past i j n k cdb buffer (not_here (nat_eq i j) e)
+bytes_kept (notes.Append j n k cdb buffer) past i e = append_other past i j n k cdb buffer (not-true (nat_eq i j) e)
 bytes_kept (notes.Linked j n k) past i e = refl
 bytes_kept (notes.Dummied j n k) past i e = refl
 bytes_kept (notes.Low j n k) past i e = refl

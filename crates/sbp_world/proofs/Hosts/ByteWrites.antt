@@ -17,6 +17,7 @@ use Rattle.sbp_laws.specs.Served.{data_at, or_byte}
 use Rattle.sbp_world.specs.Hosts.Bytes.{byte_from}
 use Rattle.sbp_world.proofs.Hosts.ByteFills.{set_in}
 use Rattle.sbp_world.proofs.Hosts.ByteLists.{is_in, no_byte}
+use Rattle.sbp_world.proofs.Common.{untrue}
 
 -- what is left, by the rcode and the memory
 pub record Wrote (m : Memory) (offset : ℕ) (bytes : List ℕ) (r : ℕ × Memory) : Type 0 where
@@ -24,12 +25,6 @@ pub record Wrote (m : Memory) (offset : ℕ) (bytes : List ℕ) (r : ℕ × Memo
   pub buffers : (k j : ℕ) → k < 32 → j < 32768 → slice_index_or (slot_at r.1 k).buffer j 0 ≡ or_byte (cond (r.0 == 0) (byte_from (start (windows.Buffer k) + j) offset bytes) None) (slice_index_or (slot_at m k).buffer j 0)
   -- the buffer of a slot stays where its target reads it
   pub reads : (k j : ℕ) → k < 32 → j < 32768 → is_written (slot_at m k) ≡ false → slice_index_or (slot_at r.1 k).buffer j 0 ≡ slice_index_or (slot_at m k).buffer j 0
-
-differ : {A : Type 0} → false ≡ true → A
-differ e = absurd (wrong e)
-  where
-    wrong : false ≡ true → ⊥
-    wrong e = cc
 
 -- bytes that do not reach an address
 pub none_from : (address offset : ℕ) (bytes : List ℕ) → (offset ≤ address → length bytes ≤ address - offset) → byte_from address offset bytes ≡ None
@@ -106,7 +101,7 @@ module _ (m : Memory) (offset : ℕ) (bytes : List ℕ) (whole : IsWhole m) wher
       unread : (k j : ℕ) → is_written (slot_at m k) ≡ false → (c : Bool) → (b == k) ≡ c → slice_index_or (slot_at (with_bytes m (windows.Buffer b) at bytes) k).buffer j 0 ≡ slice_index_or (slot_at m k).buffer j 0
       unread k j f true e =
           let same : k ≡ b = grind (arith, nat_tests) in
-          differ (sym f ∙ (ap (λ n. is_written (slot_at m n)) same ∙ taken))
+          untrue (sym f ∙ (ap (λ n. is_written (slot_at m n)) same ∙ taken))
       unread k j f false e = other k j e
 
   into_response : (p at : ℕ) → p < 2 → start (windows.Response p) ≤ offset → Wrote m offset bytes (0, with_bytes m (windows.Response p) at bytes)
@@ -117,11 +112,11 @@ module _ (m : Memory) (offset : ℕ) (bytes : List ℕ) (whole : IsWhole m) wher
   }
 
   into_window : (window : Window) (at : ℕ) → takes_writes m window ≡ true → IsFound m offset (length bytes) (Some (record { window = window; at = at })) → Wrote m offset bytes (0, with_bytes m window at bytes)
-  into_window windows.Rom at e f = differ e
-  into_window (windows.Orb slot) at e f = differ e
-  into_window (windows.Table slot) at e f = differ e
+  into_window windows.Rom at e f = untrue e
+  into_window (windows.Orb slot) at e f = untrue e
+  into_window (windows.Table slot) at e f = untrue e
   into_window (windows.Buffer slot) at e f = into_buffer slot at f.0.exists e f.0.begins f.0.ends f.2
-  into_window (windows.Management place) at e f = differ e
+  into_window (windows.Management place) at e f = untrue e
   into_window (windows.Response place) at e f = into_response place at f.0.exists f.0.begins
 
   at_spot : (spot : Spot) (taken : Bool) → takes_writes m spot.window ≡ taken → IsFound m offset (length bytes) (Some spot) → Wrote m offset bytes (write_at m bytes (cond taken (Ok spot) (Err TypeError)))

@@ -56,12 +56,7 @@ use Rattle.sbp_world.proofs.Hosts.Knows.{may_see, target_there}
 use Rattle.sbp_world.proofs.Hosts.Passes.{delivers, line_expires, line_sees, ticks}
 use Rattle.sbp_world.proofs.Hosts.Runs.{are_told, count_after, count_between}
 use Rattle.sbp_world.proofs.Hosts.Shows.{Arriving, arriving, lapsing, shown_now}
-
-untrue : {A : Type 0} → false ≡ true → A
-untrue e = absurd (differ e)
-  where
-    differ : false ≡ true → ⊥
-    differ e = cc
+use Rattle.sbp_world.proofs.Common.{untrue}
 
 -- the next packet was not injected
 fresh : {past : List Moment} (w : WorldState) → Stands past w → (terms (history w past)).injected (w.store.last + 1) ≡ false

@@ -24,6 +24,7 @@ use Rattle.sbp_laws.specs.Hosts.{Host, Underway, acted, got_by, goes_on, host_at
 use Rattle.sbp_world.specs.Hosts.Core.{Core, host_core, work_of}
 use Rattle.sbp_world.proofs.Hosts.Carries.{IsNoAct, is_apart}
 use Rattle.sbp_world.proofs.Hosts.Prepares.{itself}
+use Rattle.sbp_world.proofs.Hosts.Beside.{turned as away}
 
 -- the wire that the fold carries is that of the history
 pub wire_is : (past : List Moment) (i : ℕ) → (known_host past i).wire ≡ terms past
@@ -56,16 +57,13 @@ so_if : (b : Bool) (x y : Host) → b ≡ true → host_core (cond b x y) ≡ ho
 so_if true x y e = refl
 so_if false x y e = untrue e
 
-and_false : (b c : Bool) → b ≡ false → b && c ≡ false
+pub and_false : (b c : Bool) → b ≡ false → b && c ≡ false
 and_false true c e = untrue (sym e)
 and_false false c e = refl
 
 pub not_so : (b : Bool) → not b ≡ true → b ≡ false
 not_so true e = untrue e
 not_so false e = refl
-
-away : (i j : ℕ) → not (nat_eq i j) ≡ true → nat_eq j i ≡ false
-away i j e = let f : nat_eq i j ≡ false = not_so (nat_eq i j) e in grind (arith, nat_tests)
 
 pub turned : (i j : ℕ) → nat_eq i j ≡ false → nat_eq j i ≡ false
 turned i j e = grind (arith, nat_tests)

@@ -38,12 +38,11 @@ use Rattle.sbp_world.specs.Settling.{MayAll, MayNext, after_all, delivered_at, d
 use Rattle.sbp_world.specs.Settling as settling
 use Rattle.sbp_world.specs.Telling.{told, told_all}
 use Rattle.sbp_world.specs.Worlds.{Scene, WorldState, begun, initiator_at, with_initiator, with_note}
-use Rattle.sbp_world.specs.Wire.Lines.{AreLines}
 use Rattle.sbp_world.proofs.Wire.Comes.{own_inside, own_outside, to_own}
 use Rattle.sbp_world.proofs.Wire.Gains.{Gains, all_sent, hands_out}
 use Rattle.sbp_world.proofs.Wire.OwnActs.{AreStepSides, IsStepSide, acts}
 use Rattle.sbp_world.proofs.Wire.OwnTells as own
-use Rattle.sbp_world.proofs.Wire.Turned.{Turned, delivers, lapse_turns, second_turns, sight_turns, stale_refuses}
+use Rattle.sbp_world.proofs.Wire.Turned.{Turned, delivers, lapse_turns, second_turns, sight_turns, stale_refuses, marked_by}
 use Rattle.sbp_world.specs.Hosts.Answering.{IsDelivering}
 use Rattle.sbp_world.specs.Hosts.Deliveries.{DeliveriesLaw, IsDelivered, WasGot, front_of}
 use Rattle.sbp_world.specs.Hosts.Runs.{IsRun}
@@ -51,6 +50,7 @@ use Rattle.sbp_world.proofs.Hosts.Between.{stands_there}
 use Rattle.sbp_world.proofs.Hosts.GotRequests.{request_got}
 use Rattle.sbp_world.proofs.Hosts.Knows.{was_sent}
 use Rattle.sbp_world.proofs.Hosts.Runs.{count_after, count_between}
+use Rattle.sbp_world.proofs.Hosts.Statuses.Ranges.{moments_same, lines_same}
 
 -- ---- notes
 
@@ -93,7 +93,7 @@ turned_gots F first old new t h = subst (GotsAre F) (sym t.is) (effects_gots F t
 
 -- ---- a delivery
 
-some_same : {x y : ℕ} → Some x ≡ Some y → x ≡ y
+pub some_same : {x y : ℕ} → Some x ≡ Some y → x ≡ y
 some_same e = cc
 
 first_gots : (F : ℕ → List Note → Type 0) (first : Note) (serial : ℕ) (old : List Note) → begins_delivery first ≡ Some serial → (first ≡ notes.Got serial → F serial old) → GotsAre F old → GotsAre F (first ∷ old)
@@ -125,10 +125,6 @@ comes_turned F first serial old new e f t = record {
   more = t.more ++ first ∷ [];
   is = t.is ∙ sym (append_assoc t.more (first ∷ []) old);
 }
-
-marked_by : (b : Bool) (w x : WorldState) → x.fresh ≡ w.fresh → (cond b w x).fresh ≡ w.fresh
-marked_by true w x e = refl
-marked_by false w x e = e
 
 module _ (F : ℕ → List Note → Type 0) (serial : ℕ) (again : Bool) where
   -- at an initiator
@@ -362,14 +358,6 @@ said_append [] two ms = refl
 said_append (note ∷ one) two ms = ap (λ x. said note ∷ x) (said_append one two ms)
 
 -- ---- a run
-
-moments_same : (line : ℕ) (run : Run) (x entries : List Entry) → moments_behind line (front_of run x) entries ≡ moments_behind line run entries
-moments_same line run x [] = refl
-moments_same line run x (e ∷ before) = ap (λ ms. map said e.notes ++ asked e.line e.event ∷ ms) (moments_same line run x before)
-
-lines_same : (run : Run) (x entries : List Entry) → AreLines run entries → AreLines (front_of run x) entries
-lines_same run x [] h = tt
-lines_same run x (e ∷ before) h = (h.0, lines_same run x before h.1)
 
 module _ (line : ℕ) (run : Run) (e : Entry) (earlier : List Entry) (q : IsRun (front_of run (e ∷ earlier))) where
   abbrev now : Run

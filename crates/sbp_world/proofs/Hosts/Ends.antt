@@ -40,6 +40,7 @@ use Rattle.sbp_world.proofs.Hosts.Told.{dropped_told, unpins}
 use Rattle.sbp_world.specs.Hosts.Calls.{behind, Listed, PinOf, Pins}
 use Rattle.sbp_world.proofs.Hosts.Listed.{tells, tells_beside}
 use Rattle.sbp_world.proofs.Hosts.Acts.{same_listed}
+use Rattle.sbp_world.proofs.Lists.LiveMoves.{drop_operation as dropped_by}
 
 module _ (past : List Moment) where
   pub pick : (b : Bool) (x y : Turn) → Listed past x → Listed past y → Listed past (cond b x y)
@@ -79,10 +80,6 @@ module _ (past : List Moment) where
   pub drop_listed : (o : OutboxState) (s : InitiatorState) → Listed past (o, s) → Listed past (drop_list_step o s)
   unfolding drop_lists table.drop_step
   drop_listed o s h = drop_cases o s s.lists.slots.present refl h
-
-  dropped_by : (found : Option ℕ × ListState) (o : OutboxState) (s : InitiatorState) → (dropped_as found o s).1.operation ≡ s.operation
-  dropped_by (None, lists) o s = refl
-  dropped_by (Some n, lists) o s = refl
 
   drop_operation : (o : OutboxState) (s : InitiatorState) → (drop_list_step o s).1.operation ≡ s.operation
   drop_operation o s = dropped_by (drop_lists s.lists) o s

@@ -3,6 +3,7 @@
 use Rattle.std.proofs.Common.{arith, ◌≡◌, refl, sym, ◌∙◌, ap, subst, ℕ, suc, ◌<◌, ◌==◌, ◌&&◌, ◌||◌, not, Bool, true, false, cond, List, [], ◌∷◌, ◌++◌, map, Option, Some, Result, Ok, Err}
 use Rattle.std.proofs.lemmas.Bool.Decides.{nat_tests}
 use Rattle.std.specs.List.{AllByRecursion}
+use Rattle.std.proofs.lemmas.Bool.{not-false}
 use Rattle.async_packet.specs.declared.fault.PacketFault.{PacketFault}
 use Rattle.async_packet.specs.Packet.{Packet, header_in, lock, lock_response, read_block, read_block_response, read_quadlet, read_quadlet_response, write_block, write_quadlet, write_response}
 use Rattle.async_packet.specs.Reading.{reading}
@@ -14,7 +15,6 @@ use Rattle.sbp_journal.specs.Outgoings.{empty_outbox}
 use Rattle.sbp_journal.specs.Run.{Moment, asked, said}
 use Rattle.sbp_journal.specs.Transactions.{Sending}
 use Rattle.sbp_journal.specs.Wire.{Terms, terms}
-use Rattle.sbp_journal.specs.declared.cause.Cause.{Cause}
 use Rattle.sbp_journal.specs.declared.cause.Cause.TheVariants as causes
 use Rattle.sbp_journal.specs.declared.cause.Judged.{Judged}
 use Rattle.sbp_journal.specs.declared.cause.Judged.TheVariants as judgements
@@ -51,6 +51,8 @@ use Rattle.sbp_world.proofs.Hosts.Mild.{IsMild, spells_mild}
 use Rattle.sbp_world.proofs.Hosts.PointSees.{see_left}
 use Rattle.sbp_world.proofs.Hosts.SentMoments.{sent_moment}
 use Rattle.sbp_world.proofs.Hosts.Shown.{IsElsewhere, IsHeard, IsShown}
+use Rattle.sbp_world.proofs.Common.{untrue}
+use Rattle.sbp_world.proofs.Hosts.AnsweringBlocks.{not_got}
 
 -- ---- what the target sent
 
@@ -76,12 +78,6 @@ pub record Fair (past : List Moment) (i : ℕ) : Type 0 where
   pub sent : AllMild past
   pub none : took_quadlet past i ≡ false
   pub sources : AllOfTarget past i
-
-untrue : {A : Type 0} → false ≡ true → A
-untrue e = absurd (differ e)
-  where
-    differ : false ≡ true → ⊥
-    differ e = cc
 
 -- what an initiator tells says nothing of packets
 tame_note : (note : Note) (past : List Moment) (i : ℕ) → is_tame note ≡ true → Fair past i → Fair (said note ∷ past) i
@@ -123,13 +119,6 @@ fair_apart note past i e h = record { sent = (tt, h.sent); none = h.none; source
 
 -- ---- a packet that is heard
 
-not_got : (cause : Cause) → judgements.Ignored cause ≡ judgements.Got → ⊥
-not_got cause e = cc
-
-is_true : (b : Bool) → not b ≡ false → b ≡ true
-is_true true e = refl
-is_true false e = untrue (sym e)
-
 module _ (serial generation : ℕ) (bytes : List ℕ) (past : List Moment) (i : ℕ) (s : InitiatorState) (heard : IsHeard past i serial generation bytes) (shown : IsShown past i s.target s.layer) (h : Fair past i) where
   abbrev judged : Judged
   judged = (receive_step generation bytes empty_outbox s).0
@@ -142,7 +131,7 @@ module _ (serial generation : ℕ) (bytes : List ℕ) (past : List Moment) (i : 
     own_source : (b : Bool) → is_foreign p s ≡ b → (cond b (ignored_step causes.Source address_error p bytes (empty_outbox, s)) (addressed p bytes empty_outbox s)).0 ≡ judgements.Got → (header_in p).source ≡ s.target
     own_source true e g = absurd (not_got causes.Source g)
     own_source false e g =
-        let f : ((header_in p).source == s.target) ≡ true = is_true ((header_in p).source == s.target) (sym (ap (λ b. not b && not ((header_in p).source == s.target)) rom) ∙ e) in grind (arith, nat_tests)
+        let f : ((header_in p).source == s.target) ≡ true = not-false ((header_in p).source == s.target) (sym (ap (λ b. not b && not ((header_in p).source == s.target)) rom) ∙ e) in grind (arith, nat_tests)
 
     from_target : heard.packet.from ≡ 0
     unfolding receive_step

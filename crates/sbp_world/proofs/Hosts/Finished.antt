@@ -1,6 +1,7 @@
 -- The responses of a finished history carry what was read.
-use Rattle.std.proofs.Common.{◌≡◌, ◌<◌, refl, sym, ◌∙◌, ap, subst, ℕ, ◌+◌, true, false, List, [], ◌∷◌, ◌++◌, map, Some}
+use Rattle.std.proofs.Common.{◌≡◌, ◌<◌, refl, sym, ◌∙◌, ap, subst, ℕ, ◌+◌, true, List, [], ◌∷◌, ◌++◌, map, Some}
 use Rattle.std.specs.List.{AllByRecursion}
+use Rattle.std.proofs.lemmas.Bool.{false≢true}
 use Rattle.async_packet.specs.Packet.{Packet}
 use Rattle.bus_transactions.specs.May.{is_plain}
 use Rattle.bus_transactions.specs.Packets.{SerialsCount}
@@ -35,15 +36,12 @@ goes_on line run q past serial d i packet access a slot found small prepared com
 
 -- ---- the packet behind a note
 
-not_plain : false ≡ true → ⊥
-not_plain e = cc
-
 plain_count : (note : Note) (past : List Moment) → is_plain note ≡ true → (terms (said note ∷ past)).count ≡ (terms past).count
 unfolding is_plain
-plain_count (notes.Sent s generation from to bytes) past e = absurd (not_plain e)
-plain_count (notes.Got s) past e = absurd (not_plain e)
-plain_count (notes.Ignored s cause) past e = absurd (not_plain e)
-plain_count (notes.TimedOut s) past e = absurd (not_plain e)
+plain_count (notes.Sent s generation from to bytes) past e = absurd (false≢true e)
+plain_count (notes.Got s) past e = absurd (false≢true e)
+plain_count (notes.Ignored s cause) past e = absurd (false≢true e)
+plain_count (notes.TimedOut s) past e = absurd (false≢true e)
 plain_count note past e = refl
 
 effects_count : (effects : List Note) (past : List Moment) → AllByRecursion (λ note. is_plain note ≡ true) effects → (terms (map said effects ++ past)).count ≡ (terms past).count

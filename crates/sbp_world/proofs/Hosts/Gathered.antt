@@ -1,5 +1,5 @@
 -- In every run the answer of a good status is the bytes of the writes to the pieces of its buffer, where these came in turn.
-use Rattle.std.proofs.Common.{arith, ◌≡◌, refl, sym, ◌∙◌, ap, subst, ℕ, zero, suc, ◌+◌, ◌^◌, ◌<◌, Bool, true, false, cond, List, [], map, Some}
+use Rattle.std.proofs.Common.{◌≡◌, refl, sym, ◌∙◌, ap, subst, ℕ, ◌+◌, ◌^◌, Bool, true, false, cond, List, [], map, Some}
 use Rattle.std.specs.Prelude.{IsSomeAnd}
 use Rattle.std.proofs.lemmas.List.{append-nil}
 use Rattle.bus_memory.specs.Windows.{start}
@@ -16,10 +16,7 @@ use Rattle.sbp_world.specs.Hosts.Gathered.{AreInTurn, AreOfTarget, GatheredLaw, 
 use Rattle.sbp_world.proofs.Hosts.AnswerRuns.{taken_law}
 use Rattle.sbp_world.proofs.Hosts.GatherPlaces.{rising_laid}
 use Rattle.sbp_world.proofs.Hosts.Gathers.{spread, spread_pieces, written_stand}
-
-power : (n : ℕ) → 0 < 2 ^ n
-power zero = omega arith
-power (suc n) = let h = power n in omega arith
+use Rattle.sbp_world.proofs.Lists.AnswersCarriedWrites.{power}
 
 module _ (past : List Moment) (i n k : ℕ) (answer : List ℕ) (h : IsAnswerOf past i n k answer) where
   abbrev slot : ℕ

@@ -7,11 +7,11 @@ use Rattle.label_table.specs.Layer.{closed_by, facts_of, judged_by, judging_step
 use Rattle.label_table.specs.Requests.{reply_kind}
 use Rattle.sbp_journal.specs.Addresses.{Access, access_of}
 use Rattle.sbp_journal.specs.Outgoings.{empty_outbox}
-use Rattle.sbp_journal.specs.declared.cause.Cause.{Cause}
 use Rattle.sbp_journal.specs.declared.cause.Judged.TheVariants as judgements
 use Rattle.sbp_initiator.specs.declared.state.InitiatorState.{InitiatorState}
 use Rattle.sbp_initiator.specs.Receiving.{receive_step, received}
 use Rattle.sbp_world.proofs.Hosts.Answering.{none_is}
+use Rattle.sbp_world.proofs.Hosts.AnsweringBlocks.{not_got}
 
 -- what asks for an access is no response
 no_reply : (p : Packet) (access : Access) → access_of p ≡ Some access → reply_kind p ≡ None
@@ -24,9 +24,6 @@ no_reply (write_response header rcode) access e = absurd (none_is e)
 no_reply (read_quadlet_response header rcode value) access e = absurd (none_is e)
 no_reply (read_block_response header rcode payload) access e = absurd (none_is e)
 no_reply (lock_response header rcode extended payload) access e = absurd (none_is e)
-
-not_got : (cause : Cause) → judgements.Ignored cause ≡ judgements.Got → ⊥
-not_got cause e = cc
 
 module _ (s : InitiatorState) (bytes : List ℕ) (p : Packet) (none : reply_kind p ≡ None) where
   -- a response that none waits for is ignored

@@ -1,8 +1,8 @@
 -- Where an initiator got a request, the history goes on with the response.
-use Rattle.std.proofs.Common.{◌≡◌, refl, sym, ◌∙◌, ap, subst, ℕ, suc, ◌<◌, Bool, List, [], ◌∷◌, ◌++◌, map, Option, Some, None, Result, Ok, Err, append_assoc}
+use Rattle.std.proofs.Common.{◌≡◌, refl, sym, ◌∙◌, ap, subst, ℕ, suc, ◌<◌, Bool, List, [], ◌∷◌, ◌++◌, map, Option, Some, append_assoc}
+use Rattle.std.proofs.lemmas.Option.{same_Some}
 use Rattle.async_packet.specs.Packet.{Packet}
 use Rattle.async_packet.specs.Reading.{reading}
-use Rattle.async_packet.specs.declared.fault.PacketFault.{PacketFault}
 use Rattle.bus_transactions.specs.Wire.{as_sending}
 use Rattle.rbc_disk.specs.Runs.{Told}
 use Rattle.sbp_journal.specs.Addresses.{Access, access_of}
@@ -12,7 +12,7 @@ use Rattle.sbp_journal.specs.Wire.{terms}
 use Rattle.sbp_journal.specs.declared.event.Event.{Event}
 use Rattle.sbp_journal.specs.declared.event.Event.TheVariants as events
 use Rattle.sbp_journal.specs.declared.note.Note.{Note}
-use Rattle.sbp_laws.specs.Packets.{packet_in, receiver_in, spelled_by}
+use Rattle.sbp_laws.specs.Packets.{packet_in, receiver_in}
 use Rattle.sbp_world.specs.Delivering.{delivered}
 use Rattle.sbp_world.specs.Histories.{history_of}
 use Rattle.sbp_world.specs.Runs.{Run, after, beginning}
@@ -29,18 +29,7 @@ use Rattle.sbp_world.proofs.Hosts.GotRequests.{request_got}
 use Rattle.sbp_world.proofs.Hosts.Knows.{was_sent}
 use Rattle.sbp_world.proofs.Hosts.Replied.{IsReplied}
 use Rattle.sbp_world.proofs.Hosts.ResponseBytes.{IsBlockRead}
-
-same_node : (m n : ℕ) → Some m ≡ Some n → m ≡ n
-same_node m n e = cc
-
-pub spelled_ok : (r : Result Packet PacketFault) (p : Packet) → spelled_by r ≡ Some p → r ≡ Ok p
-spelled_ok (Ok q) p e =
-    let g : q ≡ p = cc in
-    ap (λ x. Ok x) g
-spelled_ok (Err fault) p e = absurd (differ e)
-  where
-    differ : None ≡ Some p → ⊥
-    differ e = cc
+use Rattle.sbp_world.proofs.Lists.PlaceGots.{spelled_ok}
 
 -- the packet of a note is a request to an initiator
 pub record IsAsked (past : List Moment) (i serial : ℕ) (packet : Packet) (access : Access) : Type 0 where
@@ -76,7 +65,7 @@ module _ (line : ℕ) (front : Run) (q : IsRun front) (next : ℕ) (event : Even
   pub served : (i : ℕ) (packet : Packet) (access : Access) → IsAsked Past i serial packet access → Replies Past i serial packet access Now
   served i packet access a block =
       let s = there line front q next told in
-      let to = same_node got.sent.to (suc i) (ap receiver_in (sym was) ∙ a.to_it) in
+      let to = same_Some got.sent.to (suc i) (ap receiver_in (sym was) ∙ a.to_it) in
       let read = spelled_ok (reading got.sent.bytes) packet (ap packet_in (sym was) ∙ a.spelled) in
       let gets : Gets s.world i serial = record {
         sent = got.sent;

@@ -11,12 +11,7 @@ use Rattle.sbp_journal.specs.Transactions.{Kind, Part, Sending, Transaction, ask
 use Rattle.sbp_journal.specs.Wire.{Held, Owed, Terms, arrives, asked_in, begins, begun_in, closes, closes_if, free, gets, gets_as, gives, ignores, ignores_that, is_news, is_served, judges, judges_if, kind_in, pays, puts, rests, sends, times_out, waits}
 use Rattle.sbp_journal.specs.declared.cause.Cause.{Cause}
 use Rattle.sbp_journal.specs.declared.cause.Cause.TheVariants as causes
-
-untrue : {A : Type 0} → false ≡ true → A
-untrue e = absurd (differ e)
-  where
-    differ : false ≡ true → ⊥
-    differ e = cc
+use Rattle.sbp_world.proofs.Common.{untrue, none_is, turned}
 
 -- what leaves all labels and generations
 pub record Quiet (t u : Terms) : Type 0 where
@@ -114,9 +109,6 @@ apart_closes (waits kind s) u other rcode t v e = apart_closed _ s u rcode t v e
 apart_closes free u other rcode t v e = refl
 apart_closes rests u other rcode t v e = refl
 
-turned : (a b : ℕ) → nat_eq a b ≡ false → nat_eq b a ≡ false
-turned a b e = grind (arith, nat_tests)
-
 apart_got : (part : Part) (s : ℕ) (packet : Sending) (t : Terms) (v : Transaction) → nat_eq packet.to v.requester ≡ false → (gets_as part s packet t).held v ≡ t.held v
 apart_got (request label kind) s packet t v e = ap (λ (h : Transaction → Held). h v) (judged_quiet (asked_by packet) None s packet t).held
 apart_got (response label kind) s packet t v e =
@@ -132,12 +124,6 @@ got_apart (Some packet) s t v e = apart_got (part_of packet.bytes) s packet (is_
 timed_apart_by : (found : Option Transaction) (t : Terms) (v : Transaction) → ((u : Transaction) → found ≡ Some u → is_same v u ≡ false) → (times_out found t).held v ≡ t.held v
 timed_apart_by None t v e = refl
 timed_apart_by (Some u) t v e = other_held (is_same v u) rests (t.held v) (e u refl)
-
-none_some : {A : Type 0} (u : Transaction) → None ≡ Some u → A
-none_some u e = absurd (differ e)
-  where
-    differ : None ≡ Some u → ⊥
-    differ e = cc
 
 -- the requester of what a packet begins is its sender
 pub begun_from : (packet : Sending) (u : Transaction) → begun_by packet ≡ Some u → u.requester ≡ packet.from
@@ -158,11 +144,11 @@ timed_generation found t = timed_generation_by (begun_in found) t
 
 -- ---- a packet is sent
 
-gives_held : (found : Option Transaction) (rcode : ℕ) (t : Terms) → (gives found rcode t).held ≡ t.held
+pub gives_held : (found : Option Transaction) (rcode : ℕ) (t : Terms) → (gives found rcode t).held ≡ t.held
 gives_held None rcode t = refl
 gives_held (Some u) rcode t = refl
 
-pays_held : (owed : Option Owed) (sent : ℕ → Option Sending) (s : ℕ) (packet : Sending) (t : Terms) → (pays owed sent s packet t).held ≡ t.held
+pub pays_held : (owed : Option Owed) (sent : ℕ → Option Sending) (s : ℕ) (packet : Sending) (t : Terms) → (pays owed sent s packet t).held ≡ t.held
 pays_held None sent s packet t = refl
 pays_held (Some owed) sent s packet t = gives_held (asked_in (sent owed.serial)) (rcode_of packet.bytes) t
 
@@ -182,7 +168,7 @@ so_held true new old e = refl
 so_held false new old e = untrue e
 
 begins_own : (begun : Option Transaction) (s : ℕ) (packet : Sending) (t : Terms) (v : Transaction) → begun ≡ Some v → (begins begun s packet (puts begun s packet t)).held v ≡ waits (kind_in (part_of packet.bytes)) s
-begins_own None s packet t v e = none_some v e
+begins_own None s packet t v e = none_is v e
 begins_own (Some u) s packet t v e =
     so_held (is_same v u) (waits (kind_in (part_of packet.bytes)) s) (t.held v) (let same : u ≡ v = cc in ap (is_same v) same ∙ same_refl v)
 
@@ -205,11 +191,11 @@ begins_count (Some u) s packet t = refl
 pub sent_count : (s : ℕ) (packet : Sending) (t : Terms) → (sends s packet t).count ≡ t.count + 1
 sent_count s packet t = pays_count t.owes t.sent s packet (begins (begun_by packet) s packet (puts (begun_by packet) s packet t)) ∙ begins_count (begun_by packet) s packet t
 
-gives_sent : (found : Option Transaction) (rcode : ℕ) (t : Terms) → (gives found rcode t).sent ≡ t.sent
+pub gives_sent : (found : Option Transaction) (rcode : ℕ) (t : Terms) → (gives found rcode t).sent ≡ t.sent
 gives_sent None rcode t = refl
 gives_sent (Some u) rcode t = refl
 
-pays_sent : (owed : Option Owed) (sent : ℕ → Option Sending) (s : ℕ) (packet : Sending) (t : Terms) → (pays owed sent s packet t).sent ≡ t.sent
+pub pays_sent : (owed : Option Owed) (sent : ℕ → Option Sending) (s : ℕ) (packet : Sending) (t : Terms) → (pays owed sent s packet t).sent ≡ t.sent
 pays_sent None sent s packet t = refl
 pays_sent (Some owed) sent s packet t = gives_sent (asked_in (sent owed.serial)) (rcode_of packet.bytes) t
 
@@ -217,7 +203,7 @@ begins_sent : (begun : Option Transaction) (s : ℕ) (packet : Sending) (t : Ter
 begins_sent None s packet t = refl
 begins_sent (Some u) s packet t = refl
 
-sends_sent : (s : ℕ) (packet : Sending) (t : Terms) → (sends s packet t).sent ≡ upd t.sent s (Some packet)
+pub sends_sent : (s : ℕ) (packet : Sending) (t : Terms) → (sends s packet t).sent ≡ upd t.sent s (Some packet)
 sends_sent s packet t = pays_sent t.owes t.sent s packet (begins (begun_by packet) s packet (puts (begun_by packet) s packet t)) ∙ begins_sent (begun_by packet) s packet t
 
 -- the packets by their serials: the one that is sent, and those before it

@@ -364,11 +364,11 @@ right_row actions.TargetReset (seats.Leaving response) = refl
 right_row actions.TargetReset (seats.Stuck origin) = refl
 
 -- and on the operation under way
-working : (u : Option Underway) → running_operation u ≡ operation_by (work_of u)
+pub working : (u : Option Underway) → running_operation u ≡ operation_by (work_of u)
 working None = refl
 working (Some underway) = refl
 
-worked : (r : Option Running) → operation_in r ≡ operation_by (work_in r)
+pub worked : (r : Option Running) → operation_in r ≡ operation_by (work_in r)
 worked None = refl
 worked (Some running) = refl
 
@@ -376,7 +376,7 @@ some_running : (u : Option Underway) → not (is_none u) ≡ is_some (running_op
 some_running None = refl
 some_running (Some underway) = refl
 
-cuts_same : (operation : Option Operation) → cuts_list operation ≡ ends_list operation
+pub cuts_same : (operation : Option Operation) → cuts_list operation ≡ ends_list operation
 cuts_same None = refl
 cuts_same (Some operations.Rom) = refl
 cuts_same (Some operations.Login) = refl

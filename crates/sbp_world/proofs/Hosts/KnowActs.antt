@@ -42,6 +42,7 @@ use Rattle.sbp_world.proofs.Hosts.Asked.{IsRequest}
 use Rattle.sbp_world.proofs.Hosts.Cores.{append_told, apart_core, asks_core, begun_by, list_first, list_in, list_later, rung_as, rung_by, started_by, untrue}
 use Rattle.sbp_world.proofs.Hosts.Knowing.{Known, Sits, seated, still_known, tell, tell_plain}
 use Rattle.sbp_world.proofs.Hosts.Requested.{done_sends}
+use Rattle.sbp_world.proofs.Common.{some_none}
 
 -- ---- the session of an action
 
@@ -228,12 +229,6 @@ module _ (past : List Moment) (o : OutboxState) (s : InitiatorState) (k : Known 
 
 -- ---- an action as a whole
 
-some_none : {A : Type 0} (number : ℕ) → Some number ≡ None → A
-some_none number e = absurd (differ e)
-  where
-    differ : Some number ≡ None → ⊥
-    differ e = cc
-
 -- what it left, with and without a request behind it
 pub record Acted (past : List Moment) (action : Action) (t : Turn) : Type 0 where
   pub starts : Starts past action t
@@ -275,7 +270,7 @@ none_asks actions.AbortSet s e = no_demand e
 none_asks actions.UnitReset s e = no_demand e
 none_asks actions.TargetReset s e = no_demand e
 
-no_packets : {A : Type 0} (packet : Outgoing) → packet ∷ [] ≡ [] → A
+pub no_packets : {A : Type 0} (packet : Outgoing) → packet ∷ [] ≡ [] → A
 no_packets packet e = absurd (differ e)
   where
     differ : packet ∷ [] ≡ [] → ⊥

@@ -8,7 +8,7 @@ use Rattle.config_rom.specs.Unit.{sbp_unit_of}
 use Rattle.label_table.specs.declared.judgement.Asked.{Asked}
 use Rattle.label_table.specs.Layer.{Layer, asking_step}
 use Rattle.orb_list.specs.declared.list.PresentList.{PresentList}
-use Rattle.orb_list.specs.Lists.{ListState, drop_lists}
+use Rattle.orb_list.specs.Lists.{drop_lists}
 use Rattle.sbp_journal.specs.Run.{Moment}
 use Rattle.sbp_journal.specs.Outgoings.{OutboxState}
 use Rattle.sbp_journal.specs.declared.note.Note.TheVariants as notes
@@ -26,7 +26,7 @@ use Rattle.sbp_initiator.specs.declared.purpose.Purpose.{Purpose}
 use Rattle.sbp_initiator.specs.declared.purpose.Purpose.TheVariants as purposes
 use Rattle.sbp_initiator.specs.declared.purpose.Running.{Running}
 use Rattle.sbp_initiator.specs.declared.state.InitiatorState.{InitiatorState}
-use Rattle.sbp_initiator.specs.Effects.{asked_quad, conflict_for, drop_list_step, drop_where, dropped_as, end_own_step, ended_for, ended_step, fail_step, fault_number, good_event, good_word, is_address, is_conflict, known_where, managed_step, next_quad, pointed_step, quad_got, response_of, state_told, with_answered, with_dead, with_request, with_rom, with_unit}
+use Rattle.sbp_initiator.specs.Effects.{asked_quad, conflict_for, drop_list_step, drop_where, end_own_step, ended_for, ended_step, fail_step, fault_number, good_event, good_word, is_address, is_conflict, known_where, managed_step, next_quad, pointed_step, quad_got, response_of, state_told, with_answered, with_dead, with_request, with_rom, with_unit}
 use Rattle.sbp_initiator.specs.Refusals.{ends_list}
 use Rattle.sbp_initiator.specs.States.{counts_for, is_list, is_unwritten}
 use Rattle.initiator_base.specs.Quads.{with_quad}
@@ -37,6 +37,7 @@ use Rattle.sbp_laws.specs.Hosts.{Session, session_ended}
 use Rattle.sbp_world.specs.Hosts.Core.{own_core, session_in}
 use Rattle.sbp_world.proofs.Hosts.Cores.{apart_core, op_told}
 use Rattle.sbp_world.proofs.Hosts.Knowing.{Known, Stays, bad_agrees, conflict_agrees, drop_known, end_own_known, good_agrees, moved_known, pick_known, pick_state, seated, stays_error, stick_known, still_known, tell}
+use Rattle.sbp_world.proofs.Lists.LiveMoves.{drop_operation}
 
 -- an answer to an ORB_POINTER write leaves the session
 pointed_session : (seat : Seat) → session_in (goes pointed seat) ≡ session_in seat
@@ -54,10 +55,6 @@ stays_for : (operation : Operation) (word : OpWord) (act : ℕ) (found : Option 
 stays_for operation word act found e f = λ running is same session.
     let n : running.act ≡ act = grind (arith, nat_tests) in
     subst (λ (op : Operation). session_ended op word session ≡ session) (sym (f.same running is n)) (e session)
-
-drop_operation : (r : Option ℕ × ListState) (o : OutboxState) (s : InitiatorState) → (dropped_as r o s).1.operation ≡ s.operation
-drop_operation (None, lists) o s = refl
-drop_operation (Some n, lists) o s = refl
 
 -- an ORB_POINTER that is answered for the present list was written
 abbrev pub Points : Purpose → Option PresentList → Pointing → Type 0

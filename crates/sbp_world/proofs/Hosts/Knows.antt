@@ -10,9 +10,8 @@ use Rattle.packet_store.specs.declared.sent.Sent.{Sent}
 use Rattle.packet_store.specs.Kept.{found_sent, is_flying}
 use Rattle.packet_store.specs.Stored.{Stored}
 use Rattle.sbp_journal.specs.Run.{Moment}
-use Rattle.sbp_journal.specs.Transactions.{Kind, Part, Sending, Transaction, asked_by, between, no_packet, part_of, request, response}
-use Rattle.sbp_journal.specs.Wire.{Held, Terms, arrives, closes, closes_if, free, gets, gets_as, is_news, is_served, judges, rests, terms, waits}
-use Rattle.sbp_journal.specs.declared.cause.Cause.{Cause}
+use Rattle.sbp_journal.specs.Transactions.{Sending, part_of}
+use Rattle.sbp_journal.specs.Wire.{Terms, arrives, gets, is_news, is_served, terms}
 use Rattle.sbp_initiator.specs.declared.purpose.Purpose.{Purpose}
 use Rattle.sbp_bus.specs.Generations.{id_of, node_of}
 use Rattle.sbp_world.specs.Worlds.{WorldState, initiator_at}
@@ -22,30 +21,13 @@ use Rattle.sbp_world.proofs.Wire.Found.{node_found}
 use Rattle.sbp_world.proofs.Wire.Holding.{NodesOf, to_target}
 use Rattle.sbp_world.specs.Hosts.Handing.{history}
 use Rattle.sbp_world.specs.Hosts.Lines.{MaySee}
+use Rattle.sbp_world.proofs.Sessions.BlockNotes.{judges_sent, closes_if_sent, closes_sent, part_sent}
 
 -- ---- a packet that is got stays as it was sent
 
-sent_judged : (begun : Option Transaction) (cause : Option Cause) (s : ℕ) (packet : Sending) (t : Terms) → (judges begun cause s packet t).sent ≡ t.sent
-sent_judged None cause s packet t = refl
-sent_judged (Some u) cause s packet t = refl
-
-sent_if : (b : Bool) (s : ℕ) (u : Transaction) (rcode : ℕ) (t : Terms) → (closes_if b s u rcode t).sent ≡ t.sent
-sent_if true s u rcode t = refl
-sent_if false s u rcode t = refl
-
-sent_closed : (held : Held) (u : Transaction) (other : Kind) (rcode : ℕ) (t : Terms) → (closes held u other rcode t).sent ≡ t.sent
-sent_closed (waits kind s) u other rcode t = sent_if _ s u rcode t
-sent_closed free u other rcode t = refl
-sent_closed rests u other rcode t = refl
-
-sent_got : (part : Part) (s : ℕ) (packet : Sending) (t : Terms) → (gets_as part s packet t).sent ≡ t.sent
-sent_got (request label kind) s packet t = sent_judged (asked_by packet) None s packet t
-sent_got (response label kind) s packet t = sent_closed (t.held (between packet packet.to packet.from label)) (between packet packet.to packet.from label) kind _ t
-sent_got no_packet s packet t = refl
-
 pub sent_stays : (found : Option Sending) (s : ℕ) (t : Terms) → (gets found s t).sent ≡ t.sent
 sent_stays None s t = refl
-sent_stays (Some packet) s t = sent_got (part_of packet.bytes) s packet (is_served s (is_news s (arrives s t)))
+sent_stays (Some packet) s t = part_sent (part_of packet.bytes) s packet (is_served s (is_news s (arrives s t)))
 
 -- ---- a sight
 

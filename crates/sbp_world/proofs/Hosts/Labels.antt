@@ -50,14 +50,9 @@ use Rattle.sbp_world.specs.Hosts.Refusing.{initiator_of}
 use Rattle.sbp_world.specs.Hosts.Runs.{IsRun}
 use Rattle.sbp_world.proofs.Hosts.Deciding.{run_refusal_law}
 use Rattle.sbp_world.proofs.Hosts.Runs.{count_after}
+use Rattle.sbp_world.proofs.Common.{untrue}
 
 -- ---- the lowest label
-
-untrue : {A : Type 0} → false ≡ true → A
-untrue e = absurd (differ e)
-  where
-    differ : false ≡ true → ⊥
-    differ e = cc
 
 none_found : (tries label : ℕ) (test : ℕ → Bool) → ((m : ℕ) → m < label + tries → test m ≡ false) → lowest_from tries test label ≡ None
 unfolding lowest_from

@@ -23,6 +23,7 @@ use Rattle.sbp_world.specs.Hosts.Lasting.{Lasts}
 use Rattle.sbp_world.specs.Hosts.Orbs.{next_of}
 use Rattle.sbp_world.proofs.Hosts.OrbTerms.{AreLeft, AreStill, IsStill, OrbTerms, append_first, append_next, dummy_said, first_linked, link_said, low_said, orb_terms, orbs_left, with_append, with_dummy, with_link, with_low}
 use Rattle.sbp_world.proofs.Hosts.Prepares.{itself}
+use Rattle.sbp_world.proofs.Lists.BusyTold.{still_cut}
 
 abbrev pub Within : OrbTerms → Type 0
 Within t = (n : ℕ) → t.linked n ≤ t.appended n
@@ -73,7 +74,7 @@ last_on t u v a b = record {
 
 -- ---- an append
 
-other_name : {A : Type 0} (a b : Bool) (new old : A) → (a ≡ true → b ≡ true → ⊥) → cond a (cond b new old) old ≡ old
+pub other_name : {A : Type 0} (a b : Bool) (new old : A) → (a ≡ true → b ≡ true → ⊥) → cond a (cond b new old) old ≡ old
 other_name true true new old h = absurd (h refl refl)
 other_name true false new old h = refl
 other_name false b new old h = refl
@@ -177,11 +178,6 @@ module _ (t : OrbTerms) (w : Within t) (n : ℕ) where
     dummy = λ m l e. e;
   }
 
-  still_dummy : (a b d : Bool) → d ≡ true → cond a (cond b true d) d ≡ true
-  still_dummy true true d e = refl
-  still_dummy true false d e = e
-  still_dummy false b d e = e
-
   dummy_last : (k : ℕ) → Last t (with_dummy true n k t)
   dummy_last k = record {
     appended = λ m. same_count (t.appended m);
@@ -191,7 +187,7 @@ module _ (t : OrbTerms) (w : Within t) (n : ℕ) where
     request = λ m l h. refl;
     command = λ m l h. refl;
     id = λ m l h. refl;
-    dummy = λ m l e. still_dummy (nat_eq m n) (nat_eq l k) (t.dummy m l) e;
+    dummy = λ m l e. still_cut (nat_eq m n) (nat_eq l k) (t.dummy m l) e;
   }
 
 -- ---- a history

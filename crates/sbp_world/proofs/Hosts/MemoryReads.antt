@@ -1,5 +1,5 @@
 -- What an initiator's memory gives and refuses is as the run terms say, in every run.
-use Rattle.std.proofs.Common.{arith, ◌≡◌, refl, sym, ap, ◌∙◌, ℕ, zero, suc, ◌+◌, ◌-◌, ◌<◌, ◌≤◌, ◌==◌, ◌&&◌, nat_le, drop-cons, ◌∷◌, Bool, true, false, List, length, take, drop, slice_index_or, Option, Some, None}
+use Rattle.std.proofs.Common.{arith, ◌≡◌, refl, sym, ap, ◌∙◌, ℕ, zero, suc, ◌+◌, ◌-◌, ◌<◌, ◌≤◌, ◌==◌, nat_le, drop-cons, ◌∷◌, Bool, true, false, List, length, take, drop, slice_index_or, Option, Some, None}
 use Rattle.std.proofs.lemmas.Bool.Decides.{nat_tests}
 use Rattle.bus_memory.specs.Access.{is_open as memory_open, read_step}
 use Rattle.bus_memory.specs.Laws.{IsWhole}
@@ -22,6 +22,7 @@ use Rattle.sbp_world.proofs.Hosts.Fair.{fair_between, fair_of_runs}
 use Rattle.sbp_world.proofs.Hosts.MemoryHolds.{IsCoded, memory_coded}
 use Rattle.sbp_world.proofs.Hosts.MemoryRcodes.{read_bytes, read_direction, read_open}
 use Rattle.sbp_world.proofs.Hosts.Orbs.{whole}
+use Rattle.sbp_world.proofs.Common.{and_second}
 
 -- ---- the bytes of a buffer
 
@@ -32,10 +33,6 @@ bytes_cut xs byte base d (suc count) h room =
     ap (take (suc count)) (drop-cons xs d 0 (omega arith))
     ∙ (ap (λ x. x ∷ take count (drop (suc d) xs)) (h d (omega arith))
     ∙ ap (λ ys. byte (base + d) ∷ ys) (bytes_cut xs byte base (suc d) count h (omega arith) ∙ ap (bytes_from count byte) (let e : base + suc d ≡ base + d + 1 = omega arith in e)))
-
-and_right : (a b : Bool) → a && b ≡ true → b ≡ true
-and_right true b e = e
-and_right false b e = absurd (cc e)
 
 module _ (past : List Moment) (i : ℕ) (s : InitiatorState) (coded : IsCoded past i s) (holds : HoldsBytes past i s.lists.memory) (whole_here : IsWhole s.lists.memory) where
   abbrev m : Memory
@@ -63,7 +60,7 @@ module _ (past : List Moment) (i : ℕ) (s : InitiatorState) (coded : IsCoded pa
     gives_in (Some (windows.Table slot)) e w q = of_window (windows.Table slot) e ∙ ap (cut access (start (windows.Table slot))) (holds.tables slot w.0)
     gives_in (Some (windows.Buffer slot)) e w q =
         let inside : lies_inside past i (rom_size (suc i) 0) access (window_at access.offset) ≡ true = inside_by access.is_lock (access.count == 0) (is_fifo access.offset) _ _ (sym (coded.read_rcode access out is_read) ∙ complete) in
-        let room : nat_le (access.offset - start (windows.Buffer slot) + access.count) 0x8000 ≡ true = and_right (slot_is_open past i slot) (nat_le (access.offset - start (windows.Buffer slot) + access.count) 0x8000) (sym (ap (lies_inside past i (rom_size (suc i) 0) access) e) ∙ inside) in
+        let room : nat_le (access.offset - start (windows.Buffer slot) + access.count) 0x8000 ≡ true = and_second (slot_is_open past i slot) (nat_le (access.offset - start (windows.Buffer slot) + access.count) 0x8000) (sym (ap (lies_inside past i (rom_size (suc i) 0) access) e) ∙ inside) in
         let size : length (slot_at m slot).buffer ≡ 32768 = whole_here.sizes (windows.Buffer slot) in
         let from : start (windows.Buffer slot) ≤ access.offset = w.1 in
         let short : access.offset - start (windows.Buffer slot) + access.count ≤ 32768 = grind (arith, nat_tests) in

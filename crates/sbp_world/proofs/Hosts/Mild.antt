@@ -74,7 +74,7 @@ spells_mild bytes e = fault_mild (fault_of bytes) (packet_in bytes (tcode_of byt
 first_tcode : (peer label tcode : ℕ) → tcode < 16 → (peer * 2 ^ 16 + label * 2 ^ 10 + 1 * 2 ^ 8 + tcode * 2 ^ 4 + 0) % 256 ^ 4 / 2 ^ 4 % 2 ^ 4 ≡ tcode
 first_tcode peer label tcode small = omega arith
 
-quad_tcode : (peer label tcode : ℕ) (bytes rest : List ℕ) → tcode < 16 → bytes ≡ big_bytes 4 (peer * 2 ^ 16 + label * 2 ^ 10 + 1 * 2 ^ 8 + tcode * 2 ^ 4 + 0) ++ rest → tcode_of bytes ≡ tcode
+pub quad_tcode : (peer label tcode : ℕ) (bytes rest : List ℕ) → tcode < 16 → bytes ≡ big_bytes 4 (peer * 2 ^ 16 + label * 2 ^ 10 + 1 * 2 ^ 8 + tcode * 2 ^ 4 + 0) ++ rest → tcode_of bytes ≡ tcode
 unfolding tcode_of
 quad_tcode peer label tcode bytes rest small e =
     ap (λ xs. big_number 4 xs / 2 ^ 4 % 2 ^ 4) e
@@ -106,7 +106,7 @@ body_mild node peer (quadlet_read offset) m = not_zero _ 4 (quad_tcode peer 0 4 
 body_mild node peer (block_read offset asked) m = not_zero _ 5 (quad_tcode peer 0 5 _ _ (omega arith) refl) refl
 
 -- its label changes no tcode
-tcode_same : (number : ℕ) (bytes : List ℕ) → tcode_of (with_label number bytes) ≡ tcode_of bytes
+pub tcode_same : (number : ℕ) (bytes : List ℕ) → tcode_of (with_label number bytes) ≡ tcode_of bytes
 unfolding with_label tcode_of
 tcode_same number [] = refl
 tcode_same number (x ∷ []) = refl

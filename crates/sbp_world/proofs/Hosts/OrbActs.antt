@@ -1,6 +1,6 @@
 -- What an action that is done does to the slots, and what it tells of the ORBs.
-use Rattle.std.proofs.Common.{arith, ◌≡◌, refl, sym, ap, subst, ◌∙◌, ℕ, suc, ◌+◌, ◌-◌, ◌==◌, not, is_some, Bool, true, false, List, [], ◌∷◌, ◌++◌, Option, Some, None, Result, Ok, Err}
-use Rattle.orb_list.specs.declared.fault.ListFault.{ListFault}
+use Rattle.std.proofs.Common.{arith, ◌≡◌, refl, sym, ap, subst, ◌∙◌, ℕ, suc, ◌+◌, ◌-◌, ◌==◌, not, is_some, true, false, List, [], ◌∷◌, ◌++◌, Option, Some, None, Ok}
+use Rattle.std.proofs.lemmas.Bool.{not-false}
 use Rattle.orb_list.specs.declared.list.Link.TheVariants as links
 use Rattle.orb_list.specs.declared.list.Linking.{Linking}
 use Rattle.orb_list.specs.declared.list.PresentList.{PresentList}
@@ -32,7 +32,7 @@ use Rattle.sbp_initiator.proofs.Histories.Actions.{is_ok}
 use Rattle.sbp_world.specs.Hosts.Calls.{behind}
 use Rattle.sbp_world.specs.Hosts.Fits.{AreRows, IsOf}
 use Rattle.sbp_world.specs.Hosts.Reading.{ReadAs}
-use Rattle.sbp_world.proofs.Hosts.Acts.{Goes, found_number}
+use Rattle.sbp_world.proofs.Hosts.Acts.{Goes, found_number, some_waits}
 use Rattle.sbp_world.proofs.Hosts.Beside.{find_waits, found_list}
 use Rattle.sbp_world.proofs.Hosts.OrbAppends.{append_fits, append_none, prepared_table}
 use Rattle.sbp_world.proofs.Hosts.OrbCalls.{orb_quiet, pin_quiet}
@@ -42,6 +42,7 @@ use Rattle.sbp_world.proofs.Hosts.OrbLinks.{dummy_fits, dummy_none, link_fits, l
 use Rattle.sbp_world.proofs.Hosts.OrbTerms.{AreLeft, OrbTerms, orb_terms, told_left}
 use Rattle.sbp_world.proofs.Hosts.Readings.{read_as}
 use Rattle.sbp_world.proofs.Hosts.StepLaws.{step_law}
+use Rattle.sbp_world.proofs.Hosts.Telling.{is_ok_slot}
 
 module _ (past : List Moment) (i : ℕ) (calls : List slot_runs.Call) (quads : List ℕ) where
   -- what is told and done
@@ -230,10 +231,6 @@ module _ (past : List Moment) (i : ℕ) (calls : List slot_runs.Call) (quads : L
         ∙ ((let g : q.list.tail.number ≡ q.list.tail.number + 1 - 1 = omega arith in g)
         ∙ (sym (ap (λ x. orb_number x - 1) q.is) ∙ sym (ap (λ x. x - 1) read.number))))
 
-    some_ticket : (found : Option TicketParts) → not (is_some found) ≡ false → (t : TicketParts) × (found ≡ Some t)
-    some_ticket None e = cc
-    some_ticket (Some t) e = (t, refl)
-
     list_of : (present : Option PresentList) (t : TicketParts) → IsOf present t → t.list ≡ list_number present s.lists
     list_of None t e = absurd e
     list_of (Some list) t e = sym e
@@ -268,20 +265,12 @@ module _ (past : List Moment) (i : ℕ) (calls : List slot_runs.Call) (quads : L
 
     dummy_done : (k : ℕ) → not (is_some (find_in s.slots k)) ≡ false → Done (action_notes (actions.Dummy k) past i) (dummy_calls (find_in s.slots k))
     dummy_done k e =
-        let f = some_ticket (find_in s.slots k) e in
+        let f = some_waits (find_in s.slots k) e in
         let w = find_waits s.slots k f.0 f.1 in
         subst (λ x. Done (action_notes (actions.Dummy k) past i) (dummy_calls x)) (sym f.1)
         (dummy_named k f.0 f.1 (new_list past i) k (list_of s.present f.0 (found_list s rows.fits f.0 w) ∙ sym read.list) (found_number s.slots k f.0 f.1))
 
     -- ---- every action
-
-    is_ok_slot : (found : Result ℕ ListFault) → is_ok found ≡ true → (slot : ℕ) × (found ≡ Ok slot)
-    is_ok_slot (Ok slot) e = (slot, refl)
-    is_ok_slot (Err fault) e = cc
-
-    not_off : (b : Bool) → not b ≡ false → b ≡ true
-    not_off true e = refl
-    not_off false e = cc
 
     module _ (state : InitiatorState) (same : s ≡ state.lists.slots) (is_id : state.layer.node ≡ id_of (terms past) (suc i)) where
       silent : (later : List slot_runs.Call) → AreQuiet later → Done [] later
@@ -293,8 +282,8 @@ module _ (past : List Moment) (i : ℕ) (calls : List slot_runs.Call) (quads : L
       pub act_done : (action : Action) → Goes action state → IsLineOf action → event_of past ≡ Some (events.Act i action) → Done (action_notes action past i) (action_calls action state)
       act_done (actions.Put cmd) g fit line = let f = slot_for (g.allowed.prepares refl) in put_done cmd state.layer.node (login_id state) f.0 fit is_id (ap cmd_of line) f.1
       act_done (actions.Append cmd) g fit line = let f = slot_for (g.allowed.prepares refl) in append_done cmd state.layer.node (login_id state) f.0 fit is_id (ap cmd_of line) f.1
-      act_done actions.Low g fit line = low_done (ap (λ (x : SlotTable). is_some (waits_low x.present)) same ∙ not_off (is_some (waits_low state.lists.slots.present)) g.rows.not_linking)
-      act_done actions.Link g fit line = link_done (ap (λ (x : SlotTable). is_some (waits_high x.present)) same ∙ not_off (is_some (waits_high state.lists.slots.present)) g.rows.not_linking)
+      act_done actions.Low g fit line = low_done (ap (λ (x : SlotTable). is_some (waits_low x.present)) same ∙ not-false (is_some (waits_low state.lists.slots.present)) g.rows.not_linking)
+      act_done actions.Link g fit line = link_done (ap (λ (x : SlotTable). is_some (waits_high x.present)) same ∙ not-false (is_some (waits_high state.lists.slots.present)) g.rows.not_linking)
       act_done actions.Ring g fit line = quiet_done (action_notes actions.Ring past i) [] (λ j. (refl, tt)) tt
       act_done (actions.Dummy k) g fit line =
           subst (λ (x : SlotTable). Done (action_notes (actions.Dummy k) past i) (dummy_calls (find_in x.slots k))) same

@@ -30,13 +30,9 @@ use Rattle.sbp_world.proofs.Hosts.Chains.{Same, chained_run}
 use Rattle.sbp_world.proofs.Hosts.OrbFits.{AllFit, IfFits, IsFull, NoneYet, OrbFits, low_to}
 use Rattle.sbp_world.proofs.Hosts.OrbTerms.{OrbTerms, append_first, append_next, first_linked, orb_terms, with_append}
 use Rattle.sbp_world.proofs.Hosts.Prepares.{itself}
+use Rattle.sbp_world.proofs.Hosts.LastingTerms.{other_name}
 
 -- ---- an ORB with another name
-
-other_name : {A : Type 0} (a b : Bool) (x y : A) → (a ≡ true → b ≡ true → ⊥) → cond a (cond b x y) y ≡ y
-other_name true true x y h = absurd (h refl refl)
-other_name true false x y h = refl
-other_name false b x y h = refl
 
 this_name : {A : Type 0} (a b : Bool) (x y z : A) → a ≡ true → b ≡ true → cond a (cond b x y) z ≡ x
 this_name true true x y z e f = refl

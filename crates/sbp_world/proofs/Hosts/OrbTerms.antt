@@ -1,7 +1,7 @@
 -- What the history says of the ORBs of an initiator, and the notes that leave it.
-use Rattle.std.proofs.Common.{arith, ◌≡◌, refl, ◌∙◌, ap, ℕ, zero, suc, ◌==◌, ◌&&◌, nat_eq, not, Bool, true, false, cond, List, [], ◌∷◌, Option, Some}
-use Rattle.std.proofs.lemmas.Bool.Decides.{nat_tests}
+use Rattle.std.proofs.Common.{◌≡◌, refl, ◌∙◌, ap, ℕ, zero, suc, ◌==◌, ◌&&◌, nat_eq, not, Bool, true, false, cond, List, [], ◌∷◌, Option, Some}
 use Rattle.std.specs.List.{AllByRecursion}
+use Rattle.std.proofs.lemmas.Bool.{not-true}
 use Rattle.sbp_journal.specs.Run.{Moment, said}
 use Rattle.sbp_journal.specs.Wire.{terms}
 use Rattle.sbp_journal.specs.declared.event.Cmd.{Cmd}
@@ -19,6 +19,7 @@ use Rattle.sbp_initiator.specs.Histories.Ends.{own}
 use Rattle.sbp_world.specs.Hosts.Calls.{behind, by_side}
 use Rattle.sbp_world.proofs.Hosts.Carries.{is_apart}
 use Rattle.sbp_world.proofs.Hosts.Prepares.{itself}
+use Rattle.sbp_world.proofs.Common.{turned}
 
 pub record OrbTerms : Type 0 where
   pub request : ℕ → ℕ → Option Request
@@ -97,23 +98,16 @@ is_left i (notes.Linked j n k) = not (i == j)
 is_left i (notes.Dummied j n k) = not (i == j)
 is_left i _ = true
 
-not_here : (b : Bool) → not b ≡ true → b ≡ false
-not_here true e = cc
-not_here false e = refl
-
-other_way : (i j : ℕ) → nat_eq i j ≡ false → nat_eq j i ≡ false
-other_way i j e = grind (arith, nat_tests)
-
 pub orbs_left : (note : Note) (past : List Moment) (i : ℕ) → is_left i note ≡ true → orb_terms (said note ∷ past) i ≡ orb_terms past i
 orbs_left (notes.Append j n zero cdb buffer) past i e =
-    ap (λ b. with_append b (nat_eq j i) n 0 (Some (record { cdb = cdb; buffer = buffer })) (cmd_of (event_of past)) (suc (appends past j n)) (lowest_vacant (slots past j)) (id_of (terms past) (suc i)) (first_linked b n (orb_terms past i)) (orb_terms past i)) (not_here (nat_eq i j) e)
-    ∙ ap (λ b. with_append false b n 0 (Some (record { cdb = cdb; buffer = buffer })) (cmd_of (event_of past)) (suc (appends past j n)) (lowest_vacant (slots past j)) (id_of (terms past) (suc i)) (first_linked false n (orb_terms past i)) (orb_terms past i)) (other_way i j (not_here (nat_eq i j) e))
+    ap (λ b. with_append b (nat_eq j i) n 0 (Some (record { cdb = cdb; buffer = buffer })) (cmd_of (event_of past)) (suc (appends past j n)) (lowest_vacant (slots past j)) (id_of (terms past) (suc i)) (first_linked b n (orb_terms past i)) (orb_terms past i)) (not-true (nat_eq i j) e)
+    ∙ ap (λ b. with_append false b n 0 (Some (record { cdb = cdb; buffer = buffer })) (cmd_of (event_of past)) (suc (appends past j n)) (lowest_vacant (slots past j)) (id_of (terms past) (suc i)) (first_linked false n (orb_terms past i)) (orb_terms past i)) (turned i j (not-true (nat_eq i j) e))
 orbs_left (notes.Append j n (suc k) cdb buffer) past i e =
-    ap (λ b. with_append b (nat_eq j i) n (suc k) (Some (record { cdb = cdb; buffer = buffer })) (cmd_of (event_of past)) (suc (appends past j n)) (lowest_vacant (slots past j)) (id_of (terms past) (suc i)) (linked past i) (orb_terms past i)) (not_here (nat_eq i j) e)
-    ∙ ap (λ b. with_append false b n (suc k) (Some (record { cdb = cdb; buffer = buffer })) (cmd_of (event_of past)) (suc (appends past j n)) (lowest_vacant (slots past j)) (id_of (terms past) (suc i)) (linked past i) (orb_terms past i)) (other_way i j (not_here (nat_eq i j) e))
-orbs_left (notes.Linked j n k) past i e = ap (λ b. with_link b n k (orb_terms past i)) (not_here (nat_eq i j) e)
-orbs_left (notes.Dummied j n k) past i e = ap (λ b. with_dummy b n k (orb_terms past i)) (not_here (nat_eq i j) e)
-orbs_left (notes.Low j n k) past i e = ap (λ b. with_low b n k (orb_terms past i)) (not_here (nat_eq i j) e)
+    ap (λ b. with_append b (nat_eq j i) n (suc k) (Some (record { cdb = cdb; buffer = buffer })) (cmd_of (event_of past)) (suc (appends past j n)) (lowest_vacant (slots past j)) (id_of (terms past) (suc i)) (linked past i) (orb_terms past i)) (not-true (nat_eq i j) e)
+    ∙ ap (λ b. with_append false b n (suc k) (Some (record { cdb = cdb; buffer = buffer })) (cmd_of (event_of past)) (suc (appends past j n)) (lowest_vacant (slots past j)) (id_of (terms past) (suc i)) (linked past i) (orb_terms past i)) (turned i j (not-true (nat_eq i j) e))
+orbs_left (notes.Linked j n k) past i e = ap (λ b. with_link b n k (orb_terms past i)) (not-true (nat_eq i j) e)
+orbs_left (notes.Dummied j n k) past i e = ap (λ b. with_dummy b n k (orb_terms past i)) (not-true (nat_eq i j) e)
+orbs_left (notes.Low j n k) past i e = ap (λ b. with_low b n k (orb_terms past i)) (not-true (nat_eq i j) e)
 orbs_left (notes.Taken j n k status answer) past i e = refl
 orbs_left (notes.Drop j n) past i e = refl
 orbs_left (notes.Op j operation word) past i e = refl

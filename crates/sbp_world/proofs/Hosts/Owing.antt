@@ -1,6 +1,8 @@
 -- A response that tells bytes in answer to a block read stands behind the note that the read was got.
 use Rattle.std.proofs.Common.{arith, ◌≡◌, refl, sym, ◌∙◌, ap, subst, ℕ, suc, ◌+◌, ◌≤◌, ◌==◌, Bool, true, false, cond, List, [], ◌∷◌, ◌++◌, map, Option, Some, None, Result, Ok, Err, append_assoc}
 use Rattle.std.proofs.lemmas.Bool.Decides.{nat_tests}
+use Rattle.std.proofs.lemmas.Bool.{false≢true}
+use Rattle.std.proofs.lemmas.Option.{same_Some}
 use Rattle.async_packet.specs.Fields.{rcode_of}
 use Rattle.async_packet.specs.Packet.{Packet, lock, read_block, read_block_response, read_quadlet, read_quadlet_response, lock_response, write_block, write_quadlet, write_response}
 use Rattle.async_packet.specs.Reading.{reading}
@@ -126,12 +128,6 @@ pub record GotBehind (all : List Moment) (reply ask : ℕ) (asks : Sending) : Ty
   pub below : ask ≤ (terms past).count
   pub next : reply ≡ (terms past).count + 1
 
-some_number : (m n : ℕ) → Some m ≡ Some n → m ≡ n
-some_number m n e = cc
-
-untrue : false ≡ true → ⊥
-untrue e = cc
-
 read_kind : (p : Packet) (address count label : ℕ) (kind : Kind) → IsBlockRead p address count → part_in p ≡ request label kind → is_same_kind kind writing ≡ false
 read_kind p address count label kind b e = by_kind (sym (ap part_in b.is) ∙ e)
   where
@@ -161,7 +157,7 @@ module _ (all : List Moment) (i : ℕ) (wire : OfWire all) (writes : AllWrites a
   block = block_read_of asks.spells access replied.label replied.kind asks.asks r.reads r.block asks_part (tells_read tell.spells replied.label replied.kind bytes tell.tells tells_part)
 
   pub to_it : replied.asking.to ≡ suc i
-  to_it = some_number replied.asking.to (suc i) (sym (ap receiver_in replied.asking_is) ∙ r.of_initiator)
+  to_it = same_Some replied.asking.to (suc i) (sym (ap receiver_in replied.asking_is) ∙ r.of_initiator)
 
   -- ---- where the response stands
 
@@ -189,7 +185,7 @@ module _ (all : List Moment) (i : ℕ) (wire : OfWire all) (writes : AllWrites a
       let serial : reply ≡ (terms sent.before).count + 1 = serials_here.0 in
       let counted : (terms here).count ≡ (terms sent.before).count + 1 = count_now sent.before reply q.generation q.from q.to q.bytes in
       let first = answers_now sent.before reply q.generation q.from q.to q.bytes owed there.owes in
-      some_number owed.serial ask (sym first ∙ (sym (remain.answers reply (omega arith)) ∙ r.answers))
+      same_Some owed.serial ask (sym first ∙ (sym (remain.answers reply (omega arith)) ∙ r.answers))
 
   owing : IsOwed (terms sent.before) owed (record { generation = q.generation; from = q.from; to = q.to; bytes = q.bytes; injected = (terms sent.before).injected reply })
   owing = subst (λ o. IsSentFor o (terms sent.before) (record { generation = q.generation; from = q.from; to = q.to; bytes = q.bytes; injected = (terms sent.before).injected reply })) there.owes answered.0
@@ -252,19 +248,19 @@ module _ (all : List Moment) (i : ℕ) (wire : OfWire all) (writes : AllWrites a
   ignored_there cause e = ap (λ c. later ++ said (note_of owed.serial c) ∷ past) (sym e) ∙ position
 
   not_ignored : (cause : Cause) → owed.cause ≡ Some cause → ⊥
-  not_ignored causes.Generation e = untrue (stated causes.Generation e)
-  not_ignored causes.Label e = untrue (stated causes.Label e)
-  not_ignored causes.Grammar e = untrue (stated causes.Grammar e)
-  not_ignored causes.Source e = untrue (stated causes.Source e)
-  not_ignored causes.Login e = untrue (stated causes.Login e)
+  not_ignored causes.Generation e = false≢true (stated causes.Generation e)
+  not_ignored causes.Label e = false≢true (stated causes.Label e)
+  not_ignored causes.Grammar e = false≢true (stated causes.Grammar e)
+  not_ignored causes.Source e = false≢true (stated causes.Source e)
+  not_ignored causes.Login e = false≢true (stated causes.Login e)
   not_ignored causes.Slot e =
       let w = writes_there later past i owed.serial (subst (λ ms. AllWrites ms i) (sym (ignored_there causes.Slot e)) writes) in
-      untrue (sym r.reads ∙ w replied.asking was_sent to_it asks.spells asks.read access asks.asks)
+      false≢true (sym r.reads ∙ w replied.asking was_sent to_it asks.spells asks.read access asks.asks)
   not_ignored causes.Again e =
       let j = judged_there later past owed.serial causes.Again (subst AreJudged (sym (ignored_there causes.Again e)) wire.laws.judged) replied.asking was_sent in
       let w = repeats_write (terms past) replied.asking replied.label replied.kind replied.asking_part j in
       let k = asking_read replied.asking.bytes asks.spells replied.label replied.kind asks.read asks_part in
-      untrue (sym (read_kind asks.spells access.offset access.count replied.label replied.kind block asks_part) ∙ (sym k.writes ∙ w))
+      false≢true (sym (read_kind asks.spells access.offset access.count replied.label replied.kind block asks_part) ∙ (sym k.writes ∙ w))
 
   no_cause : (c : Option Cause) → owed.cause ≡ c → owed.cause ≡ None
   no_cause None e = e

@@ -36,12 +36,8 @@ use Rattle.sbp_world.proofs.Hosts.Lives.{At, AskedAt, ask_at, ask_begins, ask_ke
 use Rattle.sbp_world.proofs.Hosts.PointerNotes.{Fit, Told, asked_pointer, pointer, pointer_after, tame_told}
 use Rattle.sbp_world.proofs.Hosts.Pointing.{HasSent, IsPointer, Points, WaitsFor, asked_generation, called_of, keeps_is, none_of, sent_waits, under_way_now, waits_before, wrote_is, written_at}
 use Rattle.sbp_world.proofs.Hosts.Shown.{IsShown}
-
-untrue : {A : Type 0} → false ≡ true → A
-untrue e = absurd (differ e)
-  where
-    differ : false ≡ true → ⊥
-    differ e = cc
+use Rattle.sbp_world.proofs.Common.{untrue}
+use Rattle.sbp_world.proofs.Pointers.Ages.{serial_is}
 
 no_some : {A : Type 0} {B : Type 0} {x : B} → None ≡ Some x → A
 no_some e = absurd (differ e)
@@ -138,7 +134,7 @@ names true serial None s e = as_now refl refl (let f : serial ≡ s = cc in sym 
 names true serial (Some first) s e = as_before e
 names false serial old s e = as_before e
 
-named_on : (rung : Bool) (serial : ℕ) (old : Option ℕ) (s : ℕ) → old ≡ Some s → pointer_after rung serial old ≡ Some s
+pub named_on : (rung : Bool) (serial : ℕ) (old : Option ℕ) (s : ℕ) → old ≡ Some s → pointer_after rung serial old ≡ Some s
 named_on true serial None s e = no_some e
 named_on true serial (Some first) s e = e
 named_on false serial old s e = e
@@ -149,7 +145,7 @@ now_named true serial (Some first) r e = no_some (sym e)
 now_named false serial old r e = untrue r
 
 -- a list whose ORB_POINTER is written is present
-has_list : (present : Option PresentList) (pointing : Pointing) → HasMarks present pointing → is_unwritten pointing ≡ false → is_some present ≡ true
+pub has_list : (present : Option PresentList) (pointing : Pointing) → HasMarks present pointing → is_unwritten pointing ≡ false → is_some present ≡ true
 has_list None pointing h e = untrue (sym e ∙ h)
 has_list (Some list) pointing h e = refl
 
@@ -288,9 +284,6 @@ module _ (ready : Bool) (action : Action) (past : List Moment) (i : ℕ) (s : In
         let u = under_way_now (state_for s.layer.peers s.target m) (kind_as kind) (shown.states m ∙ ap shape_of h) in
         let a : At s.layer s.target m (Some (purposes.Pointer y.list)) = record { kind = u.kind; serial = u.serial; state = u.is; is_for = y.is } in
         record { list = y.list; is = (ask_keeps s.layer s.target (wanted_body x.demand.wanted) x.demand.purpose x.asked t.1.layer (called_of cored) x.step s.target m (Some (purposes.Pointer y.list)) a).is_for }
-
-    serial_is : (a b : Kind) (m n : ℕ) → waits a m ≡ waits b n → n ≡ m
-    serial_is a b m n e = cc
 
     named_by : (m : ℕ) (kind : Kind) (n : ℕ) → (terms now).held (own m) ≡ waits kind n → pointer now i ≡ Some n → (b : Bool) → (m == x.asked.label.number) ≡ b → IsPointer (purpose_for t.1.layer.peers s.target m)
     named_by m kind n h p true e =

@@ -46,16 +46,11 @@ use Rattle.sbp_world.proofs.Hosts.PointSees.{SeenAs, anew, as_before, see_left}
 use Rattle.sbp_world.proofs.Hosts.PointerNotes.{Fit, apart_passes, got_fades_now, opens, pointer, seen_fades_now, tame_told, timed_fades_now}
 use Rattle.sbp_world.proofs.Hosts.Pointing.{Points, called_of, written_at, wrote_at, wrote_is}
 use Rattle.sbp_world.proofs.Hosts.Shown.{IsElsewhere, IsHeard, IsShown}
+use Rattle.sbp_world.proofs.Pointers.Pends.{unwritten_not}
 
 pub record Pointed (ready : Bool) (past : List Moment) (i : ℕ) (s : InitiatorState) : Type 0 where
   pub cored : Cored ready past i s
   pub points : Fit past → Points past i s.target s.layer
-
-unwritten_not : {A : Type 0} → pointings.Unwritten ≡ pointings.Written → A
-unwritten_not e = absurd (differ e)
-  where
-    differ : pointings.Unwritten ≡ pointings.Written → ⊥
-    differ e = cc
 
 least : (n m : ℕ) → m ≡ n → n ≤ m
 least n m e = omega arith
@@ -69,7 +64,7 @@ pub expires_in : (k : Option ℕ) (layer : Layer Purpose) (label : LabelParts) �
 expires_in None layer label = refl
 expires_in (Some k) layer label = expired_stays k layer (expire_place (peer_at layer k) label)
 
-expiring_stays : (layer : Layer Purpose) (peer : ℕ) (label : LabelParts) → (expiring_step layer peer label).1.generation ≡ layer.generation
+pub expiring_stays : (layer : Layer Purpose) (peer : ℕ) (label : LabelParts) → (expiring_step layer peer label).1.generation ≡ layer.generation
 unfolding expiring_step
 expiring_stays layer peer label = expires_in (peer_place peer layer) layer label
 
@@ -274,7 +269,7 @@ free_not kind serial e = absurd (differ kind serial e)
     differ : (kind : Kind) (serial : ℕ) → free ≡ waits kind serial → ⊥
     differ kind serial e = cc
 
-first_marks : (i : ℕ) (ready : Bool) → (new_state i ready).marks.pointing ≡ pointings.Unwritten
+pub first_marks : (i : ℕ) (ready : Bool) → (new_state i ready).marks.pointing ≡ pointings.Unwritten
 unfolding new_state
 first_marks i ready = refl
 

@@ -1,6 +1,7 @@
 -- What each note leaves of the ORB_POINTER write that an initiator's host names, and of its labels.
 use Rattle.std.proofs.Common.{arith, ◌≡◌, refl, sym, ◌∙◌, ap, ℕ, zero, suc, ◌+◌, ◌≤◌, ◌&&◌, nat_eq, not, Bool, true, false, cond, List, [], ◌∷◌, Option, Some, None}
 use Rattle.std.proofs.lemmas.Bool.Decides.{nat_tests}
+use Rattle.std.proofs.lemmas.Bool.{not-true}
 use Rattle.orb_layout.specs.Replies.{Answer, Done, Expired, NoLabel, Payload, Refused}
 use Rattle.bus_transactions.specs.Packets.{SerialsCount}
 use Rattle.bus_transactions.specs.Sent.{AreSent}
@@ -30,17 +31,12 @@ use Rattle.sbp_world.proofs.Wire.Agrees.{got_agrees, ignored_agrees, timed_agree
 use Rattle.sbp_world.specs.Hosts.Calls.{behind}
 use Rattle.sbp_world.proofs.Hosts.Asked.{IsRequest}
 use Rattle.sbp_world.proofs.Hosts.Carries.{IsNoAct, is_apart}
-use Rattle.sbp_world.proofs.Hosts.Cores.{wire_is}
+use Rattle.sbp_world.proofs.Hosts.Cores.{wire_is, and_false}
 use Rattle.sbp_world.proofs.Hosts.Held.{begun_from, got_apart, ignored_quiet, sent_apart, sent_count, sent_old, timed_apart}
 use Rattle.sbp_world.proofs.Hosts.Layered.{AreTame, is_tame}
 use Rattle.sbp_world.proofs.Hosts.Prepares.{itself}
 use Rattle.sbp_world.proofs.Hosts.Shown.{IsElsewhere}
-
-untrue : {A : Type 0} → false ≡ true → A
-untrue e = absurd (differ e)
-  where
-    differ : false ≡ true → ⊥
-    differ e = cc
+use Rattle.sbp_world.proofs.Common.{untrue, turned as other_way, least}
 
 -- the serial of the ORB_POINTER write of the present list
 abbrev pub pointer : List Moment → ℕ → Option ℕ
@@ -148,22 +144,11 @@ pub record Passes (past : List Moment) (note : Note) (i : ℕ) : Type 0 where
   pub sent : Fit (said note ∷ past) → (serial : ℕ) → serial ≤ (terms past).count → (terms (said note ∷ past)).sent serial ≡ (terms past).sent serial
   pub fit : Fit (said note ∷ past) → Fit past
 
-least : (n m : ℕ) → m ≡ n → n ≤ m
-least n m e = omega arith
-
-not_so : (b : Bool) → not b ≡ true → b ≡ false
-not_so true e = untrue e
-not_so false e = refl
-
 none_if : (b : Bool) (x y : Host) → b ≡ false → Fades (cond b x y) y
 none_if true x y e = untrue (sym e)
 none_if false x y e = λ serial f. f
 
-and_false : (b c : Bool) → b ≡ false → b && c ≡ false
-and_false true c e = untrue (sym e)
-and_false false c e = refl
-
-older : (n serial count : ℕ) → n ≤ count → serial ≡ count + 1 → nat_eq n serial ≡ false
+pub older : (n serial count : ℕ) → n ≤ count → serial ≡ count + 1 → nat_eq n serial ≡ false
 older n serial count l e = grind (arith, nat_tests)
 
 turned : (i from requester : ℕ) → requester ≡ from → nat_eq from i ≡ false → nat_eq i requester ≡ false
@@ -178,7 +163,7 @@ apart_passes (notes.Linked j n k) past i e w = record { fades = λ s f. f; held 
 apart_passes (notes.Rung j n k) past i e w = record { fades = λ s f. f; held = λ g m. refl; count = least _ _ refl; sent = λ f n l. refl; fit = λ f. record { serials = f.serials; sent = f.sent } }
 apart_passes (notes.Dummied j n k) past i e w = record { fades = λ s f. f; held = λ g m. refl; count = least _ _ refl; sent = λ f n l. refl; fit = λ f. record { serials = f.serials; sent = f.sent } }
 apart_passes (notes.Sent serial generation from to bytes) past i e w =
-    let other = not_so (nat_eq from (suc i)) e in
+    let other = not-true (nat_eq from (suc i)) e in
     let t : Terms = terms past in
     let packet : Sending = record { generation = generation; from = from; to = to; bytes = bytes; injected = t.injected serial } in
     record {
@@ -396,9 +381,6 @@ goes_pointer (Some underway) serial host = refl
 not_if : (b : Bool) (x y : Host) → b ≡ false → (cond b x y).pointer ≡ y.pointer
 not_if true x y e = untrue (sym e)
 not_if false x y e = refl
-
-other_way : (i j : ℕ) → nat_eq i j ≡ false → nat_eq j i ≡ false
-other_way i j e = grind (arith, nat_tests)
 
 other_pointer : (event : Option Event) (i : ℕ) (list : Option ℕ) (serial : ℕ) (host : Host) → IsNoAct i event → (sent_in event i list serial host).pointer ≡ host.pointer
 other_pointer None i list serial host n = goes_pointer host.operation serial host

@@ -54,12 +54,8 @@ use Rattle.sbp_world.proofs.Hosts.Pointing.{Points, pointing_of, under_way_now}
 use Rattle.sbp_world.proofs.Hosts.Runs.{count_after}
 use Rattle.sbp_world.proofs.Hosts.Shown.{IsShown}
 use Rattle.sbp_world.proofs.Hosts.Shows.{shown_now}
-
-untrue : {A : Type 0} → false ≡ true → A
-untrue e = absurd (differ e)
-  where
-    differ : false ≡ true → ⊥
-    differ e = cc
+use Rattle.sbp_world.proofs.Common.{untrue}
+use Rattle.sbp_world.proofs.Sessions.Caught.{up_parts}
 
 -- ---- a request that is under way, by the terms
 
@@ -84,14 +80,10 @@ held_is free serial e g = untrue e
 held_is rests serial e g = untrue e
 held_is (waits kind other) serial e g = let same : other ≡ serial = grind arith in g kind (ap (waits kind) same)
 
-both : (a b : Bool) → (a && b) ≡ true → (a ≡ true) × (b ≡ true)
-both true b e = (refl, e)
-both false b e = untrue e
-
 awaits_by : (t : Terms) (packet : Sending) (serial : ℕ) (begun : Option Transaction) → begun_by packet ≡ begun → waits_for t begun serial ≡ true → Awaits t packet serial
 awaits_by t packet serial None e f = untrue f
 awaits_by t packet serial (Some u) e f =
-    let x = both (is_of_now t u) (is_waiting_for (t.held u) serial) f in
+    let x = up_parts (is_of_now t u) (is_waiting_for (t.held u) serial) f in
     let now : t.generation u.requester ≡ u.generation = (let y = x.0 in grind arith) in
     held_is (t.held u) serial x.1 (λ kind held. record { u = u; begun = e; now = now; kind = kind; held = held })
 

@@ -1,5 +1,5 @@
 -- The ORB_POINTER write that an initiator's host names, and the one under way in its layer.
-use Rattle.std.proofs.Common.{◌≡◌, refl, sym, ◌∙◌, ap, subst, ℕ, suc, ◌+◌, ◌≤◌, ◌&&◌, is_some, not, Bool, true, false, List, Option, Some, None, Result, Ok, Err}
+use Rattle.std.proofs.Common.{◌≡◌, refl, sym, ◌∙◌, ap, subst, ℕ, suc, ◌+◌, ◌≤◌, is_some, not, Bool, true, false, List, Option, Some, None, Result, Ok, Err}
 use Rattle.bus_transactions.specs.Rows.{awaits, shape}
 use Rattle.bus_transactions.specs.Sent.{IsOwn}
 use Rattle.bus_transactions.specs.Sent as sent
@@ -33,12 +33,7 @@ use Rattle.sbp_world.proofs.Hosts.Held.{sent_apart, sent_begun}
 use Rattle.sbp_world.proofs.Hosts.Hosted.{Cored}
 use Rattle.sbp_world.proofs.Hosts.Lives.{At, Called}
 use Rattle.sbp_world.proofs.Hosts.PointerNotes.{pointer}
-
-untrue : {A : Type 0} → false ≡ true → A
-untrue e = absurd (differ e)
-  where
-    differ : false ≡ true → ⊥
-    differ e = cc
+use Rattle.sbp_world.proofs.Common.{untrue, and_first}
 
 -- ---- what is carried on
 
@@ -156,10 +151,6 @@ asked_generation layer peer body purpose asked new e = sym (ap (λ (r : Option A
 is_waiting : {A : Type 0} (held : Held) (kind : Kind) (serial : ℕ) → held ≡ waits kind serial → sent.is_free held ≡ true → A
 is_waiting held kind serial e f = untrue (sym (ap sent.is_free e) ∙ f)
 
-first_so : (a b : Bool) → (a && b) ≡ true → a ≡ true
-first_so true b e = refl
-first_so false b e = untrue e
-
 module _ (t : Terms) (serial : ℕ) (packet : Sending) (own : packet.injected ≡ false → IsOwn t packet.generation packet.from packet.to packet.bytes) where
   pub was_free : (u : Transaction) → begun_by packet ≡ Some u → sent.is_free (t.held u) ≡ true
   was_free u e =
@@ -168,7 +159,7 @@ module _ (t : Terms) (serial : ℕ) (packet : Sending) (own : packet.injected �
       let o = own b.0 in
       let takes = (o.lowest a.label a.kind a.part).takes in
       let same : u ≡ transaction (t.generation packet.from) packet.from packet.to a.label = a.is ∙ ap (λ g. transaction g packet.from packet.to a.label) o.now in
-      ap (λ x. sent.is_free (t.held x)) same ∙ first_so _ _ takes
+      ap (λ x. sent.is_free (t.held x)) same ∙ and_first _ _ takes
 
   waits_by : (v u : Transaction) (kind : Kind) (s : ℕ) → begun_by packet ≡ Some u → t.held v ≡ waits kind s → (b : Bool) → is_same v u ≡ b → b ≡ false
   waits_by v u kind s e w true f = is_waiting (t.held u) kind s (ap t.held (sym (same_is v u f)) ∙ w) (was_free u e)

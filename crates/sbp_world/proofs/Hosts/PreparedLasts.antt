@@ -1,15 +1,13 @@
 -- An ORB that is the one prepared last in its slot was so at each moment behind its append.
 use Rattle.std.proofs.Common.{arith, ◌≡◌, refl, sym, ◌∙◌, ap, ℕ, suc, ◌<◌, ◌≤◌, nat_eq, Bool, true, false, cond, List, [], ◌∷◌, ◌++◌, Some, None}
 use Rattle.std.proofs.lemmas.Bool.Decides.{nat_tests}
+use Rattle.std.proofs.lemmas.Option.{same_Some}
 use Rattle.sbp_journal.specs.Run.{Moment, asked, said}
 use Rattle.sbp_journal.specs.declared.note.Note.TheVariants as notes
 use Rattle.sbp_journal.specs.declared.note.NoteBuffer.{NoteBuffer}
 use Rattle.sbp_laws.specs.Lists.{list_in, lowest_vacant, number_in, orb, prepared_in, slot_at, slots}
 use Rattle.sbp_laws.specs.Terms.{appends}
 use Rattle.sbp_world.proofs.Hosts.LastingTerms.{AllLast, IsLast, IsNumbered, from_there, one_of}
-
-same_number : (m n : ℕ) → Some m ≡ Some n → m ≡ n
-same_number m n e = cc
 
 turned : (i j : ℕ) → nat_eq i j ≡ true → nat_eq j i ≡ true
 turned i j e = grind (arith, nat_tests)
@@ -24,8 +22,8 @@ module _ (i slot n k : ℕ) where
 
   by_append : (past : List Moment) (j m l : ℕ) (b c : Bool) → nat_eq i j ≡ b → (nat_eq j i ≡ true → l ≡ appends past i m) → k < appends past i n → cond b (cond c (Some (orb m l)) (prepared_in past i slot)) (prepared_in past i slot) ≡ Some (orb n k) → IsIt past
   by_append past j m l true true e numbered below h =
-      let list : m ≡ n = same_number m n (ap list_in h) in
-      let number : l ≡ k = same_number l k (ap number_in h) in
+      let list : m ≡ n = same_Some m n (ap list_in h) in
+      let number : l ≡ k = same_Some l k (ap number_in h) in
       absurd (not_later k l (appends past i m) (appends past i n) (numbered (turned i j e)) (ap (λ x. appends past i x) list) number below)
   by_append past j m l true false e numbered below h = h
   by_append past j m l false c e numbered below h = h
@@ -58,8 +56,8 @@ module _ (i slot n k : ℕ) where
   -- as it is appended
   new_place : (past : List Moment) (j m l : ℕ) (cdb : List ℕ) (buffer : NoteBuffer) → nat_eq i j ≡ true → nat_eq slot (lowest_vacant (slots past j)) ≡ true → (nat_eq j i ≡ true → l ≡ appends past i m) → Some (orb m l) ≡ Some (orb n k) → IsPlaced (said (notes.Append j m l cdb buffer) ∷ past)
   new_place past j m l cdb buffer e f numbered h =
-      let list : m ≡ n = same_number m n (ap list_in h) in
-      let number : l ≡ k = same_number l k (ap number_in h) in
+      let list : m ≡ n = same_Some m n (ap list_in h) in
+      let number : l ≡ k = same_Some l k (ap number_in h) in
       let own = turned i j e in
       let one : appends (said (notes.Append j m l cdb buffer) ∷ past) i m ≡ suc (appends past i m) = one_of i j m l cdb buffer past own in
       let same_list : appends (said (notes.Append j m l cdb buffer) ∷ past) i m ≡ appends (said (notes.Append j m l cdb buffer) ∷ past) i n = ap (λ x. appends (said (notes.Append j m l cdb buffer) ∷ past) i x) list in

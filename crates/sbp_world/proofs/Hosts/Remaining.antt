@@ -135,7 +135,7 @@ serials_behind (said (notes.Sent s generation from to bytes)) past c = c.1
 serials_behind (said note) past c = c
 serials_behind (asked line event) past c = c
 
-remains_on : (before middle past : List Moment) → Remains before middle → Remains middle past → Remains before past
+pub remains_on : (before middle past : List Moment) → Remains before middle → Remains middle past → Remains before past
 remains_on before middle past a b = record {
   count = let x = a.count in let y = b.count in omega arith;
   sent = λ r h. let x = a.count in b.sent r (omega arith) ∙ a.sent r h;

@@ -1,6 +1,7 @@
 -- The payload of the response to a block read that is complete.
 use Rattle.std.proofs.Common.{arith, ◌≡◌, refl, sym, ap, ◌∙◌, ℕ, zero, suc, ◌-◌, ◌^◌, ◌<◌, ◌≤◌, ◌==◌, Bool, true, false, cond, List, [], ◌∷◌, length, take, Option, Some, None, Ok}
 use Rattle.std.proofs.lemmas.Bool.Decides.{nat_tests}
+use Rattle.std.proofs.lemmas.Bool.{true≢false}
 use Rattle.async_packet.specs.Canon.{FitsHeader, canon}
 use Rattle.async_packet.specs.Fields.{largest}
 use Rattle.async_packet.specs.Packet.{Packet, lock, lock_response, read_block, read_block_response, read_quadlet, read_quadlet_response, write_block, write_quadlet, write_response}
@@ -21,6 +22,7 @@ use Rattle.sbp_laws.specs.CarriedBytes.{IsRead}
 use Rattle.sbp_laws.specs.Packets.{answer_in, answer_of, spelled_by}
 use Rattle.sbp_laws.specs.Served.{host_reply}
 use Rattle.sbp_world.proofs.Hosts.Answering.{none_is}
+use Rattle.sbp_world.proofs.Hosts.ResponseTells.{some}
 
 -- ---- the request
 
@@ -44,12 +46,6 @@ abbrev rcode_in : List Moment → ℕ → Option Access → ℕ
 rcode_in past i None = 0
 rcode_in past i (Some access) = (host_reply past i access).rcode
 
-differ : true ≡ false → ⊥
-differ e = cc
-
-some : (n : ℕ) → suc n ≡ 0 → ⊥
-some n e = omega arith
-
 pub record IsBlockRead (p : Packet) (address count : ℕ) : Type 0 where
   pub header : Header
   pub is : p ≡ read_block header address count
@@ -60,9 +56,9 @@ block_read past i (read_block header offset asked) access address count e r z = 
   header = header;
   is = ap (λ x. read_block header x asked) (ap offset_in e ∙ r.from) ∙ ap (λ x. read_block header address x) (ap count_in e ∙ r.size);
 }
-block_read past i (read_quadlet header offset) access address count e r z = absurd (differ (sym r.block ∙ sym (ap is_block_in e)))
-block_read past i (write_quadlet header offset value) access address count e r z = absurd (differ (ap writes e ∙ r.read))
-block_read past i (write_block header offset payload) access address count e r z = absurd (differ (ap writes e ∙ r.read))
+block_read past i (read_quadlet header offset) access address count e r z = absurd (true≢false (sym r.block ∙ sym (ap is_block_in e)))
+block_read past i (write_quadlet header offset value) access address count e r z = absurd (true≢false (ap writes e ∙ r.read))
+block_read past i (write_block header offset payload) access address count e r z = absurd (true≢false (ap writes e ∙ r.read))
 block_read past i (lock header offset extended payload) access address count e r z = absurd (some 5 (ap (rcode_in past i) e ∙ z))
 block_read past i (write_response header rcode) access address count e r z = absurd (none_is e)
 block_read past i (read_quadlet_response header rcode value) access address count e r z = absurd (none_is e)
@@ -89,9 +85,9 @@ block_read_of (read_block header offset asked) access l k e w b f n = record {
   header = header;
   is = ap (λ x. read_block header x asked) (ap offset_in e) ∙ ap (λ x. read_block header access.offset x) (ap count_in e);
 }
-block_read_of (read_quadlet header offset) access l k e w b f n = absurd (differ (sym b ∙ sym (ap is_block_in e)))
-block_read_of (write_quadlet header offset value) access l k e w b f n = absurd (differ (ap writes e ∙ w))
-block_read_of (write_block header offset payload) access l k e w b f n = absurd (differ (ap writes e ∙ w))
+block_read_of (read_quadlet header offset) access l k e w b f n = absurd (true≢false (sym b ∙ sym (ap is_block_in e)))
+block_read_of (write_quadlet header offset value) access l k e w b f n = absurd (true≢false (ap writes e ∙ w))
+block_read_of (write_block header offset payload) access l k e w b f n = absurd (true≢false (ap writes e ∙ w))
 block_read_of (lock header offset extended payload) access l k e w b f n = let is : k ≡ locking = cc in absurd (n is)
 block_read_of (write_response header rcode) access l k e w b f n = absurd (none_is e)
 block_read_of (read_quadlet_response header rcode value) access l k e w b f n = absurd (none_is e)

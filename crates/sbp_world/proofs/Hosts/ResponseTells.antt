@@ -22,7 +22,7 @@ small_code false false false false has = omega arith
 small_code false false false true false = omega arith
 small_code false false false true true = omega arith
 
-some : (n : ℕ) → suc n ≡ 0 → ⊥
+pub some : (n : ℕ) → suc n ≡ 0 → ⊥
 some n e = omega arith
 
 -- a range that is served does not leave its window

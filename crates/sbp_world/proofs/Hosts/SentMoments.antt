@@ -1,6 +1,7 @@
 -- Where a packet stands in a history, and what the terms of the wire say right behind it.
-use Rattle.std.proofs.Common.{arith, ◌≡◌, refl, sym, ◌∙◌, ap, subst, ℕ, ◌+◌, ◌≤◌, nat_eq, Bool, true, false, cond, List, [], ◌∷◌, ◌++◌, Some, None}
+use Rattle.std.proofs.Common.{arith, ◌≡◌, refl, sym, ◌∙◌, ap, subst, ℕ, ◌+◌, ◌≤◌, nat_eq, Bool, true, false, cond, List, [], ◌∷◌, ◌++◌, Some}
 use Rattle.std.proofs.lemmas.Bool.Decides.{nat_tests}
+use Rattle.std.proofs.lemmas.Option.{same_Some, none-some}
 use Rattle.sbp_base.specs.Update.{upd}
 use Rattle.bus_transactions.specs.Packets.{SerialsCount}
 use Rattle.sbp_journal.specs.Run.{Moment, asked, said}
@@ -51,12 +52,6 @@ pub record WasSent (all : List Moment) (r : ℕ) (packet : Sending) : Type 0 whe
   pub is : later ++ said (notes.Sent r packet.generation packet.from packet.to packet.bytes) ∷ before ≡ all
   pub injected : (terms before).injected r ≡ packet.injected
 
-none_sent : (packet : Sending) → None ≡ Some packet → ⊥
-none_sent packet e = cc
-
-same_packet : (one other : Sending) → Some one ≡ Some other → one ≡ other
-same_packet one other e = cc
-
 further : (m : Moment) (past : List Moment) (r : ℕ) (packet : Sending) → WasSent past r packet → WasSent (m ∷ past) r packet
 further m past r packet h = record { later = m ∷ h.later; before = h.before; is = ap (λ ms. m ∷ ms) h.is; injected = h.injected }
 
@@ -64,12 +59,12 @@ here_or : (past : List Moment) (s generation from to : ℕ) (bytes : List ℕ) (
 here_or past s generation from to bytes r packet h true e f =
     let same : s ≡ r = grind (arith, nat_tests) in
     subst (λ n. WasSent (now past s generation from to bytes) n packet) same
-    (subst (λ q. WasSent (now past s generation from to bytes) s q) (same_packet (sending past s generation from to bytes) packet f)
+    (subst (λ q. WasSent (now past s generation from to bytes) s q) (same_Some (sending past s generation from to bytes) packet f)
     (record { later = []; before = past; is = refl; injected = refl }))
 here_or past s generation from to bytes r packet h false e f = further (said (notes.Sent s generation from to bytes)) past r packet (h f)
 
 pub sent_moment : (all : List Moment) (r : ℕ) (packet : Sending) → (terms all).sent r ≡ Some packet → WasSent all r packet
-sent_moment [] r packet e = absurd (none_sent packet e)
+sent_moment [] r packet e = absurd (none-some packet e)
 sent_moment (asked line event ∷ past) r packet e =
     further (asked line event) past r packet (sent_moment past r packet (sym (ap (λ f. f r) (opened_same event (terms past)).sent) ∙ e))
 sent_moment (said (notes.Sent s generation from to bytes) ∷ past) r packet e =

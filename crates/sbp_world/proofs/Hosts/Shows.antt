@@ -61,15 +61,13 @@ use Rattle.sbp_world.specs.Hosts.Handing.{history}
 use Rattle.sbp_world.proofs.Hosts.Held.{begun_from, ignored_quiet, timed_generation}
 use Rattle.sbp_world.proofs.Hosts.Knows.{was_sent}
 use Rattle.sbp_world.proofs.Hosts.Shown.{IsHeard, IsShown, NotFrom, NotTo}
+use Rattle.sbp_world.proofs.Agents.Purposes.{peer_bare}
 
 -- ---- a layer without what its transactions are for has the same labels
 
 none_bare : (P : Type 0) (n : ℕ) → map (bare_purpose {P = P}) (replicate n None) ≡ replicate n None
 none_bare P zero = refl
 none_bare P (suc n) = ap (λ xs. None ∷ xs) (none_bare P n)
-
-peer_bare : (P : Type 0) → bare_place {P = P} no_peer ≡ no_peer
-peer_bare P = ap (λ xs. record { peer = None; table = (no_peer {P = P}).table; purposes = xs }) (none_bare P 64)
 
 module _ {P : Type 0} where
   owned_bare : (s : ℕ) (peers : List (PeerPlace P)) → owned_place peer_of s (map bare_place peers) ≡ owned_place peer_of s peers

@@ -1,5 +1,6 @@
 -- The response to a read of a slot carries what was prepared there.
 use Rattle.std.proofs.Common.{◌≡◌, refl, sym, ◌∙◌, ap, subst, ℕ, ◌<◌, List, ◌∷◌, ◌++◌, map, take, drop, Some}
+use Rattle.std.proofs.lemmas.Option.{same_Some}
 use Rattle.orb_layout.specs.Pointers.{pointer_at}
 use Rattle.orb_list.specs.Layout.{table_bytes}
 use Rattle.page_table.specs.Buffer.{addresses, buffer_addresses}
@@ -32,9 +33,6 @@ with_carries past i serial now Known Wanted f r = record {
   carries = f (map said r.effects ++ said (notes.Got serial) ∷ past) (payload_of r.bytes) r.carries;
 }
 
-same_some : (one other : Orb) → Some one ≡ Some other → one ≡ other
-same_some one other e = cc
-
 module _ (past : List Moment) (i serial : ℕ) (packet : Packet) (access : Access) (asks : access_of packet ≡ Some access) (now : List Moment) (replies : IsBlockRead packet access.offset access.count → IsReplied past i serial access now) (slot : ℕ) (found : Orb) (b : slot < 32) (prepared : prepared_in past i slot ≡ Some found) (complete : (host_reply past i access).rcode ≡ 0) where
   module _ {address count : ℕ} (reads : IsRead access address count) where
     reply : IsReplied past i serial access now
@@ -55,7 +53,7 @@ module _ (past : List Moment) (i serial : ℕ) (packet : Packet) (access : Acces
         (λ ms bytes e. subst (λ xs. Carried xs bytes) (sym e.0) (subst (Carried before) (sym e.1) c)) reply.reads
 
   same_orb : (one : Orb) → prepared_in past i slot ≡ Some one → one ≡ found
-  same_orb one e = same_some one found (sym e ∙ prepared)
+  same_orb one e = same_Some one found (sym e ∙ prepared)
 
   pub are_reads : AreReads past i serial slot found access now
   are_reads = record {

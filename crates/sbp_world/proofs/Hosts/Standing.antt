@@ -5,7 +5,7 @@ use Rattle.bus_transactions.specs.Answers.{AreAnswered, IsSentFor}
 use Rattle.bus_transactions.specs.May.{is_plain}
 use Rattle.sbp_journal.specs.Run.{Moment, asked, said}
 use Rattle.sbp_journal.specs.Transactions.{Kind, Part, Sending, Transaction, asked_by, between, begun_by, no_packet, part_of, request, response}
-use Rattle.sbp_journal.specs.Wire.{Held, Owed, Terms, begins, closes, closes_if, free, gets, gets_as, ignores, ignores_that, judges, judges_if, opened, pays, puts, rests, sends, terms, times_out, waits}
+use Rattle.sbp_journal.specs.Wire.{Owed, Terms, begins, gets, gets_as, ignores, ignores_that, judges, judges_if, opened, puts, sends, terms}
 use Rattle.sbp_journal.specs.declared.cause.Cause.{Cause}
 use Rattle.sbp_journal.specs.declared.cause.Cause.TheVariants as causes
 use Rattle.sbp_journal.specs.declared.event.Event.{Event}
@@ -20,6 +20,8 @@ use Rattle.sbp_world.proofs.Wire.Runs.{sound_after}
 use Rattle.sbp_world.proofs.Wire.Starts.{laws_of}
 use Rattle.sbp_world.specs.Hosts.Runs.{IsRun}
 use Rattle.sbp_world.specs.Hosts.Standing.{IsOwedThere, StandingLaw, StandsBehind, note_of}
+use Rattle.sbp_world.proofs.Lists.ManageTerms.{closes_owes, late_owes}
+use Rattle.sbp_world.proofs.Lists.ManageSends.{pays_owes}
 
 none_some : {A : Type 0} (x : Option A) (y : A) → x ≡ Some y → x ≡ None → ⊥
 none_some x y e f = differ (sym f ∙ e)
@@ -32,17 +34,9 @@ opened_owes (events.Reset physical) t = refl
 opened_owes (events.Repeat serial) t = refl
 opened_owes _ t = refl
 
-times_out_owes : (u : Option Transaction) (t : Terms) → (times_out u t).owes ≡ t.owes
-times_out_owes None t = refl
-times_out_owes (Some u) t = refl
-
 begins_owes : (u : Option Transaction) (s : ℕ) (packet : Sending) (t : Terms) → (begins u s packet t).owes ≡ t.owes
 begins_owes None s packet t = refl
 begins_owes (Some u) s packet t = refl
-
-pays_owes : (owed : Option Owed) (sent : ℕ → Option Sending) (s : ℕ) (packet : Sending) (t : Terms) → t.owes ≡ owed → (pays owed sent s packet t).owes ≡ None
-pays_owes None sent s packet t e = e
-pays_owes (Some owed) sent s packet t e = refl
 
 sends_owes : (s : ℕ) (packet : Sending) (t : Terms) → (sends s packet t).owes ≡ None
 sends_owes s packet t =
@@ -63,15 +57,6 @@ judged_note (Some u) cause s packet t owed e f =
 judged_if : (b : Bool) (u : Option Transaction) (s : ℕ) (packet : Sending) (t : Terms) → Judges t (judges_if b u s packet t) s (Some causes.Grammar)
 judged_if true u s packet t owed e f = judged_note u (Some causes.Grammar) s packet t owed e f
 judged_if false u s packet t owed e f = absurd (none_some t.owes owed e f)
-
-closes_if_owes : (b : Bool) (s : ℕ) (u : Transaction) (rcode : ℕ) (t : Terms) → (closes_if b s u rcode t).owes ≡ t.owes
-closes_if_owes true s u rcode t = refl
-closes_if_owes false s u rcode t = refl
-
-closes_owes : (held : Held) (u : Transaction) (kind : Kind) (rcode : ℕ) (t : Terms) → (closes held u kind rcode t).owes ≡ t.owes
-closes_owes (waits kind s) u other rcode t = closes_if_owes _ s u rcode t
-closes_owes free u other rcode t = refl
-closes_owes rests u other rcode t = refl
 
 got_as : (part : Part) (s : ℕ) (packet : Sending) (t : Terms) → Judges t (gets_as part s packet t) s None
 got_as (request label kind) s packet t owed e f = judged_note (asked_by packet) None s packet t owed e f
@@ -115,7 +100,7 @@ owes_behind (said (notes.Sent s generation from to bytes) ∷ past) h owed e =
     absurd (none_some (sends s packet t).owes owed e (sends_owes s packet t))
 owes_behind (said (notes.Injected s) ∷ past) h owed e = absurd (none_some (terms past).owes owed e h.0)
 owes_behind (said (notes.Lost s) ∷ past) h owed e = absurd (none_some (terms past).owes owed e h.0)
-owes_behind (said (notes.TimedOut s) ∷ past) h owed e = absurd (none_some (terms past).owes owed (sym (times_out_owes _ (terms past)) ∙ e) h.0)
+owes_behind (said (notes.TimedOut s) ∷ past) h owed e = absurd (none_some (terms past).owes owed (sym (late_owes _ (terms past)) ∙ e) h.0)
 owes_behind (said (notes.Reset generation) ∷ past) h owed e = absurd (none_some (terms past).owes owed e h.0)
 owes_behind (said (notes.Seen node generation) ∷ past) h owed e = absurd (none_some (terms past).owes owed e h.0)
 owes_behind (said (notes.Got s) ∷ past) h owed e = first_behind (notes.Got s) past owed (got ((terms past).sent s) s (terms past) owed e h.0)

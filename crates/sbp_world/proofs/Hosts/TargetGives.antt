@@ -54,13 +54,14 @@ use Rattle.sbp_target.specs.Nodes.{NodeState, Scene, scene, desk_at, login_at, w
 use Rattle.sbp_target.specs.Agents.{agent_body, noted, main_sent, main_asked, ask_main, lost_by, lose, ahead_sent, ahead_asked, after_ahead, send_ahead, after_loss, lose_main, after_main, follow, told_cut, cut}
 use Rattle.sbp_target.specs.Units.{is_pending, unsolicited_by, announce_to, announce_in, announce_at, announce_from, hears, is_cut, cut_at, cut_from, cut_all, clear_unit, clear_from}
 use Rattle.sbp_target.specs.Management.{manager_body, place_in, cut_placed, tell_left, tell_failed, clear_one, effect_by, decided_by, with_manager, manager_lost, lost_in, lose_operation, manager_sent, manager_asked, ask_manager, managed_with, managed_in, manage}
-use Rattle.sbp_target.specs.Replies.{Stage, stage, Tells, TellsBy, Whole, scene_of, came, changed_by, announced_by, follow_all, advanced_with, advance, agent_step, plain_at, replied, replied_by, replied_to, served_login}
+use Rattle.sbp_target.specs.Replies.{Stage, stage, TellsBy, Whole, scene_of, came, changed_by, announced_by, follow_all, advanced_with, advance, agent_step, replied, replied_by, replied_to, served_login}
 use Rattle.sbp_target.specs.Serving.{accessed_by, answered, asked_in, enabled, is_barred, point, pointed_by, request_step as served_step, ring, rung_by, serve, served_as, start, started_by}
 use Rattle.sbp_target.specs.Receiving.{TellsAt, TellsIn, answer_in, concluded, expired, expired_with, expired_by, expire_agent, expired_in, expired_from, held_from, judged_scene, received, received_as, reset_by, seen, tell_held, ticked, ticked_by, timed_out, cleared_node, with_layer}
 use Rattle.sbp_world.specs.Hosts.Handing.{IsOther}
 use Rattle.sbp_world.proofs.Hosts.Mild.{AreMild, FromTarget, IsMild, IsMildAsked, IsMildBody, asked_mild, response_mild}
 use Rattle.sbp_world.proofs.Hosts.Others.{more}
-use Rattle.sbp_world.proofs.AgentForms.{FitsEnd, FitsRun, IsFit, lost_fits, reply_fits}
+use Rattle.sbp_world.proofs.AgentForms.{FitsEnd, FitsRun, IsFit, lost_fits}
+use Rattle.sbp_world.proofs.TargetForms.{reply_is_fit}
 
 abbrev pub In : Scene → Type 0
 In s = FromTarget s.outbox
@@ -335,9 +336,6 @@ follows_all b place login step s f h =
 advances_with : (place : ℕ) (login : Login) (r : AgentStep × Stage) (w : Whole) → IsFit r.0 → In (scene_of w) → In (scene_of (advanced_with place login r w))
 advances_with place login (step, st) w f h =
     follows_all (came (disk_at w.disks login.unit) (disk_at st.disks login.unit)) place login step (scene st.node w.outbox) f h
-
-reply_is_fit : (told : Option Told) (place unit : ℕ) (which : Which) (answer : Answer) (s : Stage) (before now : List ℕ) → Tells told place unit which answer s before now → IsFit (agent_step told place unit which answer s).0
-reply_is_fit told place unit which answer s before now t = reply_fits (desk_at s.node place).agent place (plain_at s unit) told which answer t.may
 
 advances : (told : Option Told) (place : ℕ) (login : Login) (which : Which) (answer : Answer) (w : Whole) → IsFit (agent_step told place login.unit which answer (stage w.node w.disks)).0 → In (scene_of w) → In (scene_of (advance told place login which answer w))
 unfolding advance replied

@@ -1,6 +1,7 @@
 -- An action that is done tells the notes that the run asks for.
 use Rattle.std.proofs.Common.{arith, ◌≡◌, refl, sym, ◌∙◌, ap, subst, ℕ, suc, ◌+◌, ◌-◌, ◌==◌, not, is_some, Bool, true, false, cond, List, [], ◌∷◌, ◌++◌, Option, Some, None, Result, Ok, Err}
 use Rattle.std.proofs.lemmas.List.{append-nil}
+use Rattle.std.proofs.lemmas.Bool.{not-false}
 use Rattle.label_table.specs.declared.judgement.Asked.{Asked as Label}
 use Rattle.label_table.specs.Layer.{Layer}
 use Rattle.orb_list.specs.declared.fault.ListFault.{ListFault}
@@ -37,9 +38,10 @@ use Rattle.sbp_laws.specs.Lists.{linked}
 use Rattle.sbp_world.specs.Hosts.Fits.{IsOf, AreRows}
 use Rattle.sbp_world.specs.Hosts.Reading.{ReadAs, last_linked}
 use Rattle.sbp_world.specs.Hosts.Acting.{ActionLaw, HasRows}
-use Rattle.sbp_world.proofs.Hosts.Acts.{Goes, found_number, goes_layer, goes_on}
+use Rattle.sbp_world.proofs.Hosts.Acts.{Goes, found_number, goes_layer, goes_on, some_waits}
 use Rattle.sbp_world.proofs.Hosts.Beside.{find_waits, found_list}
 use Rattle.sbp_world.proofs.Hosts.Readings.{read_as}
+use Rattle.sbp_world.proofs.Pointers.GuardActs.{some_of}
 
 -- ---- the rows of a refusal
 
@@ -117,7 +119,7 @@ module _ (o : OutboxState) (s : InitiatorState) where
       put_cond true = record { sides = refl; present_is = refl; number_is = refl }
       put_cond false = record { sides = refl; present_is = refl; number_is = refl }
 
-is_ok_slot : (found : Result ℕ ListFault) → is_ok found ≡ true → (slot : ℕ) × (found ≡ Ok slot)
+pub is_ok_slot : (found : Result ℕ ListFault) → is_ok found ≡ true → (slot : ℕ) × (found ≡ Ok slot)
 is_ok_slot (Ok slot) e = (slot, refl)
 is_ok_slot (Err fault) e = cc
 
@@ -250,21 +252,13 @@ module _ (past : List Moment) (s : InitiatorState) (r : AreRows past s.number s.
       ∙ (ap (λ x. o.sides ++ sides.Own (notes.Linked s.number x f.0.tail.number) ∷ []) (sym (read.list ∙ t.0))
       ∙ ap (λ x. o.sides ++ sides.Own (notes.Linked s.number (new_list past s.number) x) ∷ []) (sym (ap (λ n. n - 1) read.number ∙ t.1)))
 
-  some_list : (found : Option PresentList) → is_some found ≡ true → (list : PresentList) × (found ≡ Some list)
-  some_list None e = cc
-  some_list (Some list) e = (list, refl)
-
   ring_told : is_some s.lists.slots.present ≡ true → (ring_step o s).0.sides ≡ o.sides ++ own (action_notes actions.Ring past s.number)
   ring_told e =
-      let f = some_list s.lists.slots.present e in
+      let f = some_of s.lists.slots.present e in
       let n : new_list past s.number ≡ f.0.tail.list = read.list ∙ ap (λ x. list_number x s.lists.slots.lists) f.1 in
       ring_some o s f.0 f.1
       ∙ (ap (λ x. o.sides ++ sides.Own (notes.Rung s.number f.0.tail.list x) ∷ []) (sym (read.rung f.0 f.1))
       ∙ ap (λ x. o.sides ++ sides.Own (notes.Rung s.number x (linked past s.number x - 1)) ∷ []) (sym n))
-
-  some_ticket : (found : Option TicketParts) → not (is_some found) ≡ false → (t : TicketParts) × (found ≡ Some t)
-  some_ticket None e = cc
-  some_ticket (Some t) e = (t, refl)
 
   list_of : (present : Option PresentList) (t : TicketParts) → IsOf present t → list_number present s.lists.slots.lists ≡ t.list
   list_of None t e = absurd e
@@ -272,7 +266,7 @@ module _ (past : List Moment) (s : InitiatorState) (r : AreRows past s.number s.
 
   dummy_told : (k : ℕ) → not (is_some (find_in s.lists.slots.slots k)) ≡ false → (dummy_for (find_in s.lists.slots.slots k) o s).0.sides ≡ o.sides ++ own (action_notes (actions.Dummy k) past s.number)
   dummy_told k e =
-      let f = some_ticket (find_in s.lists.slots.slots k) e in
+      let f = some_waits (find_in s.lists.slots.slots k) e in
       let w = find_waits s.lists.slots.slots k f.0 f.1 in
       let of = found_list s.lists.slots r.fits f.0 w in
       ap (λ x. (dummy_for x o s).0.sides) f.1
@@ -282,17 +276,13 @@ module _ (past : List Moment) (s : InitiatorState) (r : AreRows past s.number s.
   silent : o.sides ≡ o.sides ++ []
   silent = sym (append-nil o.sides)
 
-  not_off : (b : Bool) → not b ≡ false → b ≡ true
-  not_off true e = refl
-  not_off false e = cc
-
   done_told : (action : Action) → Goes action s → (done_step action o s).0.sides ≡ o.sides ++ own (action_notes action past s.number)
   unfolding done_step
   done_told (actions.Put cmd) g = put_told cmd (g.allowed.prepares refl)
   done_told (actions.Append cmd) g = append_told cmd (g.allowed.prepares refl)
-  done_told actions.Low g = low_told (not_off (is_some (waits_low s.lists.slots.present)) g.rows.not_linking)
-  done_told actions.Link g = link_told (not_off (is_some (waits_high s.lists.slots.present)) g.rows.not_linking)
-  done_told actions.Ring g = ring_told (not_off (is_some s.lists.slots.present) g.rows.no_orb)
+  done_told actions.Low g = low_told (not-false (is_some (waits_low s.lists.slots.present)) g.rows.not_linking)
+  done_told actions.Link g = link_told (not-false (is_some (waits_high s.lists.slots.present)) g.rows.not_linking)
+  done_told actions.Ring g = ring_told (not-false (is_some s.lists.slots.present) g.rows.no_orb)
   done_told (actions.Dummy k) g = dummy_told k g.rows.no_orb
   done_told actions.Rom g = silent
   done_told actions.AgentReset g = silent

@@ -21,6 +21,7 @@ use Rattle.sbp_laws.specs.OrderLaw.{OrderLaw, is_cut}
 use Rattle.sbp_world.specs.Lists.Orders.{IsAppend}
 use Rattle.sbp_world.proofs.Lists.Named.{no}
 use Rattle.sbp_world.proofs.Lists.Passing.{PassLaw}
+use Rattle.sbp_world.proofs.Common.{moments_joined}
 
 -- a note is no run, no end and no cut, and an append is the next one
 abbrev pub IsGood : List Moment → Note → Type 0
@@ -49,14 +50,10 @@ module _ (wild : ℕ → Bool) where
   pub adds_none : (ms : List Moment) → Adds ms ms
   adds_none ms = record { later = []; is = refl; ends_are = λ i n. refl; cuts_are = λ i n. refl; runs_are = λ i n k. refl; ran_are = λ i n k. refl; law = λ l. l; passes = λ l. l }
 
-  joined : (a b c : List Moment) → (a ++ b) ++ c ≡ a ++ (b ++ c)
-  joined [] b c = refl
-  joined (m ∷ a) b c = ap (λ ms. m ∷ ms) (joined a b c)
-
   pub adds_then : (one two three : List Moment) → Adds one two → Adds two three → Adds one three
   adds_then one two three a b = record {
     later = b.later ++ a.later;
-    is = joined b.later a.later one ∙ ap (λ ms. b.later ++ ms) a.is ∙ b.is;
+    is = moments_joined b.later a.later one ∙ ap (λ ms. b.later ++ ms) a.is ∙ b.is;
     ends_are = λ i n. b.ends_are i n ∙ a.ends_are i n;
     cuts_are = λ i n. b.cuts_are i n ∙ a.cuts_are i n;
     runs_are = λ i n k. b.runs_are i n k ∙ a.runs_are i n k;

@@ -82,6 +82,7 @@ use Rattle.sbp_world.proofs.Lists.Slots.{IsFilled, table_slot}
 use Rattle.sbp_world.proofs.Lists.StillReads.{ahead_name}
 use Rattle.sbp_world.proofs.Lists.StillRuns.{ground_everywhere}
 use Rattle.sbp_world.proofs.Lists.StillTurns.{Ground, site_at}
+use Rattle.sbp_world.proofs.Lists.KeptPhases.{kept_idle}
 
 -- ---- where a chunk of a buffer begins
 nowhere : window_at 0 ≡ None
@@ -117,9 +118,6 @@ module _ (past : List Moment) (i n : ℕ) where
     pub slot_is : s ≡ slot_at past i n ended
     pub behind : number_behind phase ended ≡ suc ended
     pub linked_is : ended < (list past i n).linked
-
-  kept_not : {A : Type 0} (orb : CommandOrb) → aheads.Kept orb ≡ aheads.Idle → A
-  kept_not orb e = absurd (let no : aheads.Kept orb ≡ aheads.Idle = e in cc)
 
   -- a buffer that is laid out
   pub buffer_data : (k : ℕ) (cmd : Cmd) → command_at past i n k ≡ Some cmd → slot_at past i n k < 32 → Filled k → (segments : List Segment) → IsBufferOf (command_at past i n k) (slot_at past i n k) segments → (left done limit : ℕ) → 0 < limit → (s : ℕ) → data_slot (window_at (cut_to left (chunk_from segments done limit)).offset) ≡ Some s → s ≡ slot_at past i n k
@@ -158,12 +156,12 @@ module _ (past : List Moment) (i n : ℕ) where
       }
   main_data phases.WritingStatus p m is_status fifo access orb k a r none small filled s d =
       absurd (no_start s (write_data is_status fifo 0 s none (ap (λ (x : Access). data_slot (window_at x.offset)) (sym r.0) ∙ d)))
-  main_data phases.Fetching p m is_status fifo access orb k a r none small filled s d = kept_not orb a
-  main_data phases.ReadingNext p m is_status fifo access orb k a r none small filled s d = kept_not orb a
-  main_data phases.WritingLastStatus p m is_status fifo access orb k a r none small filled s d = kept_not orb a
-  main_data phases.Reset p m is_status fifo access orb k a r none small filled s d = kept_not orb a
-  main_data phases.Suspended p m is_status fifo access orb k a r none small filled s d = kept_not orb a
-  main_data phases.Dead p m is_status fifo access orb k a r none small filled s d = kept_not orb a
+  main_data phases.Fetching p m is_status fifo access orb k a r none small filled s d = kept_idle orb a
+  main_data phases.ReadingNext p m is_status fifo access orb k a r none small filled s d = kept_idle orb a
+  main_data phases.WritingLastStatus p m is_status fifo access orb k a r none small filled s d = kept_idle orb a
+  main_data phases.Reset p m is_status fifo access orb k a r none small filled s d = kept_idle orb a
+  main_data phases.Suspended p m is_status fifo access orb k a r none small filled s d = kept_idle orb a
+  main_data phases.Dead p m is_status fifo access orb k a r none small filled s d = kept_idle orb a
 
 -- ---- at a place
 module _ (units ready : ℕ) (has : 0 < units) (start : List Disk) {past : List Moment} {lines : ℕ} (w : WorldState) (h : Holding units ready start past lines w) (q : Ground start (hist past w) w) (beside : IsTameOrFew (hist past w)) (placed : AllPlacedFor (hist past w) w) (opens : AreOpened (hist past w) w) where

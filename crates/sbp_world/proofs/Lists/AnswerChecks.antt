@@ -2,6 +2,7 @@
 use Rattle.std.proofs.Common.{arith, ◌≡◌, ◌∙◌, refl, sym, ap, subst, ◌&&◌, ◌||◌, ◌==◌, not, ℕ, nat_lt, Bool, true, false, Option, Some, None, Result, Ok, Err, List, [], IfSome, ◌*◌}
 use Rattle.std.specs.Prelude.{is_none, min, option_map, take}
 use Rattle.std.proofs.lemmas.Bool.Decides.{nat_tests}
+use Rattle.std.proofs.lemmas.Option.{same_Some}
 use Rattle.rbc_command.specs.declared.sense.Sense.{Sense}
 use Rattle.rbc_command.specs.Commands.{operation_in}
 use Rattle.rbc_command.specs.SenseData.{bad_field, is_protected, no_command, no_medium, not_started, outside, removal_prevented}
@@ -76,8 +77,6 @@ ended_none None failure e = refl
 ended_none (Some check) failure e = no_check check (sym e)
 
 -- ---- an answer that has no length has no bytes, where the medium tells them
-same_bytes : (one other : List ℕ) → Some one ≡ Some other → one ≡ other
-same_bytes one other e = cc
 
 no_bytes : (allocation : ℕ) → min allocation 36 ≡ 0 → allocation ≡ 0
 no_bytes allocation e = omega (arith, e)
@@ -86,19 +85,19 @@ no_blocks : (count : ℕ) → 512 * count ≡ 0 → count ≡ 0
 no_blocks count e = omega (arith, e)
 
 none_read : (lba : ℕ) (held : Option (List ℕ)) (bytes : List ℕ) → option_map (blocks_at lba 0) held ≡ Some bytes → bytes ≡ []
-none_read lba (Some xs) bytes e = sym (same_bytes [] bytes e)
+none_read lba (Some xs) bytes e = sym (same_Some [] bytes e)
 none_read lba None bytes e = absurd (let differ : None ≡ Some bytes = e in cc)
 
 request_told : (request : Request) (medium : Disk) (bytes : List ℕ) → answer_length request ≡ 0 → answer_in request medium ≡ Some bytes → bytes ≡ []
 request_told (requests.Plain (commands.Inquiry allocation)) medium bytes z e =
-    sym (same_bytes [] bytes (ap (λ n. Some (take n inquiry_bytes)) (sym (no_bytes allocation z)) ∙ e))
+    sym (same_Some [] bytes (ap (λ n. Some (take n inquiry_bytes)) (sym (no_bytes allocation z)) ∙ e))
 request_told (requests.Plain commands.Capacity) medium bytes z e = absurd (omega (arith, z))
 request_told (requests.Plain (commands.Read lba count)) medium bytes z e =
     none_read lba medium.bytes bytes (ap (λ n. option_map (blocks_at lba n) medium.bytes) (sym (no_blocks count z)) ∙ e)
-request_told _ medium bytes z e = sym (same_bytes [] bytes e)
+request_told _ medium bytes z e = sym (same_Some [] bytes e)
 
 told_by : (found : Result Request Sense) (medium : Disk) (bytes : List ℕ) → answer_length_by found ≡ 0 → answer_by found medium ≡ Some bytes → bytes ≡ []
-told_by (Err refused) medium bytes z e = sym (same_bytes [] bytes e)
+told_by (Err refused) medium bytes z e = sym (same_Some [] bytes e)
 told_by (Ok request) medium bytes z e = request_told request medium bytes z e
 
 told_in : (found : Option (List ℕ)) → ((bytes : List ℕ) → found ≡ Some bytes → bytes ≡ []) → IfSome found (λ bytes. [] ≡ bytes)

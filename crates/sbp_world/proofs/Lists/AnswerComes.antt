@@ -40,6 +40,7 @@ use Rattle.sbp_journal.specs.declared.note.Note.{Note}
 use Rattle.sbp_journal.specs.declared.cause.Judged.{Judged}
 use Rattle.sbp_journal.specs.declared.cause.Judged.TheVariants as judgements
 use Rattle.std.proofs.Common.{map, ◌++◌, ◌⊎◌, inl, inr}
+use Rattle.sbp_world.proofs.Common.{said_split}
 
 -- an agent ran its command as this packet was got
 pub record RanHere (w : WorldState) (media : Held) (serial : ℕ) (run : Option Told) : Type 0 where
@@ -71,10 +72,6 @@ pub data Comes (start : List Disk) (w : WorldState) (media : Held) (ms now : Lis
   quiet : (more : List Moment) → AreUnrun more → more ++ ms ≡ now → Comes start w media ms now
   one : (serial : ℕ) (run : Option Told) → ComesOne start w media ms now serial run → Comes start w media ms now
 
-split : (a b : List Note) (past : List Moment) → map said (a ++ b) ++ past ≡ map said a ++ (map said b ++ past)
-split [] b past = refl
-split (n ∷ a) b past = ap (λ ms. said n ∷ ms) (split a b past)
-
 pub same_found : (x y : Sent) → Some x ≡ Some y → x ≡ y
 same_found x y e = cc
 
@@ -90,7 +87,7 @@ module _ (start : List Disk) (s : Scene) (front ms : List Moment) (unrun : AreUn
   plain_comes : (old new : List Note) (past : List Moment) → map said old ++ past ≡ front ++ ms → Plainly old new → C (map said new ++ past)
   plain_comes old new past is q =
       quiet (map said q.more ++ front) (both_unrun (map said q.more) front (plain_unrun q.more q.plain) unrun)
-      (joined (map said q.more) front ms ∙ (ap (λ h. map said q.more ++ h) (sym is) ∙ (sym (split q.more old past) ∙ ap (λ ns. map said ns ++ past) q.is)))
+      (joined (map said q.more) front ms ∙ (ap (λ h. map said q.more ++ h) (sym is) ∙ (sym (said_split q.more old past) ∙ ap (λ ns. map said ns ++ past) q.is)))
 
   units_got : (serial : ℕ) (unit : ℕ) → plain_of start (said (notes.Got serial) ∷ (front ++ ms)) unit ≡ plain_in s.world.target.units s.media.disks unit
   units_got serial unit = ap (λ us. unit_at us unit) (got_same serial (front ++ ms) (known_at start (front ++ ms)).wire (target_at start (front ++ ms))).0 ∙ units unit
@@ -105,7 +102,7 @@ module _ (start : List Disk) (s : Scene) (front ms : List Moment) (unrun : AreUn
     units = units_got serial;
     is =
         ap (λ note. map said q.more ++ said note ∷ said (notes.Got serial) ∷ (front ++ ms)) (sym r.is)
-        ∙ (ap (λ h. map said q.more ++ said ran ∷ said (notes.Got serial) ∷ h) (sym is) ∙ (sym (split q.more (ran ∷ notes.Got serial ∷ s.world.fresh) past) ∙ ap (λ ns. map said ns ++ past) q.is));
+        ∙ (ap (λ h. map said q.more ++ said ran ∷ said (notes.Got serial) ∷ h) (sym is) ∙ (sym (said_split q.more (ran ∷ notes.Got serial ∷ s.world.fresh) past) ∙ ap (λ ns. map said ns ++ past) q.is));
   }
 
   module _ (good : Good s.world.target) (serial : ℕ) (again : Bool) (run : Option Told) (new : List Note) (past : List Moment) (is : map said s.world.fresh ++ past ≡ front ++ ms) where
@@ -114,7 +111,7 @@ module _ (start : List Disk) (s : Scene) (front ms : List Moment) (unrun : AreUn
     comes (no_run at judged none q) =
         quiet (map said q.more ++ (said (judged_note at judged) ∷ front)) (both_unrun (map said q.more) (said (judged_note at judged) ∷ front) (plain_unrun q.more q.plain) (both_unrun (said (judged_note at judged) ∷ []) front (judged_unrun at judged) unrun))
         (joined (map said q.more) (said (judged_note at judged) ∷ front) ms
-        ∙ (ap (λ h. map said q.more ++ said (judged_note at judged) ∷ h) (sym is) ∙ (sym (split q.more (judged_note at judged ∷ s.world.fresh) past) ∙ ap (λ ns. map said ns ++ past) q.is)))
+        ∙ (ap (λ h. map said q.more ++ said (judged_note at judged) ∷ h) (sym is) ∙ (sym (said_split q.more (judged_note at judged ∷ s.world.fresh) past) ∙ ap (λ ns. map said ns ++ past) q.is)))
     comes (one_run at ran r q) = one at run (one_here at run new past is ran r q)
 
 -- ---- a line that delivers one packet at most

@@ -11,9 +11,7 @@ use Rattle.sbp_laws.specs.Targets.{disk_of}
 use Rattle.sbp_laws.specs.Terms.{Request, request_at, runs}
 use Rattle.sbp_world.specs.Lists.AnswersTold.{IsAnswerBefore, IsAnswerOf}
 use Rattle.sbp_world.proofs.Lists.DataTurns.{ran_on}
-
-itself : (a : ℕ) → nat_eq a a ≡ true
-itself a = grind (arith, nat_tests)
+use Rattle.sbp_world.proofs.Common.{itself}
 
 here_by : {A : Type 0} (x y z : Bool) (value other : A) → x ≡ true → y ≡ true → z ≡ true → cond x (cond y (cond z value other) other) other ≡ value
 here_by true true true value other e f g = refl

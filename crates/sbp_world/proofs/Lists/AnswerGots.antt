@@ -26,14 +26,12 @@ use Rattle.sbp_world.specs.Worlds.{WorldState}
 use Rattle.sbp_world.specs.Wire.Wires.{Stands}
 use Rattle.sbp_world.specs.Lists.OrbReads.{AnswersAt}
 use Rattle.sbp_world.proofs.Lists.ManageTerms.{same_some}
+use Rattle.sbp_world.proofs.Common.{none_is}
 
 abbrev E : List Moment → Type 0
 E past = EachMoment AnswersAt past
 
 -- ---- a packet that is delivered
-
-none_closed : {A : Type 0} (serial : ℕ) → None ≡ Some serial → A
-none_closed serial e = absurd (let no : None ≡ Some serial = e in cc)
 
 -- the request that a label waits for, where a response of that kind closes it
 record IsWaited (held : Held) (serial : ℕ) : Type 0 where
@@ -42,12 +40,12 @@ record IsWaited (held : Held) (serial : ℕ) : Type 0 where
 
 waited_if : (b : Bool) (kind : Kind) (own serial : ℕ) → cond b (Some own) None ≡ Some serial → IsWaited (waits kind own) serial
 waited_if true kind own serial e = record { kind = kind; is = ap (waits kind) (same_some own serial e) }
-waited_if false kind own serial e = none_closed serial e
+waited_if false kind own serial e = none_is serial e
 
 waited_by : (held : Held) (kind : Kind) (serial : ℕ) → closed_by held kind ≡ Some serial → IsWaited held serial
 waited_by (waits own r) kind serial e = waited_if (is_same_kind own kind) own r serial e
-waited_by free kind serial e = none_closed serial e
-waited_by rests kind serial e = none_closed serial e
+waited_by free kind serial e = none_is serial e
+waited_by rests kind serial e = none_is serial e
 
 -- the nodes of the request of a transaction
 record AreNodes (q : Sending) (u : Transaction) : Type 0 where
@@ -96,8 +94,8 @@ module _ (moves : List Move) (may : MayAll moves) (kept : Kept) (is : found kept
 
     part_answers : (part : Part) → part_of q.bytes ≡ part → answered_as part t q ≡ Some serial → t.answers kept.serial ≡ Some serial
     part_answers (response label kind) e c = held_answers label kind e (waited_by (t.held (between q q.to q.from label)) kind serial c)
-    part_answers (request label kind) e c = none_closed serial c
-    part_answers no_packet e c = none_closed serial c
+    part_answers (request label kind) e c = none_is serial c
+    part_answers no_packet e c = none_is serial c
 
   got_answers : AnswersAt (said (notes.Got kept.serial)) w.past
   got_answers = λ serial closed own own_is from to.

@@ -4,6 +4,7 @@ use Rattle.std.specs.Prelude.{take}
 use Rattle.std.proofs.lemmas.Bool.Decides.{nat_tests}
 use Rattle.std.proofs.lemmas.List.{length-map}
 use Rattle.std.proofs.Common.{arith}
+use Rattle.std.proofs.lemmas.Option.{same_Some}
 use Rattle.orb_layout.specs.declared.status.StatusKind.{StatusKind}
 use Rattle.orb_layout.specs.declared.status.StatusKind.TheVariants as kinds
 use Rattle.page_table.specs.Buffer.{buffer_addresses}
@@ -49,6 +50,8 @@ use Rattle.sbp_world.specs.Lists.LawfulLists.{ListsLaw}
 use Rattle.sbp_world.proofs.Lists.AnswerChecks.{check_length, ended_none, told_none}
 use Rattle.sbp_world.proofs.Lists.LinedAppends.{AllLined, LinedAt, lined_appends}
 use Rattle.sbp_world.proofs.Lists.PlacedOps.{each_from}
+use Rattle.sbp_world.proofs.Common.{none_is}
+use Rattle.sbp_world.proofs.Hosts.ResponseTells.{some}
 
 -- ---- the commands of lines fill their buffers
 abbrev pub FillsEvent : Event → Type 0
@@ -72,33 +75,15 @@ pub filled_behind : (line : ℕ) (run : Run) (entries : List Entry) → AreLines
 filled_behind line run [] lines = (tt, tt)
 filled_behind line run (e ∷ before) lines = filled_said e.notes _ (event_fills e.event _ lines.0, filled_behind line run before lines.1)
 
-some_event : (one other : Event) → Some one ≡ Some other → one ≡ other
-some_event one other e = cc
-
-none_event : {A : Type 0} (event : Event) → None ≡ Some event → A
-none_event event e = absurd (differ e)
-  where
-    differ : None ≡ Some event → ⊥
-    differ e = cc
-
-same_cmd : (one other : Cmd) → Some one ≡ Some other → one ≡ other
-same_cmd one other e = cc
-
-none_cmd : {A : Type 0} (cmd : Cmd) → None ≡ Some cmd → A
-none_cmd cmd e = absurd (differ e)
-  where
-    differ : None ≡ Some cmd → ⊥
-    differ e = cc
-
 line_fills : (past : List Moment) → AreFilled past → (event : Event) → event_of past ≡ Some event → FillsEvent event
-line_fills [] f event e = none_event event e
-line_fills (asked line own ∷ past) f event e = subst FillsEvent (some_event own event e) f.0
+line_fills [] f event e = none_is event e
+line_fills (asked line own ∷ past) f event e = subst FillsEvent (same_Some own event e) f.0
 line_fills (said note ∷ past) f event e = line_fills past f event e
 
 cmd_fills : (event : Option Event) → ((one : Event) → event ≡ Some one → FillsEvent one) → (cmd : Cmd) → cmd_of event ≡ Some cmd → FillsBuffer cmd
-cmd_fills (Some (events.Act i (actions.Put own))) f cmd e = subst FillsBuffer (same_cmd own cmd e) (f (events.Act i (actions.Put own)) refl)
-cmd_fills (Some (events.Act i (actions.Append own))) f cmd e = subst FillsBuffer (same_cmd own cmd e) (f (events.Act i (actions.Append own)) refl)
-cmd_fills _ f cmd e = none_cmd cmd e
+cmd_fills (Some (events.Act i (actions.Put own))) f cmd e = subst FillsBuffer (same_Some own cmd e) (f (events.Act i (actions.Put own)) refl)
+cmd_fills (Some (events.Act i (actions.Append own))) f cmd e = subst FillsBuffer (same_Some own cmd e) (f (events.Act i (actions.Append own)) refl)
+cmd_fills _ f cmd e = none_is cmd e
 
 pick_fills : (a b c : Bool) (now old : Option Cmd) (cmd : Cmd) → (now ≡ Some cmd → FillsBuffer cmd) → (old ≡ Some cmd → FillsBuffer cmd) → cond a (cond b (cond c now old) old) old ≡ Some cmd → FillsBuffer cmd
 pick_fills true true true now old cmd f g e = f e
@@ -107,7 +92,7 @@ pick_fills true false c now old cmd f g e = g e
 pick_fills false b c now old cmd f g e = g e
 
 pub commands_fill : (past : List Moment) → AreFilled past → (i n k : ℕ) (cmd : Cmd) → command_at past i n k ≡ Some cmd → FillsBuffer cmd
-commands_fill [] f i n k cmd e = none_cmd cmd e
+commands_fill [] f i n k cmd e = none_is cmd e
 commands_fill (said (notes.Append j m l cdb buffer) ∷ past) f i n k cmd e =
     pick_fills (nat_eq i j) (nat_eq n m) (nat_eq k l) (cmd_of (event_of past)) (command_at past i n k) cmd
     (cmd_fills (event_of past) (line_fills past f) cmd) (commands_fill past f i n k cmd) e
@@ -127,14 +112,14 @@ pick_asked true false c now old asks before cmd f g e = g e
 pick_asked false b c now old asks before cmd f g e = g e
 
 commands_ask : (past : List Moment) (i n k : ℕ) → AllLined past i → (cmd : Cmd) → command_at past i n k ≡ Some cmd → request_at past i n k ≡ Some (request_of cmd)
-commands_ask [] i n k h cmd e = none_cmd cmd e
+commands_ask [] i n k h cmd e = none_is cmd e
 commands_ask (said (notes.Append j m l cdb buffer) ∷ past) i n k h cmd e =
     pick_asked (nat_eq i j) (nat_eq n m) (nat_eq k l) (cmd_of (event_of past)) (command_at past i n k) (record { cdb = cdb; buffer = buffer }) (request_at past i n k) cmd own_asks (commands_ask past i n k h.1 cmd) e
   where
     own_asks : nat_eq i j ≡ true → cmd_of (event_of past) ≡ Some cmd → Some (record { cdb = cdb; buffer = buffer }) ≡ Some (request_of cmd)
     own_asks same line =
         let x = h.0 (let z : j ≡ i = grind (arith, nat_tests) in z) in
-        let one : x.cmd ≡ cmd = same_cmd x.cmd cmd (sym x.line ∙ line) in
+        let one : x.cmd ≡ cmd = same_Some x.cmd cmd (sym x.line ∙ line) in
         ap (λ (c : List ℕ). Some (record { cdb = c; buffer = buffer })) x.cdb_is
         ∙ (ap (λ (y : NoteBuffer). Some (record { cdb = x.cmd.cdb; buffer = y })) x.buffer_is ∙ ap (λ (c : Cmd). Some (request_of c)) one)
 commands_ask (_ ∷ past) i n k h cmd e = commands_ask past i n k h.1 cmd e
@@ -142,12 +127,6 @@ commands_ask (_ ∷ past) i n k h cmd e = commands_ask past i n k h.1 cmd e
 -- ---- what ended good ran
 abbrev HasRun : Option Disk → Type 0
 HasRun found = (disk : Disk) × (found ≡ Some disk)
-
-none_status : {A : Type 0} (status : StatusKind) → None ≡ Some status → A
-none_status status e = absurd (differ e)
-  where
-    differ : None ≡ Some status → ⊥
-    differ e = cc
 
 pick_ran : (a b c : Bool) (status x : StatusKind) (disk : Disk) (old : Option StatusKind) (had : Option Disk) → (old ≡ Some x → HasRun had) → cond a (cond b (cond c (Some status) old) old) old ≡ Some x → HasRun (cond a (cond b (cond c (Some disk) had) had) had)
 pick_ran true true true status x disk old had f e = (disk, refl)
@@ -163,7 +142,7 @@ pick_ended false b c status x old A f g e = g e
 
 module _ (wild : ℕ → Bool) (start : List Disk) (i n k : ℕ) (own : wild i ≡ false) where
   ran_before : (past : List Moment) (x : StatusKind) → ran_status past i n k ≡ Some x → HasRun (before_run start past i n k)
-  ran_before [] x e = none_status x e
+  ran_before [] x e = none_is x e
   ran_before (said (notes.Ran j (Some m) (Some l) unit cdb bytes check) ∷ past) x e =
       pick_ran (nat_eq i j) (nat_eq n m) (nat_eq k l) _ x _ (ran_status past i n k) (before_run start past i n k) (ran_before past x) e
   ran_before (_ ∷ past) x e = ran_before past x e
@@ -187,11 +166,8 @@ pick_status true true false status x old A f g e = g e
 pick_status true false c status x old A f g e = g e
 pick_status false b c status x old A f g e = g e
 
-no_one : (count : ℕ) → suc count ≡ 0 → ⊥
-no_one count e = omega (arith, e)
-
 pick_once : (a b c : Bool) (status x : StatusKind) (old : Option StatusKind) (count other : ℕ) → (old ≡ Some x → count ≡ 0 → ⊥) → cond a (cond b (cond c (Some status) old) old) old ≡ Some x → cond a (cond b (cond c (suc other) count) count) count ≡ 0 → ⊥
-pick_once true true true status x old count other f e z = no_one other z
+pick_once true true true status x old count other f e z = some other z
 pick_once true true false status x old count other f e z = f e z
 pick_once true false c status x old count other f e z = f e z
 pick_once false b c status x old count other f e z = f e z
@@ -259,7 +235,7 @@ module _ (wild : ℕ → Bool) (start : List Disk) (i n k : ℕ) (own : wild i �
   asked_below (_ ∷ past) o r e = asked_below past o.1 r e
 
   ran_below : (past : List Moment) → EachMoment (OrderAt wild) past → EachMoment (ExecutionAt wild start) past → (x : StatusKind) → ran_status past i n k ≡ Some x → k < appends past i n
-  ran_below [] o h x e = none_status x e
+  ran_below [] o h x e = none_is x e
   ran_below (said (notes.Append j m l cdb buffer) ∷ past) o h x e =
       pick_more (nat_eq i j) (nat_eq n m) (appends past i n) (suc (appends past j m)) k next (ran_below past o.1 h.1 x e)
     where
@@ -281,14 +257,14 @@ module _ (wild : ℕ → Bool) (start : List Disk) (i n k : ℕ) (own : wild i �
   ran_below (_ ∷ past) o h x e = ran_below past o.1 h.1 x e
 
   ran_once : (past : List Moment) (x : StatusKind) → ran_status past i n k ≡ Some x → runs past i n k ≡ 0 → ⊥
-  ran_once [] x e z = none_status x e
+  ran_once [] x e z = none_is x e
   ran_once (said (notes.Ran j (Some m) (Some l) unit cdb bytes check) ∷ past) x e z =
       pick_once (nat_eq i j) (nat_eq n m) (nat_eq k l) (status_of check) x (ran_status past i n k) (runs past i n k) (runs past j m l) (ran_once past x) e z
   ran_once (_ ∷ past) x e z = ran_once past x e z
 
   -- what ended good ran good, and does not run again
   ended_ran : (past : List Moment) → EachMoment (ExecutionAt wild start) past → ended_status past i n k ≡ Some kinds.Good → ran_status past i n k ≡ Some kinds.Good
-  ended_ran [] h e = none_status kinds.Good e
+  ended_ran [] h e = none_is kinds.Good e
   ended_ran (said (notes.Ran j (Some m) (Some l) unit cdb bytes check) ∷ past) h e =
       let before = ended_ran past h.1 e in
       keep_status (nat_eq i j) (nat_eq n m) (nat_eq k l) (Some (status_of check)) (ran_status past i n k) kinds.Good (λ a b c. again a b c before) before
@@ -316,7 +292,7 @@ module _ (wild : ℕ → Bool) (start : List Disk) (i n k : ℕ) (own : wild i �
   Outward past = (disk : Disk) → before_run start past i n k ≡ Some disk → (cmd : Cmd) → command_at past i n k ≡ Some cmd → cmd.to_initiator ≡ false → answer_length_of disk.is_bay cmd.cdb ≡ 0
 
   outward_length : (past : List Moment) → EachMoment (OrderAt wild) past → EachMoment (ExecutionAt wild start) past → AllLined past i → ran_status past i n k ≡ Some kinds.Good → Outward past
-  outward_length [] o h lined e disk d cmd c to = none_status kinds.Good e
+  outward_length [] o h lined e disk d cmd c to = none_is kinds.Good e
   outward_length (said (notes.Ran j (Some m) (Some l) unit cdb bytes check) ∷ past) o h lined e disk d cmd c to =
       pick_length (nat_eq i j) (nat_eq n m) (nat_eq k l) (status_of check) (ran_status past i n k) (disk_of start past unit) (before_run start past i n k) disk (answer_length_of disk.is_bay cmd.cdb ≡ 0)
       here (λ ran had. outward_length past o.1 h.1 lined.1 ran disk had cmd c to) e d

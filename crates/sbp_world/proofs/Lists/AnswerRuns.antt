@@ -20,6 +20,7 @@ use Rattle.sbp_world.specs.Agents.Alike.{answers}
 use Rattle.sbp_world.proofs.Agents.UnitsRun.{ahead_none, none_if}
 use Rattle.std.proofs.Common.{arith, ◌≡◌, ◌∙◌, refl, sym, ap, subst, ◌<◌, ◌≤◌, ℕ, suc, nat_eq, nat_lt, Bool, true, false, cond, List, [], ◌∷◌, ◌++◌, map, Some}
 use Rattle.std.proofs.lemmas.Bool.Decides.{nat_tests}
+use Rattle.std.proofs.lemmas.Bool.{false≢true}
 use Rattle.sbp_journal.specs.Run.{Moment, said}
 use Rattle.sbp_journal.specs.declared.note.Note.{Note}
 use Rattle.sbp_journal.specs.declared.note.Note.TheVariants as notes
@@ -28,9 +29,6 @@ use Rattle.sbp_world.proofs.Lists.Passing.{PassLaw}
 use Rattle.sbp_world.proofs.Lists.Running.{later_unrun}
 use Rattle.sbp_world.proofs.Lists.Runless.{AllPlain}
 use Rattle.sbp_world.proofs.Lists.UnrunTerms.{ends_grow, lists_grow, passes_from}
-
-not : false ≡ true → ⊥
-not e = cc
 
 abbrev pub IsUnrun : Moment → Type 0
 IsUnrun (said (notes.Ran i n k unit cdb bytes check)) = ⊥
@@ -132,15 +130,15 @@ answering_main place plain told phases.Answering m answer e = written (write_fai
     written : (x : Option FailCause) → (served place plain told (chunk_written m x).0 (chunk_written m x).1).0.ran ≡ None
     written (Some cause) = refl
     written None = last (next.written == length m.answer)
-answering_main place plain told phases.Reset m answer e = absurd (not e)
-answering_main place plain told phases.Dead m answer e = absurd (not e)
-answering_main place plain told phases.Fetching m answer e = absurd (not e)
-answering_main place plain told phases.ReadingTable m answer e = absurd (not e)
-answering_main place plain told (phases.ReadingData wanted) m answer e = absurd (not e)
-answering_main place plain told phases.WritingStatus m answer e = absurd (not e)
-answering_main place plain told phases.ReadingNext m answer e = absurd (not e)
-answering_main place plain told phases.WritingLastStatus m answer e = absurd (not e)
-answering_main place plain told phases.Suspended m answer e = absurd (not e)
+answering_main place plain told phases.Reset m answer e = absurd (false≢true e)
+answering_main place plain told phases.Dead m answer e = absurd (false≢true e)
+answering_main place plain told phases.Fetching m answer e = absurd (false≢true e)
+answering_main place plain told phases.ReadingTable m answer e = absurd (false≢true e)
+answering_main place plain told (phases.ReadingData wanted) m answer e = absurd (false≢true e)
+answering_main place plain told phases.WritingStatus m answer e = absurd (false≢true e)
+answering_main place plain told phases.ReadingNext m answer e = absurd (false≢true e)
+answering_main place plain told phases.WritingLastStatus m answer e = absurd (false≢true e)
+answering_main place plain told phases.Suspended m answer e = absurd (false≢true e)
 
 pub answering_none : (m : Machine) (place : ℕ) (plain : PlainDisk) (told : Option Told) (which : Which) (answer : Answer) → answers m.phase ≡ true → (reply_step m place plain told which answer).0.ran ≡ None
 unfolding reply_step

@@ -1,6 +1,7 @@
 -- In every run, where lists were open as they should be before, an agent that writes an answer of an initiator that injected no packets has a present ORB whose data go to its initiator.
-use Rattle.std.proofs.Common.{◌≡◌, ◌∙◌, refl, sym, ap, subst, ◌<◌, ℕ, zero, suc, Bool, true, false, List, [], Option, Some, None}
+use Rattle.std.proofs.Common.{◌≡◌, ◌∙◌, refl, sym, ap, subst, ◌<◌, ℕ, zero, suc, Bool, true, false, List, [], Some}
 use Rattle.std.specs.Prelude.{slice_index_or, replicate}
+use Rattle.std.proofs.lemmas.Bool.{false≢true}
 use Rattle.rbc_disk.specs.Disk.{Disk}
 use Rattle.sbp_journal.specs.Run.{Moment}
 use Rattle.sbp_world.specs.Histories.{moments_behind}
@@ -14,7 +15,6 @@ use Rattle.sbp_target.specs.declared.desk.Desk.{Desk}
 use Rattle.sbp_target.specs.Desks.{new_desk}
 use Rattle.sbp_world.specs.Making.{new_world}
 use Rattle.sbp_world.specs.Agents.Alike.{answers, has_list}
-use Rattle.sbp_world.specs.Agents.Management.Terms.{DeliversMore}
 use Rattle.sbp_world.specs.Hosts.Runs.{more_deliveries}
 use Rattle.sbp_world.specs.Lists.Closes.{Under}
 use Rattle.sbp_world.proofs.Lists.AnswerLengths.{commands_fill}
@@ -33,9 +33,7 @@ use Rattle.sbp_world.proofs.Lists.RunOutcomes.{AreAsked}
 use Rattle.sbp_world.proofs.Lists.RunTells.{delivery_may}
 use Rattle.sbp_world.proofs.Lists.Sites.{named_prepared}
 use Rattle.sbp_world.proofs.Lists.MachineTurns.{turn_full}
-
-no : false ≡ true → ⊥
-no e = cc
+use Rattle.sbp_world.proofs.Common.{delivers}
 
 abbrev Both : ℕ → Machine → Type 0
 Both q m = IsFull m × IsWay m
@@ -86,7 +84,7 @@ full_walk wild units ready has start past s later t step p q b own = ((λ e. (al
 
 first_full : (wild : ℕ → Bool) (line : ℕ) (run : Run) → AllFull wild (moments_behind line run []) (beginning run).world
 unfolding new_world
-first_full wild line run q b own = subst (λ (d : Desk). Both q d.agent) (sym (new_desks 8 q)) ((λ e. absurd (no e)), (λ e. absurd (no e)))
+first_full wild line run q b own = subst (λ (d : Desk). Both q d.agent) (sym (new_desks 8 q)) ((λ e. absurd (false≢true e)), (λ e. absurd (false≢true e)))
   where
     new_desks : (n p : ℕ) → slice_index_or (replicate n new_desk) p new_desk ≡ new_desk
     new_desks zero p = refl
@@ -95,10 +93,6 @@ first_full wild line run q b own = subst (λ (d : Desk). Both q d.agent) (sym (n
 
 nothing : Under Nothing
 nothing = record { after_lines = λ line run r has small size so_far. tt; between = λ line run r has small size next most told m so_far. tt }
-
-delivers : (most : Option ℕ) → DeliversMore (more_deliveries most)
-delivers (Some count) = tt
-delivers None = tt
 
 pub ways_law : Under AreInward
 ways_law = record {

@@ -1,5 +1,6 @@
 -- An agent that writes an answer has a present ORB whose data go to its initiator: so it stays by each call but a reply by which a command runs.
 use Rattle.std.proofs.Common.{◌≡◌, ℕ, Bool, true, false, cond}
+use Rattle.std.proofs.lemmas.Bool.{false≢true}
 use Rattle.command_agent.specs.declared.phase.Phase.{Phase}
 use Rattle.command_agent.specs.declared.phase.Phase.TheVariants as phases
 use Rattle.command_agent.specs.declared.step.AgentState.{AgentState}
@@ -15,31 +16,28 @@ use Rattle.orb_layout.specs.declared.pointer.OrbPointer.TheVariants.{At, Null}
 use Rattle.sbp_world.proofs.Lists.Full.{IsClosed}
 use Rattle.sbp_world.specs.Agents.Alike.{answers}
 
-no : false ≡ true → ⊥
-no e = cc
-
 abbrev pub IsWay : Machine → Type 0
 IsWay m = answers m.phase ≡ true → m.orb.to_initiator ≡ true
 
 pub new_way : IsWay new_machine
-new_way e = absurd (no e)
+new_way e = absurd (false≢true e)
 
 pub reset_way : (m : Machine) → IsWay (reset_step m)
 unfolding reset_step
-reset_way m e = absurd (no e)
+reset_way m e = absurd (false≢true e)
 
 pub abort_way : (m : Machine) (orb : ℕ) → IsWay m → IsWay (abort_step m orb)
 unfolding abort_step
 abort_way m orb h = h
 
 main_way : (phase : Phase) (m : Machine) (cause : FailCause) → IsWay m → IsWay (main_lost phase m cause).1
-main_way phases.Fetching m cause h = λ e. absurd (no e)
-main_way phases.ReadingTable m cause h = λ e. absurd (no e)
-main_way (phases.ReadingData wanted) m cause h = λ e. absurd (no e)
-main_way phases.Answering m cause h = λ e. absurd (no e)
-main_way phases.WritingStatus m cause h = λ e. absurd (no e)
-main_way phases.ReadingNext m cause h = λ e. absurd (no e)
-main_way phases.WritingLastStatus m cause h = λ e. absurd (no e)
+main_way phases.Fetching m cause h = λ e. absurd (false≢true e)
+main_way phases.ReadingTable m cause h = λ e. absurd (false≢true e)
+main_way (phases.ReadingData wanted) m cause h = λ e. absurd (false≢true e)
+main_way phases.Answering m cause h = λ e. absurd (false≢true e)
+main_way phases.WritingStatus m cause h = λ e. absurd (false≢true e)
+main_way phases.ReadingNext m cause h = λ e. absurd (false≢true e)
+main_way phases.WritingLastStatus m cause h = λ e. absurd (false≢true e)
 main_way phases.Reset m cause h = h
 main_way phases.Suspended m cause h = h
 main_way phases.Dead m cause h = h
@@ -55,7 +53,7 @@ lost_way m Ahead cause h = pick (is_ahead m.ahead) (ahead_lost m cause) (quiet, 
 
 bell_in : (state : AgentState) (m : Machine) → IsWay m → IsWay (doorbell_in state m).1
 bell_in states.Active m h = h
-bell_in states.Suspended m h = λ e. absurd (no e)
+bell_in states.Suspended m h = λ e. absurd (false≢true e)
 bell_in states.Reset m h = h
 bell_in states.Dead m h = h
 
@@ -65,7 +63,7 @@ bell_way m h = bell_in (state_in m.phase) m h
 
 pointed_way : (m : Machine) (pointer : OrbPointer) → IsWay m → IsWay (pointed m pointer).1
 pointed_way m Null h = h
-pointed_way m (At next) h = λ e. absurd (no e)
+pointed_way m (At next) h = λ e. absurd (false≢true e)
 
 point_at : (state : AgentState) (m : Machine) (pointer : OrbPointer) → IsWay m → IsWay (point_in state m pointer).1
 point_at states.Reset m pointer h = pointed_way m pointer h

@@ -2,6 +2,7 @@
 use Rattle.rbc_disk.specs.Disk.{Disk}
 use Rattle.std.proofs.Common.{arith, ◌≡◌, ◌∙◌, refl, sym, ap, subst, ◌<◌, ◌≤◌, ◌+◌, ◌==◌, ◌&&◌, ℕ, suc, nat_eq, Bool, true, false, cond, List, [], ◌∷◌, ◌++◌, Option, Some, None}
 use Rattle.std.proofs.lemmas.Bool.Decides.{nat_tests}
+use Rattle.std.proofs.lemmas.Bool.{false≢true}
 use Rattle.bus_transactions.specs.Packets.{SerialsCount}
 use Rattle.sbp_journal.specs.Run.{Moment, said}
 use Rattle.sbp_journal.specs.Transactions.{Sending}
@@ -21,12 +22,10 @@ use Rattle.sbp_world.specs.Lists.DataServes.{IsDataOf}
 use Rattle.sbp_world.proofs.Lists.DataSlots.{appends_grow, prepared_below, same_orb, slot_lasts}
 use Rattle.sbp_world.proofs.Lists.Passing.{PassAt, PassLaw, RunsNext}
 use Rattle.sbp_world.proofs.Lists.SlotShut.{AllApart}
-use Rattle.sbp_world.proofs.Lists.StatusKnown.{IsKnown, known_less}
+use Rattle.sbp_world.proofs.Lists.StatusKnown.{IsKnown, known_less, all_three}
+use Rattle.sbp_world.proofs.Lists.WasReads.{got_now}
 
-no : false ≡ true → ⊥
-no e = cc
-
-tail_is : (m x : Moment) (a b : List Moment) → m ∷ a ≡ x ∷ b → a ≡ b
+pub tail_is : (m x : Moment) (a b : List Moment) → m ∷ a ≡ x ∷ b → a ≡ b
 tail_is m x a b e = cc
 
 pub split : (a b c : List Moment) → a ++ (b ++ c) ≡ (a ++ b) ++ c
@@ -48,16 +47,13 @@ abbrev pub WasSentThen : ℕ → List Moment → Type 0
 WasSentThen serial past = (packet : Sending) × ((terms past).sent serial ≡ Some packet)
 
 pub got_moment : (past : List Moment) (serial : ℕ) → was_got past serial ≡ true → WasGot past serial
-got_moment [] serial e = absurd (no e)
+got_moment [] serial e = absurd (false≢true e)
 got_moment (said (notes.Got other) ∷ past) serial e = by (λ f. got_moment past serial f) (other == serial) refl e
   where
     by : (was_got past serial ≡ true → WasGot past serial) → (b : Bool) → (other == serial) ≡ b → cond b true (was_got past serial) ≡ true → WasGot (said (notes.Got other) ∷ past) serial
     by again true f g = record { later = []; before = past; is = ap (λ n. said (notes.Got n) ∷ past) (let same : serial ≡ other = grind (arith, nat_tests, f) in same) }
     by again false f g = let w = again g in record { later = said (notes.Got other) ∷ w.later; before = w.before; is = ap (λ ms. said (notes.Got other) ∷ ms) w.is }
 got_moment (m ∷ past) serial e = let w = got_moment past serial e in record { later = m ∷ w.later; before = w.before; is = ap (λ ms. m ∷ ms) w.is }
-
-got_here : (past : List Moment) (serial : ℕ) → was_got (said (notes.Got serial) ∷ past) serial ≡ true
-got_here past serial = ap (λ b. cond b true (was_got past serial)) (let same : (serial == serial) ≡ true = grind (arith, nat_tests) in same)
 
 got_still : (m : Moment) (past : List Moment) (serial : ℕ) → was_got past serial ≡ true → was_got (m ∷ past) serial ≡ true
 got_still (said (notes.Got other)) past serial e = by (other == serial)
@@ -72,7 +68,7 @@ got_on [] past serial e = e
 got_on (m ∷ later) past serial e = got_still m (later ++ past) serial (got_on later past serial e)
 
 pub got_then : (past : List Moment) (serial : ℕ) → WasGot past serial → was_got past serial ≡ true
-got_then past serial w = subst (λ ms. was_got ms serial ≡ true) w.is (got_on w.later (said (notes.Got serial) ∷ w.before) serial (got_here w.before serial))
+got_then past serial w = subst (λ ms. was_got ms serial ≡ true) w.is (got_on w.later (said (notes.Got serial) ∷ w.before) serial (got_now w.before serial))
 
 pub gots_from : (G : ℕ → List Moment → Type 0) (later before : List Moment) → GotsIn G (later ++ before) → GotsIn G before
 gots_from G [] before h = h
@@ -176,14 +172,8 @@ pub record IsItsRun (i n k j : ℕ) (list number : Option ℕ) : Type 0 where
   pub number_is : number ≡ Some k
 
 serial_is : (found : Option ℕ) (a : ℕ) → is_serial found a ≡ true → found ≡ Some a
-serial_is None a e = absurd (no e)
+serial_is None a e = absurd (false≢true e)
 serial_is (Some b) a e = ap (λ x. Some x) (let z : b ≡ a = grind (arith, nat_tests, e) in z)
-
-all_three : (a b c : Bool) → (a && b && c) ≡ true → (a ≡ true) × (b ≡ true) × (c ≡ true)
-all_three false b c e = absurd (no e)
-all_three true false c e = absurd (no e)
-all_three true true false e = absurd (no e)
-all_three true true true e = (refl, refl, refl)
 
 pub its_run : (i n k j : ℕ) (list number : Option ℕ) → is_run_of i n k j list number ≡ true → IsItsRun i n k j list number
 its_run i n k j list number e =
@@ -202,7 +192,7 @@ module _ (wild : ℕ → Bool) (i : ℕ) (own : wild i ≡ false) (n k : ℕ) wh
       three own
 
   pub run_appended : (past : List Moment) → PassLaw wild past → has_run past i n k ≡ true → k < appends past i n
-  run_appended [] law e = absurd (no e)
+  run_appended [] law e = absurd (false≢true e)
   run_appended (said (notes.Ran j list number unit cdb bytes check) ∷ past) law e = by (is_run_of i n k j list number) refl (λ f. run_appended past law.1 f) e
     where
       by : (b : Bool) → is_run_of i n k j list number ≡ b → (has_run past i n k ≡ true → k < appends past i n) → cond b true (has_run past i n k) ≡ true → k < appends past i n

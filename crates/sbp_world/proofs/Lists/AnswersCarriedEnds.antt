@@ -2,6 +2,8 @@
 use Rattle.rbc_disk.specs.Disk.{Disk}
 use Rattle.std.proofs.Common.{arith, ◌≡◌, ◌∙◌, refl, sym, ap, subst, ◌<◌, ◌≤◌, ◌+◌, nat_lt, nat_eq, ℕ, suc, Bool, true, false, cond, List, [], ◌∷◌, ◌++◌, Option, Some, None}
 use Rattle.std.proofs.lemmas.Bool.Decides.{nat_tests}
+use Rattle.std.proofs.lemmas.Bool.{false≢true}
+use Rattle.std.proofs.lemmas.Option.{same_Some}
 use Rattle.bus_transactions.specs.Packets.{SerialsCount}
 use Rattle.orb_layout.specs.declared.status.StatusKind.{StatusKind}
 use Rattle.orb_layout.specs.declared.status.StatusKind.TheVariants as kinds
@@ -41,24 +43,10 @@ use Rattle.sbp_world.proofs.Lists.Sights.{BeginsLine, SightAt}
 use Rattle.sbp_world.proofs.Lists.StatusKnown.{each_from, generation_grows, got_by, IsKnown}
 use Rattle.sbp_world.proofs.Lists.StatusMoments.{DueIs, due_is, ended_stays}
 use Rattle.sbp_world.proofs.Lists.StatusNull.{WasDue, was_due}
-
-no : false ≡ true → ⊥
-no e = cc
+use Rattle.sbp_world.proofs.Common.{itself}
 
 none_due : {A : Type 0} (one : EndedOrb) → None ≡ Some one → A
 none_due one e = absurd (let z : None ≡ Some one = e in cc)
-
-some_due : (one other : EndedOrb) → Some one ≡ Some other → one ≡ other
-some_due one other e = cc
-
-same_sending : (one other : Sending) → Some one ≡ Some other → one ≡ other
-same_sending one other e = cc
-
-same_status : (one other : StatusKind) → Some one ≡ Some other → one ≡ other
-same_status one other e = cc
-
-same_cmd : (one other : Cmd) → Some one ≡ Some other → one ≡ other
-same_cmd one other e = cc
 
 -- ---- the end whose status is due: no generation was seen since
 pub record DueEnd (before : List Moment) (one : EndedOrb) : Type 0 where
@@ -83,7 +71,7 @@ due_end (said (notes.Got serial) ∷ past) one sights e = none_due one e
 due_end (said (notes.Ignored serial cause) ∷ past) one sights e = none_due one e
 due_end (said (notes.TimedOut serial) ∷ past) one sights e = none_due one e
 due_end (said (notes.Ended j (Some m) (Some l) status) ∷ past) one sights e =
-    let same = some_due (record { initiator = j; one = orb m l }) one e in
+    let same = same_Some (record { initiator = j; one = orb m l }) one e in
     record {
       later = [];
       rest = past;
@@ -142,8 +130,6 @@ module _ (i n k : ℕ) (wild : ℕ → Bool) where
   prepared_then (_ ∷ later) before slot law b e = prepared_then later before slot law.1 b e
 
 -- ---- as a good status is taken
-itself : (a : ℕ) → nat_eq a a ≡ true
-itself a = grind (arith, nat_tests)
 
 ends_there : (past : List Moment) (i n k : ℕ) (status : StatusKind) → ended_status (said (notes.Ended i (Some n) (Some k) status) ∷ past) i n k ≡ Some status
 ends_there past i n k status =
@@ -180,7 +166,7 @@ module _ (start : List Disk) (wild : ℕ → Bool) (i : ℕ) (own : wild i ≡ f
       ap (λ ms. (terms ms).sent X) (sym w.is) ∙ ((remains w.later sent_here counted).sent X (omega (arith, number, count)) ∙ sent_there w.before X w.generation 0 w.to w.bytes)
 
   packet_gen : so.packet.generation ≡ w.generation
-  packet_gen = sym (ap (λ (s : Sending). s.generation) (same_sending was so.packet (sym sent_past ∙ so.there)))
+  packet_gen = sym (ap (λ (s : Sending). s.generation) (same_Some was so.packet (sym sent_past ∙ so.there)))
 
   -- it was got in the generation that the initiator is in
   abbrev q : List Moment
@@ -232,7 +218,7 @@ module _ (start : List Disk) (wild : ℕ → Bool) (i : ℕ) (own : wild i ≡ f
   ended_now = ap (λ h. ended_status h i n k) (sym at_all) ∙ (ended_stays wild i own front (N ∷ d.rest) n k passes_all low ∙ ends_there d.rest i n k d.status)
 
   status_good : d.status ≡ kinds.Good
-  status_good = same_status d.status kinds.Good (sym ended_now ∙ of_one.ended)
+  status_good = same_Some d.status kinds.Good (sym ended_now ∙ of_one.ended)
 
   -- it ran
   pub ran : has_run past i n k ≡ true
@@ -302,7 +288,7 @@ module _ (start : List Disk) (wild : ℕ → Bool) (i : ℕ) (own : wild i ≡ f
         }
 
     command_same : (cmd : Cmd) → command_at past i n k ≡ Some cmd → a.cmd ≡ cmd
-    command_same cmd c = same_cmd a.cmd cmd (sym a.command ∙ (sym (command_lasts i n k wild front_c C passes_c appended) ∙ (ap (λ h. command_at h i n k) at_c ∙ c)))
+    command_same cmd c = same_Some a.cmd cmd (sym a.command ∙ (sym (command_lasts i n k wild front_c C passes_c appended) ∙ (ap (λ h. command_at h i n k) at_c ∙ c)))
 
   -- ---- it came in the turn of the run
   module _ (none : runs C i n k ≡ 0) (serial place : ℕ) (packet : Sending) (x : IsDataOf start past i n k serial packet place) where
@@ -349,7 +335,7 @@ module _ (start : List Disk) (wild : ℕ → Bool) (i : ℕ) (own : wild i ≡ f
   wrote_by (well_fresh none cmd command empty) =
       has_none
       (λ other c to.
-      let same : cmd ≡ other = same_cmd cmd other (sym command ∙ (sym (command_lasts i n k wild front_c C passes_c (commanded i n k wild C cmd sound_c.passes command)) ∙ (ap (λ h. command_at h i n k) at_c ∙ c))) in
+      let same : cmd ≡ other = same_Some cmd other (sym command ∙ (sym (command_lasts i n k wild front_c C passes_c (commanded i n k wild C cmd sound_c.passes command)) ∙ (ap (λ h. command_at h i n k) at_c ∙ c))) in
       ap (λ (x : Cmd). x.length) (sym same) ∙ empty (ap (λ (x : Cmd). x.to_initiator) same ∙ to))
       (λ serial place packet x. no_data none serial place packet x)
   wrote_by (well_behind got later is m filled a to) =

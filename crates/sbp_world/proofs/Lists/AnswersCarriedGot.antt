@@ -4,7 +4,7 @@ use Rattle.rbc_disk.specs.Disk.{Disk}
 use Rattle.std.proofs.Common.{arith, ◌≡◌, ◌∙◌, refl, sym, ap, subst, ◌<◌, ◌≤◌, ◌+◌, ◌-◌, ◌^◌, ◌==◌, ◌&&◌, min, ℕ, suc, Bool, true, false, cond, List, [], ◌∷◌, ◌++◌, length, take, drop, Option, Some, None}
 use Rattle.std.specs.List.{filter}
 use Rattle.std.proofs.lemmas.Bool.Decides.{nat_tests}
-use Rattle.std.proofs.lemmas.List.{length-drop, length-take-le}
+use Rattle.std.proofs.lemmas.Option.{same_Some}
 use Rattle.async_packet.specs.Reading.{reading}
 use Rattle.bus_memory.specs.Windows.{window_at}
 use Rattle.command_agent.specs.Machine.{Machine, cut_to}
@@ -41,9 +41,7 @@ use Rattle.sbp_world.proofs.Lists.DataSlots.{command_lasts, prepared_below, slot
 use Rattle.sbp_world.proofs.Lists.Passing.{PassLaw}
 use Rattle.sbp_world.proofs.Lists.Slots.{IsFilled}
 use Rattle.sbp_world.proofs.Lists.StatusKnown.{IsKnown, each_from, spelled}
-
-same_cmd : (a b : Cmd) → Some a ≡ Some b → a ≡ b
-same_cmd a b e = cc
+use Rattle.sbp_world.proofs.Agents.Sized.{taken_size}
 
 -- ---- the chunk of a piece that has bytes
 pub record IsCut (segments : List Segment) (done limit offset size : ℕ) : Type 0 where
@@ -58,9 +56,6 @@ cut_by segments done limit left offset size (Some c) e f some = record { taken =
 cut_small : (left : ℕ) (found : Option Chunk) → (cut_to left found).length ≤ left
 cut_small left None = omega arith
 cut_small left (Some c) = let z : min left c.length ≤ left = grind (arith, nat_tests) in z
-
-taken_length : (size done : ℕ) (xs : List ℕ) → size ≤ length xs - done → length (take size (drop done xs)) ≡ size
-taken_length size done xs b = let d = length-drop done xs in length-take-le size (drop done xs) (omega (arith, b, d))
 
 -- ---- of an ORB that its slot has
 module _ (start : List Disk) (wild : ℕ → Bool) (i : ℕ) (own : wild i ≡ false) (past : List Moment) (serial : ℕ) (known : IsKnown wild (said (notes.Got serial) ∷ past) i) (sound : IsSound start wild i own (said (notes.Got serial) ∷ past)) (n k place : ℕ) (packet : Sending) (d : IsDataOf start past i n k serial packet place) where
@@ -121,7 +116,7 @@ module _ (start : List Disk) (wild : ℕ → Bool) (i : ℕ) (own : wild i ≡ f
   slot_then = sym (slot_lasts i n k wild (mid i past n k serial place packet d) T passes early) ∙ (ap (λ h. slot_at h i n k) whole_is ∙ place_is)
 
   command_then : (cmd : Cmd) → command_at past i n k ≡ Some cmd → piece.cmd ≡ cmd
-  command_then cmd e = same_cmd piece.cmd cmd (sym piece.command ∙ (sym (command_lasts i n k wild (mid i past n k serial place packet d) T passes early) ∙ (ap (λ h. command_at h i n k) whole_is ∙ e)))
+  command_then cmd e = same_Some piece.cmd cmd (sym piece.command ∙ (sym (command_lasts i n k wild (mid i past n k serial place packet d) T passes early) ∙ (ap (λ h. command_at h i n k) whole_is ∙ e)))
 
   abbrev pub left : ℕ
   left = length M.answer - M.written
@@ -139,7 +134,7 @@ module _ (start : List Disk) (wild : ℕ → Bool) (i : ℕ) (own : wild i ≡ f
     small_size = let e : d.was.size ≡ (cut_to left (chunk_from segments M.written (limit place small cmd filled))).length = ap (λ (c : Chunk). c.length) cut_is in let b = cut_small left (chunk_from segments M.written (limit place small cmd filled)) in omega (arith, e, b)
 
     pub size_is : length d.writes.access.payload ≡ d.was.size
-    size_is = ap length (d.was.bytes ∙ piece.bytes) ∙ taken_length d.was.size M.written M.answer small_size
+    size_is = ap length (d.was.bytes ∙ piece.bytes) ∙ taken_size d.was.size M.written M.answer small_size
 
     follows : (count : ℕ) → count ≡ d.was.size → addresses d.writes.access.offset count ≡ take count (drop M.written (places place small cmd filled))
     follows count e =

@@ -1,5 +1,6 @@
 -- The commands of lines lay out buffers that lie in the windows of their slots, and fill them.
 use Rattle.std.proofs.Common.{◌≡◌, ◌∙◌, refl, subst, ℕ, nat_eq, Bool, true, false, cond, List, [], ◌∷◌, ◌++◌, map, Option, Some, None}
+use Rattle.std.proofs.lemmas.Option.{same_Some}
 use Rattle.sbp_initiator.specs.Acting.{IsAction}
 use Rattle.sbp_journal.specs.Run.{Moment, asked, said}
 use Rattle.sbp_journal.specs.declared.event.Action.{Action}
@@ -20,6 +21,7 @@ use Rattle.sbp_world.proofs.Hosts.BytePlaces.{buffer_length}
 use Rattle.sbp_world.proofs.Hosts.OrbFits.{IsFull}
 use Rattle.sbp_world.proofs.Hosts.OrbTables.{whole_bytes}
 use Rattle.sbp_world.proofs.Lists.Slots.{IsFilled}
+use Rattle.sbp_world.proofs.Common.{none_is}
 
 abbrev pub FitsAction : Action → Type 0
 FitsAction (actions.Put cmd) = IsFull cmd
@@ -65,27 +67,16 @@ fit_from (asked line event ∷ later) past f = fit_from later past f.1
 fit_from (said note ∷ later) past f = fit_from later past f
 
 -- ---- the command of an ORB
-some_event : (one other : Event) → Some one ≡ Some other → one ≡ other
-some_event one other e = cc
-
-same_cmd : (one other : Cmd) → Some one ≡ Some other → one ≡ other
-same_cmd one other e = cc
-
-none_event : {A : Type 0} (event : Event) → None ≡ Some event → A
-none_event event e = absurd (let z : None ≡ Some event = e in cc)
-
-none_cmd : {A : Type 0} (cmd : Cmd) → None ≡ Some cmd → A
-none_cmd cmd e = absurd (let z : None ≡ Some cmd = e in cc)
 
 line_fits : (past : List Moment) → AreFit past → (event : Event) → event_of past ≡ Some event → FitsEvent event
-line_fits [] f event e = none_event event e
-line_fits (asked line own ∷ past) f event e = subst FitsEvent (some_event own event e) f.0
+line_fits [] f event e = none_is event e
+line_fits (asked line own ∷ past) f event e = subst FitsEvent (same_Some own event e) f.0
 line_fits (said note ∷ past) f event e = line_fits past f event e
 
 cmd_fits : (event : Option Event) → ((one : Event) → event ≡ Some one → FitsEvent one) → (cmd : Cmd) → cmd_of event ≡ Some cmd → IsFull cmd
-cmd_fits (Some (events.Act i (actions.Put own))) f cmd e = subst IsFull (same_cmd own cmd e) (f (events.Act i (actions.Put own)) refl)
-cmd_fits (Some (events.Act i (actions.Append own))) f cmd e = subst IsFull (same_cmd own cmd e) (f (events.Act i (actions.Append own)) refl)
-cmd_fits _ f cmd e = none_cmd cmd e
+cmd_fits (Some (events.Act i (actions.Put own))) f cmd e = subst IsFull (same_Some own cmd e) (f (events.Act i (actions.Put own)) refl)
+cmd_fits (Some (events.Act i (actions.Append own))) f cmd e = subst IsFull (same_Some own cmd e) (f (events.Act i (actions.Append own)) refl)
+cmd_fits _ f cmd e = none_is cmd e
 
 pick_fits : (a b c : Bool) (now old : Option Cmd) (cmd : Cmd) → (now ≡ Some cmd → IsFull cmd) → (old ≡ Some cmd → IsFull cmd) → cond a (cond b (cond c now old) old) old ≡ Some cmd → IsFull cmd
 pick_fits true true true now old cmd f g e = f e
@@ -94,7 +85,7 @@ pick_fits true false c now old cmd f g e = g e
 pick_fits false b c now old cmd f g e = g e
 
 commands_fit : (past : List Moment) → AreFit past → (i n k : ℕ) (cmd : Cmd) → command_at past i n k ≡ Some cmd → IsFull cmd
-commands_fit [] f i n k cmd e = none_cmd cmd e
+commands_fit [] f i n k cmd e = none_is cmd e
 commands_fit (said (notes.Append j m l cdb buffer) ∷ past) f i n k cmd e =
     pick_fits (nat_eq i j) (nat_eq n m) (nat_eq k l) (cmd_of (event_of past)) (command_at past i n k) cmd
     (cmd_fits (event_of past) (line_fits past f) cmd) (commands_fit past f i n k cmd) e

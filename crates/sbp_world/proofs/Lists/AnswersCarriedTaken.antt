@@ -22,7 +22,6 @@ use Rattle.sbp_world.proofs.Lists.AnswersCarriedChunks.{front_none, front_whole}
 use Rattle.sbp_world.proofs.Lists.AnswersCarriedTracks.{IsReady, Tracked, all_written, not_yet, tracked_now, up_to}
 use Rattle.sbp_world.proofs.Lists.StatusKnown.{IsKnown, each_from, waits_so}
 use Rattle.std.proofs.Common.{inl, inr, arith, ◌≡◌, ◌∙◌, refl, sym, ap, subst, ◌+◌, ◌^◌, ◌==◌, ℕ, Bool, true, false, cond, List, [], ◌∷◌, ◌++◌, map, Some}
-use Rattle.std.proofs.lemmas.Bool.Decides.{nat_tests}
 use Rattle.orb_layout.specs.declared.status.StatusKind.TheVariants as kinds
 use Rattle.page_table.specs.Buffer.{bytes_of}
 use Rattle.sbp_journal.specs.declared.event.Cmd.{Cmd}
@@ -43,6 +42,7 @@ use Rattle.sbp_world.proofs.Lists.SlotShut.{AllApart}
 use Rattle.sbp_world.proofs.Lists.Slots.{IsFilled}
 use Rattle.sbp_world.proofs.Lists.Stands.{Stands, standing}
 use Rattle.sbp_world.proofs.Lists.StatusMoments.{latest_of}
+use Rattle.sbp_world.proofs.Common.{same_number}
 
 gots_of : (past : List Moment) → WireMoments past → GotsIn WasSentThen past
 gots_of [] w = tt
@@ -178,9 +178,6 @@ module _ (start : List Disk) (wild : ℕ → Bool) (i : ℕ) (own : wild i ≡ f
   WholeAt (said (notes.Taken j n k kinds.Good answer)) past = j ≡ i → IsWhole past n k answer
   WholeAt moment past = Unit {0}
 
-  itself : (a : ℕ) → (a == a) ≡ true
-  itself a = grind (arith, nat_tests)
-
   -- what is known of the answer of each status that is taken
   pub record IsTold (past : List Moment) (n k : ℕ) (answer : List ℕ) : Type 0 where
     pub held : IsAnswerOf past i n k answer
@@ -193,7 +190,7 @@ module _ (start : List Disk) (wild : ℕ → Bool) (i : ℕ) (own : wild i ≡ f
     where
       taken_here : WholeAt (said (notes.Taken j n k kinds.Good answer)) past
       taken_here e =
-          let same : (i == j) ≡ true = subst (λ x. (i == x) ≡ true) (sym e) (itself i) in
+          let same : (i == j) ≡ true = subst (λ x. (i == x) ≡ true) (sym e) (same_number i) in
           let told : TakenSo i (said (notes.Taken j n k kinds.Good answer)) past = h.sound.taken.0 in
           let taking : TakenOf i (said (notes.Taken j n k kinds.Good answer)) past = h.known.takings.0 in
           let one : TakenOfOne i (said (notes.Taken j n k kinds.Good answer)) past = h.of_one.0 in

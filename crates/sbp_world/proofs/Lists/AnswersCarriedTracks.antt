@@ -7,6 +7,8 @@ use Rattle.std.specs.List.{filter}
 use Rattle.std.proofs.lemmas.Bool.Decides.{nat_tests}
 use Rattle.std.proofs.lemmas.List.{append-nil, map-append}
 use Rattle.std.proofs.lemmas.List.Elements.{filter-append}
+use Rattle.std.proofs.lemmas.Bool.{false≢true}
+use Rattle.std.proofs.lemmas.Option.{same_Some}
 use Rattle.bus_memory.specs.Windows.{window_at}
 use Rattle.bus_transactions.specs.Packets.{SerialsCount}
 use Rattle.page_table.specs.declared.segment.Chunk.{Chunk}
@@ -50,16 +52,7 @@ use Rattle.sbp_world.proofs.Lists.SlotShut.{AllApart}
 use Rattle.sbp_world.proofs.Lists.Slots.{IsFilled}
 use Rattle.sbp_world.proofs.Lists.StatusKnown.{IsKnown}
 use Rattle.sbp_world.proofs.Lists.UnrunLaws.{unrun_law}
-
-no : false ≡ true → ⊥
-no e = cc
-
-split : (a b c : List Moment) → a ++ (b ++ c) ≡ (a ++ b) ++ c
-split [] b c = refl
-split (m ∷ a) b c = ap (λ ms. m ∷ ms) (split a b c)
-
-same_packet : (a b : Sending) → Some a ≡ Some b → a ≡ b
-same_packet a b e = cc
+use Rattle.sbp_world.proofs.Common.{moments_split, and_second, and_first}
 
 abbrev pub moved_of : Access → Moved
 moved_of access = record { offset = access.offset; bytes = access.payload }
@@ -177,11 +170,11 @@ module _ (start : List Disk) (wild : ℕ → Bool) (i : ℕ) (own : wild i ≡ f
     closed_got : (serial place : ℕ) (packet : Sending) → IsDataOf start past i n k serial packet place → WasClosed past serial → was_got past serial ≡ true
     closed_got serial place packet d w =
         let front_there = w.later ++ said (notes.Got w.got) ∷ [] in
-        let whole : front_there ++ w.before ≡ past = sym (split w.later (said (notes.Got w.got) ∷ []) w.before) ∙ w.is in
+        let whole : front_there ++ w.before ≡ past = sym (moments_split w.later (said (notes.Got w.got) ∷ []) w.before) ∙ w.is in
         let counted = subst SerialsCount (sym whole) sound_there.serials in
         let rest = remains front_there w.before counted in
         let it : shut.IsIt i serial place packet d.sent.to_host d.writes w.before = λ q e.
-        same_packet q packet (sym e ∙ (sym (rest.sent serial (sent_below w.before serial q (serials_from front_there w.before counted) e)) ∙ (ap (λ ms. (terms ms).sent serial) whole ∙ d.sent.is))) in
+        same_Some q packet (sym e ∙ (sym (rest.sent serial (sent_below w.before serial q (serials_from front_there w.before counted) e)) ∙ (ap (λ ms. (terms ms).sent serial) whole ∙ d.sent.is))) in
         let one = w.served.served in
         let g : WasGot w.before serial = shut.was_got i serial place packet d.sent.to_host d.writes w.before (serials_from front_there w.before counted) it (apart_from i front_there w.before (subst (λ ms. AllApart ms i) (sym whole) apart_there)) (omega (arith, one)) in
         subst (λ ms. was_got ms serial ≡ true) whole (got_on front_there w.before serial (got_then w.before serial g))
@@ -234,7 +227,7 @@ module _ (start : List Disk) (wild : ℕ → Bool) (i : ℕ) (own : wild i ≡ f
     behind_it = front ++ said (notes.Got serial) ∷ []
 
     whole : behind_it ++ past ≡ all
-    whole = sym (split front (said (notes.Got serial) ∷ []) past) ∙ at
+    whole = sym (moments_split front (said (notes.Got serial) ∷ []) past) ∙ at
 
     sound_now : IsSound start wild i own now
     sound_now = sound_there front now at
@@ -311,7 +304,7 @@ module _ (start : List Disk) (wild : ℕ → Bool) (i : ℕ) (own : wild i ≡ f
 
       old : (other at : ℕ) (one : Sending) → IsDataOf start all i n k other one at → was_got now other ≡ true → was_got past other ≡ true
       old other at one d e =
-          had_before other e (λ same. absurd (let there = here_is at one (subst (λ x. IsDataOf start all i n k x one at) (sym same) d) in no (sym none ∙ there)))
+          had_before other e (λ same. absurd (let there = here_is at one (subst (λ x. IsDataOf start all i n k x one at) (sym same) d) in false≢true (sym none ∙ there)))
 
       elsewhere : Tracked past → Tracked now
       elsewhere (not_yet f g h) = not_yet (λ ran. targets_same ∙ f ran) (buffers_same ∙ g) (λ other at one d e. h other at one d (old other at one d e))
@@ -329,33 +322,26 @@ module _ (start : List Disk) (wild : ℕ → Bool) (i : ℕ) (own : wild i ≡ f
 
     -- ---- one that writes into the buffer
     module _ (into_it : here ≡ true) where
-      first_of : (a b : Bool) → a && b ≡ true → a ≡ true
-      first_of true b e = refl
-      first_of false b e = e
-
-      second_of : (a b : Bool) → a && b ≡ true → b ≡ true
-      second_of true b e = e
-      second_of false b e = absurd (no e)
 
       abbrev q : Sending
       q = sent_it.0
 
       to_host : q.to ≡ suc i
       to_host =
-          let e : is_serial (receiver_in (Some q)) (suc i) ≡ true = ap (λ so. is_serial (receiver_in so) (suc i)) (sym sent_it.1) ∙ first_of to_it (writes_here slot (access_at (terms past) serial)) into_it in
+          let e : is_serial (receiver_in (Some q)) (suc i) ≡ true = ap (λ so. is_serial (receiver_in so) (suc i)) (sym sent_it.1) ∙ and_first to_it (writes_here slot (access_at (terms past) serial)) into_it in
           grind (arith, nat_tests, e)
 
       write_by : (found : Option Access) → access_in_bytes q.bytes ≡ found → writes_here slot found ≡ true → IsDataWrite q.bytes slot
-      write_by None e f = absurd (no f)
+      write_by None e f = absurd (false≢true f)
       write_by (Some access) e f = record {
         access = access;
         is = e;
-        writes = first_of access.is_write (is_buffer slot (window_at access.offset)) f;
-        goes = buffer_is slot (window_at access.offset) (second_of access.is_write (is_buffer slot (window_at access.offset)) f);
+        writes = and_first access.is_write (is_buffer slot (window_at access.offset)) f;
+        goes = buffer_is slot (window_at access.offset) (and_second access.is_write (is_buffer slot (window_at access.offset)) f);
       }
 
       write_is : IsDataWrite q.bytes slot
-      write_is = write_by (access_in_bytes q.bytes) refl (ap (λ so. writes_here slot (access_in (packet_in so))) (sym sent_it.1) ∙ second_of to_it (writes_here slot (access_at (terms past) serial)) into_it)
+      write_is = write_by (access_in_bytes q.bytes) refl (ap (λ so. writes_here slot (access_in (packet_in so))) (sym sent_it.1) ∙ and_second to_it (writes_here slot (access_at (terms past) serial)) into_it)
 
       g : IsLatestData start past i serial slot q
       g = got_so start wild i own past serial known_now sound_now q sent_it.1 to_host slot write_is
@@ -517,7 +503,7 @@ module _ (start : List Disk) (wild : ℕ → Bool) (i : ℕ) (own : wild i ≡ f
         let same_i : j ≡ i = grind (arith, nat_tests, e) in
         let number : l ≡ appends past j m = law.0.next.number in
         let number_here : k ≡ appends past i n = sym s.1 ∙ (number ∙ (ap (λ x. appends past x m) same_i ∙ ap (λ x. appends past i x) s.0)) in
-        let whole : front_on ++ past ≡ all = sym (split front (said (notes.Append j m l cdb buffer) ∷ []) past) ∙ at in
+        let whole : front_on ++ past ≡ all = sym (moments_split front (said (notes.Append j m l cdb buffer) ∷ []) past) ∙ at in
         let there = (sound_there front_on past whole).passes in
         not_yet
         (λ ran. absurd (let b = run_appended wild i own n k past there ran in omega (arith, b, number_here)))
@@ -546,7 +532,7 @@ module _ (start : List Disk) (wild : ℕ → Bool) (i : ℕ) (own : wild i ≡ f
     not_again : is_run_of i n k j list number ≡ true → (serial place : ℕ) (one : Sending) → IsDataOf start all i n k serial one place → was_got past serial ≡ true → ⊥
     not_again e serial place one d z =
         let x = said (notes.Ran j list number unit cdb bytes check) in
-        let whole : (front ++ x ∷ []) ++ past ≡ all = sym (split front (x ∷ []) past) ∙ at in
+        let whole : (front ++ x ∷ []) ++ past ≡ all = sym (moments_split front (x ∷ []) past) ∙ at in
         let none = (next_run wild i own n k past j list number unit cdb bytes check ran_law.0 e).once unrun_law in
         let inner = into i all (front ++ x ∷ []) past whole sound.serials n k serial place one d (low (front ++ x ∷ []) past whole serial z) in
         let some = ran_so i past n k serial place one inner in
@@ -564,13 +550,13 @@ module _ (start : List Disk) (wild : ℕ → Bool) (i : ℕ) (own : wild i ≡ f
   pub tracks : (past front : List Moment) → front ++ past ≡ all → prepared_in past i slot ≡ Some (orb n k) → Tracked past
   tracks [] front at prep = absurd (let z : None ≡ Some (orb n k) = prep in cc)
   tracks (said (notes.Append j m l cdb buffer) ∷ past) front at prep =
-      append_on front past j m l cdb buffer at (λ e. tracks past (front ++ said (notes.Append j m l cdb buffer) ∷ []) (sym (split front (said (notes.Append j m l cdb buffer) ∷ []) past) ∙ at) e) prep
+      append_on front past j m l cdb buffer at (λ e. tracks past (front ++ said (notes.Append j m l cdb buffer) ∷ []) (sym (moments_split front (said (notes.Append j m l cdb buffer) ∷ []) past) ∙ at) e) prep
   tracks (said (notes.Ran j list number unit cdb bytes check) ∷ past) front at prep =
       run_on front past j list number unit cdb bytes check at
-      (tracks past (front ++ said (notes.Ran j list number unit cdb bytes check) ∷ []) (sym (split front (said (notes.Ran j list number unit cdb bytes check) ∷ []) past) ∙ at) prep)
+      (tracks past (front ++ said (notes.Ran j list number unit cdb bytes check) ∷ []) (sym (moments_split front (said (notes.Ran j list number unit cdb bytes check) ∷ []) past) ∙ at) prep)
   tracks (said (notes.Got serial) ∷ past) front at prep =
-      got_on_it front past serial at prep (tracks past (front ++ said (notes.Got serial) ∷ []) (sym (split front (said (notes.Got serial) ∷ []) past) ∙ at) prep)
-  tracks (moment ∷ past) front at prep = tracks past (front ++ moment ∷ []) (sym (split front (moment ∷ []) past) ∙ at) prep
+      got_on_it front past serial at prep (tracks past (front ++ said (notes.Got serial) ∷ []) (sym (moments_split front (said (notes.Got serial) ∷ []) past) ∙ at) prep)
+  tracks (moment ∷ past) front at prep = tracks past (front ++ moment ∷ []) (sym (moments_split front (moment ∷ []) past) ∙ at) prep
 
   -- ---- where the slot has the ORB now
   module _ (there : prepared_in all i slot ≡ Some (orb n k)) where

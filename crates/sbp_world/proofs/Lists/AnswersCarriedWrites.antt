@@ -4,6 +4,8 @@ use Rattle.std.proofs.Common.{inl, inr, ◌⊎◌, arith, ◌≡◌, ◌∙◌, 
 use Rattle.std.specs.List.{filter}
 use Rattle.std.proofs.lemmas.Bool.Decides.{nat_tests}
 use Rattle.std.proofs.lemmas.List.Folds.{Any-from_list_any, list_any_at}
+use Rattle.std.proofs.lemmas.Bool.{false≢true}
+use Rattle.std.proofs.lemmas.Option.{same_Some}
 use Rattle.async_packet.specs.Packet.{Packet, lock, lock_response, read_block, read_block_response, read_quadlet, read_quadlet_response, write_block, write_quadlet, write_response}
 use Rattle.byteorder.specs.Endian.{big_bytes}
 use Rattle.bus_memory.specs.declared.window.Window.{Window}
@@ -30,12 +32,8 @@ use Rattle.sbp_world.proofs.Hosts.ResponseTells.{inside_by}
 use Rattle.sbp_world.proofs.Lists.AnswersCarriedChunks.{all_in_turn}
 use Rattle.sbp_world.proofs.Lists.FedWindows.{taken_stands}
 use Rattle.sbp_world.proofs.Lists.Slots.{IsFilled, data_window, inside}
-
-no : false ≡ true → ⊥
-no e = cc
-
-not_both : (b : Bool) → b ≡ true → b ≡ false → ⊥
-not_both b e f = no (sym f ∙ e)
+use Rattle.sbp_world.proofs.Agents.CrewSeats.{not_both}
+use Rattle.sbp_world.proofs.Common.{and_second, and_first, none_is}
 
 -- the window of the buffer of a slot
 abbrev pub is_buffer : ℕ → Option Window → Bool
@@ -44,7 +42,7 @@ is_buffer slot found = false
 
 pub buffer_is : (slot : ℕ) (found : Option Window) → is_buffer slot found ≡ true → found ≡ Some (windows.Buffer slot)
 buffer_is slot (Some (windows.Buffer other)) e = ap (λ n. Some (windows.Buffer n)) (let same : other ≡ slot = grind (arith, nat_tests, e) in same)
-buffer_is slot found e = absurd (no e)
+buffer_is slot found e = absurd (false≢true e)
 
 pub is_buffer_there : (slot : ℕ) (found : Option Window) → found ≡ Some (windows.Buffer slot) → is_buffer slot found ≡ true
 is_buffer_there slot found e = ap (is_buffer slot) e ∙ (let same : nat_eq slot slot ≡ true = grind (arith, nat_tests) in same)
@@ -57,7 +55,7 @@ writes_here slot (Some access) = access.is_write && is_buffer slot (window_at ac
 abbrev pub moved_by : Access → Moved
 moved_by access = record { offset = access.offset; bytes = access.payload }
 
-power : (n : ℕ) → 0 < 2 ^ n
+pub power : (n : ℕ) → 0 < 2 ^ n
 power zero = omega arith
 power (suc n) = let h = power n in omega arith
 
@@ -65,14 +63,6 @@ index_same : (xs : List ℕ) (k d e : ℕ) → k < length xs → slice_index_or 
 index_same [] k d e b = absurd (omega arith)
 index_same (x ∷ xs) zero d e b = refl
 index_same (x ∷ xs) (suc k) d e b = index_same xs k d e (omega arith)
-
-and_second : (a b : Bool) → a && b ≡ true → b ≡ true
-and_second true b e = e
-and_second false b e = absurd (no e)
-
-and_first : (a b : Bool) → a && b ≡ true → a ≡ true
-and_first true b e = refl
-and_first false b e = e
 
 pub low_fifo : (offset : ℕ) → offset < 0x12002000 → is_fifo offset ≡ false
 unfolding is_fifo
@@ -155,7 +145,7 @@ module _ (slot : ℕ) (small : slot < 32) (cmd : Cmd) (filled : IsFilled slot cm
     window_by (windows.Response place) offset count at w s r low high from to = absurd (omega (arith, s, high, from, small))
 
     inside_window : (access : Access) (found : Option Window) → lies_inside past i rom access found ≡ true → IfShare access.offset found → (at : ℕ) → base ≤ at → at < base + 32768 → access.offset ≤ at → at < access.offset + access.count → found ≡ Some (windows.Buffer slot)
-    inside_window access None e share at low high from to = absurd (no e)
+    inside_window access None e share at low high from to = absurd (false≢true e)
     inside_window access (Some window) e share at low high from to =
         let room : nat_le (access.offset - start window + access.count) (size_of rom window) ≡ true = and_second (is_open past i window) (nat_le (access.offset - start window + access.count) (size_of rom window)) e in
         window_by window access.offset access.count at share.0 share.1 (let z : access.offset - start window + access.count ≤ size_of rom window = grind (arith, nat_tests, room) in z) low high from to
@@ -285,21 +275,15 @@ pub record IsBlockWrite (packet : Packet) (access : Access) : Type 0 where
   pub count : access.count ≡ length access.payload
   pub brings : write_in (Some packet) ≡ Some (record { offset = access.offset; bytes = access.payload })
 
-same_access : (a b : Access) → Some a ≡ Some b → a ≡ b
-same_access a b e = cc
-
 empty_none : {A : Type 0} (a access : Access) → Some a ≡ Some access → a.payload ≡ [] → 0 < length access.payload → A
 empty_none a access e none some =
-    let size : length a.payload ≡ length access.payload = ap (λ (x : Access). length x.payload) (same_access a access e) in
+    let size : length a.payload ≡ length access.payload = ap (λ (x : Access). length x.payload) (same_Some a access e) in
     let zero_there : length a.payload ≡ 0 = ap length none in
     absurd (omega (arith, size, zero_there, some))
 
-no_access : {A : Type 0} (access : Access) → None ≡ Some access → A
-no_access access e = absurd (let z : None ≡ Some access = e in cc)
-
 pub block_write : (p : Packet) (access : Access) → access_of p ≡ Some access → 0 < length access.payload → IsBlockWrite p access
 block_write (write_block header offset payload) access e some =
-    let same = same_access (record { is_lock = false; is_write = true; is_block = true; offset = offset; count = length payload; payload = payload }) access e in
+    let same = same_Some (record { is_lock = false; is_write = true; is_block = true; offset = offset; count = length payload; payload = payload }) access e in
     record {
       lock = sym (ap (λ (x : Access). x.is_lock) same);
       count = sym (ap (λ (x : Access). x.count) same) ∙ ap (λ (x : Access). length x.payload) same;
@@ -309,7 +293,7 @@ block_write (write_quadlet header offset value) access e some = empty_none (reco
 block_write (read_quadlet header offset) access e some = empty_none (record { is_lock = false; is_write = false; is_block = false; offset = offset; count = 4; payload = [] }) access e refl some
 block_write (read_block header offset asked) access e some = empty_none (record { is_lock = false; is_write = false; is_block = true; offset = offset; count = asked; payload = [] }) access e refl some
 block_write (lock header offset extended payload) access e some = empty_none (record { is_lock = true; is_write = false; is_block = true; offset = offset; count = length payload; payload = [] }) access e refl some
-block_write (write_response header rcode) access e some = no_access access e
-block_write (read_quadlet_response header rcode value) access e some = no_access access e
-block_write (read_block_response header rcode payload) access e some = no_access access e
-block_write (lock_response header rcode extended payload) access e some = no_access access e
+block_write (write_response header rcode) access e some = none_is access e
+block_write (read_quadlet_response header rcode value) access e some = none_is access e
+block_write (read_block_response header rcode payload) access e some = none_is access e
+block_write (lock_response header rcode extended payload) access e some = none_is access e

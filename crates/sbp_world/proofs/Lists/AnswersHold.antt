@@ -1,6 +1,6 @@
 -- Each answer that is taken is carried, and is that of the plain disk, in every run in which no initiator injected packets, or few logins were given.
-use Rattle.std.proofs.Common.{nat_eq, arith, refl, ◌≡◌, ◌∙◌, sym, ap, subst, IfSome, ◌<◌, ℕ, Bool, true, false, List, [], ◌∷◌, Some}
-use Rattle.std.proofs.lemmas.Bool.Decides.{nat_tests}
+use Rattle.std.proofs.Common.{refl, ◌≡◌, ◌∙◌, sym, ap, subst, IfSome, ◌<◌, ℕ, Bool, true, false, List, [], ◌∷◌}
+use Rattle.std.proofs.lemmas.Option.{same_Some}
 use Rattle.orb_layout.specs.declared.status.StatusKind.TheVariants as kinds
 use Rattle.rbc_disk.specs.Disk.{Disk}
 use Rattle.rbc_disk.specs.Runs.{answer_length_of, answer_of}
@@ -26,14 +26,11 @@ use Rattle.sbp_world.proofs.Lists.Executes.{execution_run_law}
 use Rattle.sbp_world.proofs.Lists.Histories.{after_lines}
 use Rattle.sbp_world.proofs.Lists.ListsProved.{closing}
 
-same_cmd : (a b : Cmd) → Some a ≡ Some b → a ≡ b
-same_cmd a b e = cc
-
 module _ (start : List Disk) (wild : ℕ → Bool) (i : ℕ) (own : wild i ≡ false) where
   module _ (past : List Moment) (passes : PassLaw wild past) (runs_so : ExecutionLaw wild start past) (filled : AreFilled past) (n k : ℕ) (answer : List ℕ) (h : HasLength start past i n k answer) (w : IsWhole start wild i own past n k answer) where
     none_long : (w.cmd.to_initiator ≡ true → w.cmd.length ≡ 0) → h.cmd.to_initiator ≡ true → answer_length_of h.disk.is_bay h.cmd.cdb ≡ 0
     none_long empty to =
-        let same : w.cmd ≡ h.cmd = same_cmd w.cmd h.cmd (sym w.command ∙ h.command) in
+        let same : w.cmd ≡ h.cmd = same_Some w.cmd h.cmd (sym w.command ∙ h.command) in
         (commands_fill past filled i n k h.cmd h.command).answered h.disk.is_bay to ∙ (ap (λ (x : Cmd). x.length) (sym same) ∙ empty (ap (λ (x : Cmd). x.to_initiator) same ∙ to))
 
     by_way : (empty : w.cmd.to_initiator ≡ true → w.cmd.length ≡ 0) → (to : Bool) → h.cmd.to_initiator ≡ to → IfSome (answer_of h.cmd.cdb h.disk) (λ told. answer ≡ told)
@@ -60,8 +57,6 @@ module _ (start : List Disk) (wild : ℕ → Bool) (i : ℕ) (own : wild i ≡ f
   each_answer (said note ∷ past) w l passes runs_so f = (tt, each_answer past w.1 l.1 passes.1 runs_so.1 f)
 
 -- ---- of all that injected no packets
-itself : (a : ℕ) → nat_eq a a ≡ true
-itself a = grind (arith, nat_tests)
 
 module _ (start : List Disk) (wild : ℕ → Bool) (most : ℕ) where
   all_answers : (past : List Moment) → InsideIn most past → ((i : ℕ) → i < most → (own : wild i ≡ false) → EachMoment (AnswerOfOne start wild i own) past) → EachMoment (AnswerAt wild start) past

@@ -1,5 +1,6 @@
 -- The answer that an agent writes stays by each step of it but a reply: what is known of its bytes, while it writes them, is known behind the step.
 use Rattle.std.proofs.Common.{◌≡◌, ℕ, Bool, true, false, cond, List}
+use Rattle.std.proofs.lemmas.Bool.{false≢true}
 use Rattle.command_agent.specs.declared.phase.Phase.{Phase}
 use Rattle.command_agent.specs.declared.phase.Phase.TheVariants as phases
 use Rattle.command_agent.specs.declared.step.AgentState.{AgentState}
@@ -15,29 +16,26 @@ use Rattle.orb_layout.specs.declared.pointer.OrbPointer.TheVariants.{At, Null}
 use Rattle.sbp_world.specs.Agents.Alike.{answers}
 use Rattle.sbp_world.proofs.Lists.Full.{IsClosed}
 
-no : false ≡ true → ⊥
-no e = cc
-
 module _ (T : List ℕ → Type 0) where
   abbrev pub Writes : Machine → Type 0
   Writes m = answers m.phase ≡ true → T m.answer
 
   reset_writes : (m : Machine) → Writes (reset_step m)
   unfolding reset_step
-  reset_writes m e = absurd (no e)
+  reset_writes m e = absurd (false≢true e)
 
   abort_writes : (m : Machine) (orb : ℕ) → Writes m → Writes (abort_step m orb)
   unfolding abort_step
   abort_writes m orb h = h
 
   main_writes : (phase : Phase) (m : Machine) (cause : FailCause) → Writes m → Writes (main_lost phase m cause).1
-  main_writes phases.Fetching m cause h = λ e. absurd (no e)
-  main_writes phases.ReadingTable m cause h = λ e. absurd (no e)
-  main_writes (phases.ReadingData wanted) m cause h = λ e. absurd (no e)
-  main_writes phases.Answering m cause h = λ e. absurd (no e)
-  main_writes phases.WritingStatus m cause h = λ e. absurd (no e)
-  main_writes phases.ReadingNext m cause h = λ e. absurd (no e)
-  main_writes phases.WritingLastStatus m cause h = λ e. absurd (no e)
+  main_writes phases.Fetching m cause h = λ e. absurd (false≢true e)
+  main_writes phases.ReadingTable m cause h = λ e. absurd (false≢true e)
+  main_writes (phases.ReadingData wanted) m cause h = λ e. absurd (false≢true e)
+  main_writes phases.Answering m cause h = λ e. absurd (false≢true e)
+  main_writes phases.WritingStatus m cause h = λ e. absurd (false≢true e)
+  main_writes phases.ReadingNext m cause h = λ e. absurd (false≢true e)
+  main_writes phases.WritingLastStatus m cause h = λ e. absurd (false≢true e)
   main_writes phases.Reset m cause h = h
   main_writes phases.Suspended m cause h = h
   main_writes phases.Dead m cause h = h
@@ -53,7 +51,7 @@ module _ (T : List ℕ → Type 0) where
 
   bell_in : (state : AgentState) (m : Machine) → Writes m → Writes (doorbell_in state m).1
   bell_in states.Active m h = h
-  bell_in states.Suspended m h = λ e. absurd (no e)
+  bell_in states.Suspended m h = λ e. absurd (false≢true e)
   bell_in states.Reset m h = h
   bell_in states.Dead m h = h
 
@@ -63,7 +61,7 @@ module _ (T : List ℕ → Type 0) where
 
   pointed_writes : (m : Machine) (pointer : OrbPointer) → Writes m → Writes (pointed m pointer).1
   pointed_writes m Null h = h
-  pointed_writes m (At next) h = λ e. absurd (no e)
+  pointed_writes m (At next) h = λ e. absurd (false≢true e)
 
   point_at : (state : AgentState) (m : Machine) (pointer : OrbPointer) → Writes m → Writes (point_in state m pointer).1
   point_at states.Reset m pointer h = pointed_writes m pointer h

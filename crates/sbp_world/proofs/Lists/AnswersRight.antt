@@ -26,10 +26,7 @@ use Rattle.sbp_world.proofs.Lists.DataServed.{moved}
 use Rattle.sbp_world.proofs.Lists.DataSlots.{request_lasts}
 use Rattle.sbp_world.proofs.Lists.Passing.{PassLaw}
 use Rattle.sbp_world.proofs.Lists.UnrunTerms.{passes_from}
-
-split : (a b c : List Moment) → a ++ (b ++ c) ≡ (a ++ b) ++ c
-split [] b c = refl
-split (m ∷ a) b c = ap (λ ms. m ∷ ms) (split a b c)
+use Rattle.sbp_world.proofs.Common.{moments_split, no_bytes}
 
 same_disk : (a b : Disk) → Some a ≡ Some b → a ≡ b
 same_disk a b e = cc
@@ -40,10 +37,6 @@ take_whole zero [] e = refl
 take_whole zero (x ∷ xs) e = absurd (let z : 0 ≡ suc (length xs) = e in cc)
 take_whole (suc count) [] e = refl
 take_whole (suc count) (x ∷ xs) e = ap (λ ys. x ∷ ys) (take_whole count xs (let z : suc (length (take count xs)) ≡ suc (length xs) = e in cc))
-
-none_left : (xs : List ℕ) → length xs ≡ 0 → xs ≡ []
-none_left [] e = refl
-none_left (x ∷ xs) e = absurd (let z : suc (length xs) ≡ 0 = e in cc)
 
 module _ (start : List Disk) (wild : ℕ → Bool) (i : ℕ) (own : wild i ≡ false) (past : List Moment) (passes : PassLaw wild past) (runs_so : ExecutionLaw wild start past) (n k : ℕ) where
   -- ---- a machine that wrote data of the ORB had the answer that the medium told
@@ -56,7 +49,7 @@ module _ (start : List Disk) (wild : ℕ → Bool) (i : ℕ) (own : wild i ≡ f
 
     was_told : IsAnswerOf start past i n k m.answer
     was_told =
-        answer_on start (d.later ++ leaves ∷ []) d.before past (sym (split d.later (leaves ∷ []) d.before) ∙ d.is) i n k m.answer
+        answer_on start (d.later ++ leaves ∷ []) d.before past (sym (moments_split d.later (leaves ∷ []) d.before) ∙ d.is) i n k m.answer
         (moved i past n k serial slot packet d (λ a b. IsAnswerOf start d.before i a b m.answer) d.was.told)
 
     as_before : IsAnswerBefore start past i n k m.answer
@@ -118,7 +111,7 @@ module _ (start : List Disk) (wild : ℕ → Bool) (i : ℕ) (own : wild i ≡ f
     -- where it has no bytes
     pub told_empty : answer_length_of h.disk.is_bay h.cmd.cdb ≡ 0 → IsTold
     told_empty none =
-        subst (λ xs. IfSome (answer_of h.cmd.cdb h.disk) (λ told. xs ≡ told)) (sym (none_left answer (h.len ∙ none))) (told_none h.cmd.cdb h.disk none)
+        subst (λ xs. IfSome (answer_of h.cmd.cdb h.disk) (λ told. xs ≡ told)) (sym (no_bytes answer (h.len ∙ none))) (told_none h.cmd.cdb h.disk none)
 
     pub answers : IsTold → Answers start past i n k answer
     answers told =

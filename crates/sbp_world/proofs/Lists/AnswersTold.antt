@@ -12,6 +12,8 @@ use Rattle.sbp_world.proofs.Lists.Turns.{Ready}
 use Rattle.packet_store.specs.declared.sent.Sent.{Sent}
 use Rattle.std.proofs.Common.{arith, ◌≡◌, refl, sym, ap, subst, ◌<◌, ℕ, zero, suc, Bool, true, false, List, [], Option, Some, None, ◌++◌, IfSome, ◌⊎◌, inl, inr, ◌∙◌, ◌∷◌, map, length}
 use Rattle.std.specs.Prelude.{slice_index_or, replicate}
+use Rattle.std.proofs.lemmas.Bool.{false≢true}
+use Rattle.std.proofs.lemmas.Option.{same_Some, none-some}
 use Rattle.rbc_disk.specs.Disk.{Disk}
 use Rattle.sbp_journal.specs.Run.{Moment, said, asked}
 use Rattle.sbp_world.specs.Histories.{moments_behind, history_of}
@@ -27,7 +29,6 @@ use Rattle.sbp_target.specs.declared.desk.Desk.{Desk}
 use Rattle.sbp_target.specs.Desks.{new_desk, which_in}
 use Rattle.sbp_world.specs.Making.{new_world}
 use Rattle.sbp_world.specs.Agents.Alike.{answers, has_list}
-use Rattle.sbp_world.specs.Agents.Management.Terms.{DeliversMore}
 use Rattle.sbp_world.specs.Hosts.Runs.{more_deliveries}
 use Rattle.sbp_world.specs.Lists.Closes.{UnderFrom}
 use Rattle.sbp_world.proofs.Lists.AnswerLengths.{commands_fill}
@@ -71,6 +72,7 @@ use Rattle.packet_store.specs.Kept.{found_sent}
 use Rattle.sbp_bus.specs.Words.{check_of}
 use Rattle.sbp_laws.specs.Lawful.{injectors}
 use Rattle.sbp_world.proofs.Lists.Courses.{EveryPlace}
+use Rattle.sbp_world.proofs.Common.{delivers}
 
 -- of each agent that writes an answer of its initiator's latest list
 abbrev pub AreToldThere : List Disk → List Moment → WorldState → Type 0
@@ -81,17 +83,8 @@ abbrev AllTold : List Disk → (ℕ → Bool) → List Moment → WorldState →
 AllTold start wild ms w =
     (q : ℕ) → q < 8 → wild (initiator_in w q) ≡ false → answers (machine_at w q).phase ≡ true → (n : ℕ) → (holder w q).list ≡ Some n → suc n ≡ lists ms (initiator_in w q) → IsAnswerOf start ms (initiator_in w q) n (ends ms (initiator_in w q) n) (machine_at w q).answer
 
-no : false ≡ true → ⊥
-no e = cc
-
-none_some : (o : Outcome) → None ≡ Some o → ⊥
-none_some o e = cc
-
 same_outcome : (a b : Outcome) → Some a ≡ Some b → a ≡ b
 same_outcome a b e = cc
-
-some_same : {A : Type 0} (a c : A) → Some a ≡ Some c → a ≡ c
-some_same a c z = cc
 
 response_place : (a c : Packet) (l m : LabelParts) (d g : ℕ) → of_response a l (Some (purposes.Agent d)) ≡ of_response c m (Some (purposes.Agent g)) → d ≡ g
 response_place a c l m d g z = cc
@@ -269,7 +262,7 @@ module _ (wild : ℕ → Bool) (units ready : ℕ) (has : 0 < units) (start : Li
           let open_there : has_list (M r.place).phase ≡ true = listed (M r.place) r.place (plain_in w.target.units s.media.disks r.by.login.unit) run r.by.which (answer_in r.by.packet) r.outcome r.by.ran in
           let one_place : r.place ≡ q = (step.stands.lists (initiator_in w q) own_then).one q r.place b small open_then open_there (calm (initiator_in w q) own_then) (sym mine ∙ owner) in
           let none = answering_none (M r.place) r.place (plain_in w.target.units s.media.disks r.by.login.unit) run r.by.which (answer_in r.by.packet) (ap (λ j. answers (M j).phase) one_place ∙ f) in
-          none_some r.outcome (sym none ∙ r.by.ran)
+          none-some r.outcome (sym none ∙ r.by.ran)
 
       by_coming : Comes start w s.media ms now → Goal
       by_coming (quiet more unrun is) = kept_on more is (subst (λ c. 0 < c) (ap (λ h. runs h i n k) (sym is) ∙ unrun_runs i n k more ms unrun) ran_there)
@@ -286,7 +279,7 @@ module _ (wild : ℕ → Bool) (units ready : ℕ) (has : 0 < units) (start : Li
     module _ (x : RunsNow q (machine_at v q).answer) where
       none_not : NoneRan w.target x.sent x.run s.media → ⊥
       none_not none =
-          none_some x.outcome
+          none-some x.outcome
           (sym none.ran
           ∙ (ap (λ y. ran_as w.target x.run s.media.disks y) x.judged
           ∙ (ap (λ (y : Option Login). ran_for w.target x.run s.media.disks q x.packet y (which_in (desk_at w.target q) (header_in x.packet).source x.label)) x.served
@@ -318,11 +311,11 @@ module _ (wild : ℕ → Bool) (units ready : ℕ) (has : 0 < units) (start : Li
         label_same = response_label by.packet x.packet by.label x.label r.place q same_response
 
         login_same : by.login ≡ x.login
-        login_same = some_same by.login x.login (sym by.served ∙ (ap (λ j. served_login w.target j) place_same ∙ x.served))
+        login_same = same_Some by.login x.login (sym by.served ∙ (ap (λ j. served_login w.target j) place_same ∙ x.served))
 
         which_same : by.which ≡ x.which
         which_same =
-            some_same by.which x.which
+            same_Some by.which x.which
             (sym by.is_which
             ∙ (ap (λ j. which_in (desk_at w.target j) (header_in by.packet).source by.label) place_same
             ∙ (ap (λ y. which_in (desk_at w.target q) (header_in y).source by.label) packet_same ∙ (ap (λ y. which_in (desk_at w.target q) (header_in x.packet).source y) label_same ∙ x.is_which))))
@@ -409,8 +402,8 @@ module _ (wild : ℕ → Bool) (units ready : ℕ) (has : 0 < units) (start : Li
 
         by_names : (list number : Option ℕ) → c.more ++ note list number ∷ base ≡ now → PassAt wild (note list number) base → 0 < runs (note list number ∷ base) i n k → Goal
         by_names (Some m) (Some l) at pass ran = named m l at pass ran
-        by_names None number at pass ran = absurd (no (sym own_here ∙ pass))
-        by_names (Some m) None at pass ran = absurd (no (sym own_here ∙ pass))
+        by_names None number at pass ran = absurd (false≢true (sym own_here ∙ pass))
+        by_names (Some m) None at pass ran = absurd (false≢true (sym own_here ∙ pass))
 
         fresh : Goal
         fresh = by_names r.list r.number c.is passed same_runs
@@ -431,7 +424,7 @@ told_walk wild units ready has start past s later t step p = λ q b own e n list
 
 -- ---- over a run, of the initiators that injected no packets
 no_answers : (m : Machine) → m ≡ new_desk.agent → answers m.phase ≡ true → ⊥
-no_answers m same e = no (ap (λ (y : Machine). answers y.phase) (sym same) ∙ e)
+no_answers m same e = false≢true (ap (λ (y : Machine). answers y.phase) (sym same) ∙ e)
 
 first : (wild : ℕ → Bool) (line : ℕ) (run : Run) → AllTold run.start.disks wild (moments_behind line run []) (beginning run).world
 unfolding new_world
@@ -447,10 +440,6 @@ whole_there = record {
   after_lines = λ line run r has small size so_far. whole_law.after_lines line run r has small size so_far;
   between = λ line run r has small size next most told m so_far. whole_law.between line run r has small size next most told m so_far;
 }
-
-delivers : (most : Option ℕ) → DeliversMore (more_deliveries most)
-delivers (Some count) = tt
-delivers None = tt
 
 pub there_law : UnderFrom AreToldThere
 there_law = record {

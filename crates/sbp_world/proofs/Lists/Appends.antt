@@ -3,6 +3,7 @@
 use Rattle.std.proofs.Common.{◌≡◌, ◌∙◌, refl, sym, ap, subst, ◌<◌, ◌≤◌, ◌==◌, ℕ, zero, suc, nat_eq, not, is_some, Bool, true, false, cond, List, [], ◌∷◌, map, length, Option, Some, None, arith}
 use Rattle.std.specs.Prelude.{if◌then◌else◌}
 use Rattle.std.proofs.lemmas.Bool.Decides.{nat_tests}
+use Rattle.std.proofs.lemmas.Option.{same_Some, none-some}
 use Rattle.orb_list.specs.declared.list.PresentList.{PresentList}
 use Rattle.orb_list.specs.declared.slot.SlotState.{SlotState}
 use Rattle.orb_list.specs.declared.slot.SlotState.TheVariants as states
@@ -30,12 +31,6 @@ use Rattle.sbp_world.proofs.Lists.Adds.{AllGood}
 
 -- ---- what the order of the appends says of the lists of an initiator
 
-some_same : (a b : ℕ) → Some a ≡ Some b → a ≡ b
-some_same a b e = cc
-
-none_some : (b : ℕ) → None ≡ Some b → ⊥
-none_some b e = cc
-
 -- the present list is the latest one, and has ORBs
 record Latest (present : Option ℕ) (lists_are : ℕ) (appended : ℕ → ℕ) : Type 0 where
   is : (n : ℕ) → present ≡ Some n → suc n ≡ lists_are
@@ -47,8 +42,8 @@ latest_append lists_are appended n k e f to_come = by (k == 0) f
   where
     by : (b : Bool) → cond b n (suc n) ≡ lists_are → Latest (Some n) (cond b (suc lists_are) lists_are) (λ m. cond (nat_eq m n) (suc (appended n)) (appended m))
     by b f = record {
-      is = λ m g. let same = some_same n m g in is_by b m same f;
-      has = λ m g. let same = some_same n m g in has_by m same;
+      is = λ m g. let same = same_Some n m g in is_by b m same f;
+      has = λ m g. let same = same_Some n m g in has_by m same;
       to_come = λ m l. to_by b m (nat_eq m n) refl f l;
     }
       where
@@ -68,7 +63,7 @@ latest_append lists_are appended n k e f to_come = by (k == 0) f
         to_by false m false g f l = to_come m l
 
 none_latest : (lists_are : ℕ) (appended : ℕ → ℕ) → ((m : ℕ) → lists_are ≤ m → appended m ≡ 0) → Latest None lists_are appended
-none_latest lists_are appended to_come = record { is = λ n e. absurd (none_some n e); has = λ n e. absurd (none_some n e); to_come = to_come }
+none_latest lists_are appended to_come = record { is = λ n e. absurd (none-some n e); has = λ n e. absurd (none-some n e); to_come = to_come }
 
 -- ---- the lowest free slot
 lowest_free : (slots : List Slot) → lowest_vacant (map row slots) < length slots → is_free (slot_in slots (lowest_vacant (map row slots))) ≡ true

@@ -1,6 +1,7 @@
 -- What an agent of the terms waits for is what it waited for before, or a packet that was sent since.
 use Rattle.std.proofs.Common.{arith, ◌≡◌, ◌∙◌, refl, sym, ap, inl, inr, ◌⊎◌, ◌<◌, ◌≤◌, ◌==◌, ◌||◌, not, ℕ, zero, suc, ◌+◌, Bool, true, false, cond, List, [], ◌∷◌, ◌++◌, map, Option, Some, None, Result, Ok, Err}
 use Rattle.std.specs.Prelude.{is_none, position, slice_set, unwrap_or}
+use Rattle.std.proofs.lemmas.Option.{none-some}
 use Rattle.bus_transactions.specs.Packets.{SerialsCount}
 use Rattle.command_agent.specs.declared.step.AgentStep.{AgentStep}
 use Rattle.command_agent.specs.declared.step.PointRefusal.{PointRefusal}
@@ -57,23 +58,20 @@ then_newer n a b c f g = λ s h. by s (g s h)
     by s (inl h) = f s h
     by s (inr l) = inr l
 
-none_some : (s : ℕ) → None ≡ Some s → ⊥
-none_some s e = cc
-
 -- it waits for less
 main_only : (n : ℕ) (a now : Agent) → now.main ≡ a.main → now.ahead ≡ None → Newer n a now
 main_only n a now e f = λ s h. by s h
   where
     by : (s : ℕ) → Awaits now s → Awaits a s ⊎ (n < s)
     by s (inl h) = inl (inl (sym e ∙ h))
-    by s (inr h) = absurd (none_some s (sym f ∙ h))
+    by s (inr h) = absurd (none-some s (sym f ∙ h))
 
 ahead_only : (n : ℕ) (a now : Agent) → now.main ≡ a.ahead → now.ahead ≡ None → Newer n a now
 ahead_only n a now e f = λ s h. by s h
   where
     by : (s : ℕ) → Awaits now s → Awaits a s ⊎ (n < s)
     by s (inl h) = inl (inr (sym e ∙ h))
-    by s (inr h) = absurd (none_some s (sym f ∙ h))
+    by s (inr h) = absurd (none-some s (sym f ∙ h))
 
 both_same : (n : ℕ) (a now : Agent) → now.main ≡ a.main → now.ahead ≡ a.ahead → Newer n a now
 both_same n a now e f = λ s h. by s h
@@ -86,8 +84,8 @@ rests : (n : ℕ) (a now : Agent) → now.main ≡ None → now.ahead ≡ None �
 rests n a now e f = λ s h. by s h
   where
     by : (s : ℕ) → Awaits now s → Awaits a s ⊎ (n < s)
-    by s (inl h) = absurd (none_some s (sym e ∙ h))
-    by s (inr h) = absurd (none_some s (sym f ∙ h))
+    by s (inl h) = absurd (none-some s (sym e ∙ h))
+    by s (inr h) = absurd (none-some s (sym f ∙ h))
 
 module _ (n : ℕ) where
   moves : (step : AgentStep × Machine) (a : Agent) → Newer n a (moved step a)
@@ -104,7 +102,7 @@ module _ (n : ℕ) where
   closes Main a = λ s h. by s h
     where
       by : (s : ℕ) → Awaits (closed Main a) s → Awaits a s ⊎ (n < s)
-      by s (inl h) = absurd (none_some s h)
+      by s (inl h) = absurd (none-some s h)
       by s (inr h) = inl (inr h)
   closes Ahead a = main_only n a (closed Ahead a) refl refl
 

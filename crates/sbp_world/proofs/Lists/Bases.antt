@@ -1,5 +1,6 @@
 -- In every run an initiator writes and reads at the registers of the agent of its host's login.
-use Rattle.std.proofs.Common.{◌≡◌, refl, sym, ap, subst, is_some, ℕ, true, false, List, Option, Some, None}
+use Rattle.std.proofs.Common.{◌≡◌, refl, sym, ap, subst, is_some, ℕ, true, List, Option, Some, None}
+use Rattle.std.proofs.lemmas.Bool.{false≢true}
 use Rattle.orb_layout.specs.declared.login.LoginResponse.{LoginResponse}
 use Rattle.sbp_journal.specs.Run.{Moment}
 use Rattle.sbp_initiator.specs.declared.state.InitiatorState.{InitiatorState}
@@ -16,16 +17,13 @@ use Rattle.sbp_world.specs.Pointers.Bases.{AreAtAgent, IsAsked, RegistersLaw, is
 use Rattle.sbp_world.specs.Pointers.Moments.{pointer_write, register_write}
 use Rattle.sbp_world.specs.Lists.Bases.{AreBased, BasesLaw}
 
-no : false ≡ true → ⊥
-no e = cc
-
 -- a response that is carried
 record Carries (seat : Seat) : Type 0 where
   response : LoginResponse
   is : carried seat ≡ Some response
 
 carries_by : (seat : Seat) (found : Option LoginResponse) → carried seat ≡ found → is_some found ≡ true → Carries seat
-carries_by seat None e f = absurd (no f)
+carries_by seat None e f = absurd (false≢true f)
 carries_by seat (Some response) e f = record { response = response; is = e }
 
 carries : (seat : Seat) → is_some (carried seat) ≡ true → Carries seat
@@ -39,14 +37,14 @@ seated (seats.Stuck origin) e = stuck origin e
     stuck : (origin : Origin) → is_seated (seats.Stuck origin) ≡ true → is_some (carried (seats.Stuck origin)) ≡ true
     stuck (origins.Live x) e = refl
     stuck (origins.Leaving response) e = refl
-    stuck (origins.Out out) e = absurd (no e)
-    stuck (origins.Entering entering) e = absurd (no e)
-    stuck (origins.Held response) e = absurd (no e)
-    stuck (origins.Returning response) e = absurd (no e)
-seated (seats.Out out) e = absurd (no e)
-seated (seats.Entering entering) e = absurd (no e)
-seated (seats.Held response) e = absurd (no e)
-seated (seats.Returning response) e = absurd (no e)
+    stuck (origins.Out out) e = absurd (false≢true e)
+    stuck (origins.Entering entering) e = absurd (false≢true e)
+    stuck (origins.Held response) e = absurd (false≢true e)
+    stuck (origins.Returning response) e = absurd (false≢true e)
+seated (seats.Out out) e = absurd (false≢true e)
+seated (seats.Entering entering) e = absurd (false≢true e)
+seated (seats.Held response) e = absurd (false≢true e)
+seated (seats.Returning response) e = absurd (false≢true e)
 
 are_based : (past : List Moment) (i : ℕ) (s : InitiatorState) → AreAtAgent past i s → HoldsLogin past i s → AreBased past i
 are_based past i s h k = record {

@@ -12,6 +12,7 @@ use Rattle.sbp_world.proofs.Hosts.SentMoments.{sending, sent_below, sent_there, 
 use Rattle.sbp_world.proofs.Lists.FedHeld.{IsNewer, pays_held, waits_since}
 use Rattle.sbp_world.proofs.Lists.ManageTerms.{same_some}
 use Rattle.sbp_world.proofs.Lists.StatusKnown.{Where, is_before, is_here, sent_where}
+use Rattle.sbp_world.proofs.Common.{none_is}
 
 -- what a label waits for
 pub record IsHeld (held : Held) (own : ℕ) : Type 0 where
@@ -76,8 +77,6 @@ begun_of (m ∷ past) c v k s e = by (waits_since (m ∷ []) past c v k s e) (λ
     by (inr n) again = at n again (sent_where m past c s n.packet n.sent)
 
 -- ---- the nodes of a transaction are those of the request that began it
-none_begun : {A : Type 0} (u : Transaction) → None ≡ Some u → A
-none_begun u e = absurd (let x : None ≡ Some u = e in cc)
 
 pub record IsTransactionOf (packet : Sending) (u : Transaction) : Type 0 where
   pub generation : u.generation ≡ packet.generation
@@ -88,12 +87,12 @@ asked_is : (part : Part) (packet : Sending) (u : Transaction) → asked_as part 
 asked_is (request label kind) packet u e =
     let same : between packet packet.from packet.to label ≡ u = same_some (between packet packet.from packet.to label) u e in
     record { generation = ap (λ (x : Transaction). x.generation) (sym same); requester = ap (λ (x : Transaction). x.requester) (sym same); responder = ap (λ (x : Transaction). x.responder) (sym same) }
-asked_is (response label kind) packet u e = none_begun u e
-asked_is no_packet packet u e = none_begun u e
+asked_is (response label kind) packet u e = none_is u e
+asked_is no_packet packet u e = none_is u e
 
 begun_is : (b : Bool) (packet : Sending) (u : Transaction) → begun_if b (asked_by packet) ≡ Some u → IsTransactionOf packet u
 unfolding asked_by
-begun_is true packet u e = none_begun u e
+begun_is true packet u e = none_is u e
 begun_is false packet u e = asked_is (part_of packet.bytes) packet u e
 
 pub transaction_of : (packet : Sending) (u : Transaction) → begun_by packet ≡ Some u → IsTransactionOf packet u

@@ -1,6 +1,7 @@
 -- Where lists are open as they should be, and each read was sent when the ORB of its slot had been appended, the response to a read that an agent has under
 -- way brings what the list holds.
 use Rattle.std.proofs.Common.{arith, ◌≡◌, ◌∙◌, sym, ap, subst, inl, inr, ◌<◌, ◌≤◌, ℕ, suc, Bool, true, false, List, length, Some}
+use Rattle.std.proofs.lemmas.Option.{same_Some}
 use Rattle.async_packet.specs.Labels.{LabelParts}
 use Rattle.async_packet.specs.Packet.{Packet, header_in}
 use Rattle.bus_transactions.specs.Wire.{as_sending}
@@ -48,12 +49,6 @@ block_of (asks.Read offset size) s fifo access a = ap (λ (x : Access). x.is_blo
 block_of (asks.Write offset size) s fifo access a = ap (λ (x : Access). x.is_block) a.0
 block_of asks.Nothing s fifo access a = absurd a
 
-same_node : (i j : ℕ) → Some i ≡ Some j → i ≡ j
-same_node i j e = cc
-
-same_packet : (p q : Sending) → Some p ≡ Some q → p ≡ q
-same_packet p q e = cc
-
 module _ (units ready : ℕ) (has : 0 < units) (start : List Disk) {past : List Moment} {lines : ℕ} (w : WorldState) (h : Holding units ready start past lines w) (s : Site start past w) (lists : OpenLists (hist past w) w) where
   abbrev ms : List Moment
   ms = hist past w
@@ -65,7 +60,7 @@ module _ (units ready : ℕ) (has : 0 < units) (start : List Disk) {past : List 
   pub read_prepared : (place : ℕ) → place < 8 → is_open_at w place ≡ true → initiator_in w place < length w.initiators → IsCalm ms (initiator_in w place) → (n : ℕ) → (holder w place).list ≡ Some n → (ended k : ℕ) → ended ≡ ends ms (initiator_in w place) n → IsIn ms (initiator_in w place) n (machine_at w place).phase ended k → IsPrepared ms (initiator_in w place) (slot_at ms (initiator_in w place) n k) n k
   read_prepared place b opened inside calm n list ended k is (inl (low, high)) =
       let o = lists.listed place b opened calm in
-      let same : o.n ≡ n = same_node o.n n (sym o.list ∙ list) in
+      let same : o.n ≡ n = same_Some o.n n (sym o.list ∙ list) in
       let from : ends ms (initiator_in w place) n ≤ k = omega arith in
       let named : (j : ℕ) → ends ms (initiator_in w place) n ≤ j → j < linked ms (initiator_in w place) n → IsNamed ms w place n j = subst (λ x. (j : ℕ) → ends ms (initiator_in w place) x ≤ j → j < linked ms (initiator_in w place) x → IsNamed ms w place x j) same o.named in
       named_prepared units ready has start w h s place n k inside (named k from high)
@@ -89,7 +84,7 @@ module _ (units ready : ℕ) (has : 0 < units) (start : List Disk) {past : List 
     asked = agent_waiting units ready has start w h s place b which request waits
 
     from_is : sent.from ≡ suc i
-    from_is = same_node sent.from (suc i) (sym (request_to units ready has start w h s.agents.requests s.agents.are s.agents.known s.asked f.serial sent f.found f.to packet label place found) ∙ asked.to)
+    from_is = same_Some sent.from (suc i) (sym (request_to units ready has start w h s.agents.requests s.agents.are s.agents.known s.asked f.serial sent f.found f.to packet label place found) ∙ asked.to)
 
     calm_from : t.injects sent.from ≡ false
     calm_from = ap t.injects from_is ∙ calm
@@ -103,7 +98,7 @@ module _ (units ready : ℕ) (has : 0 < units) (start : List Disk) {past : List 
     responds : asked.access.is_write ≡ false → (bytes : List ℕ) → answer_in packet ≡ Payload bytes → IsResponse ms i f.serial request asked.access bytes
     responds reads bytes e = record {
       own = λ q there.
-          let same : q ≡ as_sending sent = same_packet q (as_sending sent) (sym there ∙ was_sent w h.sound.stands f.serial sent f.found) in
+          let same : q ≡ as_sending sent = same_Some q (as_sending sent) (sym there ∙ was_sent w h.sound.stands f.serial sent f.found) in
           s.none i asked.inside calm f.serial q there (ap (λ (x : Sending). x.from) same ∙ from_is);
       answers = answers units ready has start w h s.agents.requests s.agents.are s.agents.known s.asked f.serial sent f.found f.to packet label place found calm_from;
       of_initiator = asked.to;

@@ -38,6 +38,7 @@ use Rattle.sbp_world.specs.Agents.AskedRuns.{IsAccessFor, read_access}
 use Rattle.sbp_world.specs.Hosts.Carrying.{Follows, HoldsTable, IsOfOrb, IsOrbOf as IsBytesOf, LeadsOn}
 use Rattle.sbp_world.specs.Hosts.Orbs.{orb_for}
 use Rattle.sbp_world.specs.Lists.Lists.{IsBufferOf, IsDataIn, IsDataOf, IsOrbOf, orbs}
+use Rattle.sbp_world.proofs.Common.{no_bytes}
 
 -- ---- an answer that brings bytes
 abbrev ok_bytes : List ℕ → Result (List ℕ) FailCause
@@ -84,12 +85,8 @@ goes_on held bytes all c e f =
     let whole : held ++ bytes ≡ take (length held + c) all = ap (λ xs. xs ++ bytes) e ∙ ap (λ ys. take (length held) all ++ ys) f ∙ joined (length held) c all in
     whole ∙ (sym (take_length (length held + c) all) ∙ ap (λ xs. take (length xs) all) (sym whole))
 
-none_long : (xs : List ℕ) → length xs ≡ 0 → xs ≡ []
-none_long [] e = refl
-none_long (x ∷ xs) e = absurd (omega arith)
-
 none_more : (held bytes : List ℕ) → length bytes ≡ 0 → length (held ++ bytes) ≡ length held
-none_more held bytes e = ap (λ ys. length (held ++ ys)) (none_long bytes e) ∙ ap (λ ys. length ys) (append-nil held)
+none_more held bytes e = ap (λ ys. length (held ++ ys)) (no_bytes bytes e) ∙ ap (λ ys. length ys) (append-nil held)
 
 -- ---- a chunk that is cut short follows the bytes in front of it still
 address_take : (o c j : ℕ) → take j (addresses o c) ≡ addresses o (min j c)
@@ -220,7 +217,7 @@ module _ (past : List Moment) (i n : ℕ) where
           let none : taken.length ≡ 0 = grind (arith, nat_tests) in
           let so_far = data_of p m wanted f in
           record {
-            first = goes_on m.payload bytes own.cmd.payload 0 so_far.first (none_long bytes (pay.size_is ∙ none));
+            first = goes_on m.payload bytes own.cmd.payload 0 so_far.first (no_bytes bytes (pay.size_is ∙ none));
             outward = λ some. so_far.outward (subst (λ n. 0 < n) (none_more m.payload bytes (pay.size_is ∙ none)) some);
           }
       by false z =

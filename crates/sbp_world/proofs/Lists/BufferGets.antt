@@ -2,7 +2,7 @@
 use Rattle.std.proofs.Common.{arith, ◌≡◌, ◌∙◌, refl, sym, ap, subst, ℕ, zero, suc, ◌+◌, ◌≤◌, nat_eq, Bool, true, false, cond, List, [], ◌∷◌, ◌++◌, Option, Some, None, Result, Ok, Err, append_assoc}
 use Rattle.std.proofs.lemmas.Bool.Decides.{nat_tests}
 use Rattle.async_packet.specs.declared.fault.PacketFault.{PacketFault}
-use Rattle.async_packet.specs.Packet.{Packet, lock, lock_response, read_block, read_block_response, read_quadlet, read_quadlet_response, write_block, write_quadlet, write_response}
+use Rattle.async_packet.specs.Packet.{Packet}
 use Rattle.async_packet.specs.Reading.{reading}
 use Rattle.bus_transactions.specs.Judging.{AreJudged}
 use Rattle.bus_transactions.specs.Packets.{SerialsCount}
@@ -10,7 +10,6 @@ use Rattle.sbp_world.specs.Hosts.Sources.{AllOfTarget}
 use Rattle.sbp_world.proofs.Hosts.Prepares.{itself}
 use Rattle.sbp_world.proofs.Hosts.Remaining.{remains, serials_behind}
 use Rattle.sbp_world.proofs.Hosts.SentMoments.{WasSent, count_now, sent_below, sent_moment, serials_from}
-use Rattle.initiator_base.specs.Places.{reads_rom}
 use Rattle.rbc_disk.specs.Disk.{Disk}
 use Rattle.sbp_journal.specs.Addresses.{Access, access_of}
 use Rattle.sbp_journal.specs.Run.{Moment, asked, said}
@@ -26,7 +25,6 @@ use Rattle.sbp_world.specs.Lists.ManagedFor.{is_its_packet, managed_for, operati
 use Rattle.sbp_world.specs.Lists.Responding.{BufferSo, IsReplying, IsResponseOf}
 use Rattle.sbp_world.proofs.Lists.BufferStores.{IsStoring}
 use Rattle.sbp_world.proofs.Lists.Calm.{injects_before}
-use Rattle.sbp_world.proofs.Lists.Generations.{not_lower}
 use Rattle.sbp_world.proofs.Lists.ManageGot.{IsWriting, writing_in}
 use Rattle.sbp_world.proofs.Lists.ManageKnown.{current_of}
 use Rattle.sbp_world.proofs.Lists.ManageSends.{opened_terms, sent_terms}
@@ -35,14 +33,10 @@ use Rattle.sbp_world.proofs.Lists.ManageWire.{WireMoments}
 use Rattle.sbp_world.proofs.Lists.OpenNews.{all_grow, got_more}
 use Rattle.sbp_world.proofs.Lists.PlacedOps.{each_from}
 use Rattle.sbp_world.proofs.Lists.Rises.{Rises}
+use Rattle.sbp_world.proofs.Lists.OpenedGrown.{not_fallen}
+use Rattle.sbp_world.proofs.Lists.StatusKnown.{writes_no_rom}
 
 -- ---- what stays of a packet that was sent
-generations_grow : (node : ℕ) (later past : List Moment) → Rises (later ++ past) → (terms past).generation node ≤ (terms (later ++ past)).generation node
-generations_grow node [] past r = omega arith
-generations_grow node (m ∷ later) past r =
-    let a = generations_grow node later past r.1 in
-    let b = not_lower node m (later ++ past) r.0 in
-    omega (arith, a, b)
 
 managed_stays : (start : List Disk) (later past : List Moment) (serial : ℕ) → SerialsCount (later ++ past) → serial ≤ (terms past).count → managed_for start (later ++ past) serial ≡ managed_for start past serial
 managed_stays start [] past serial c l = refl
@@ -96,17 +90,6 @@ pub read_of : (sent : Option Sending) (access : Access) → access_in (packet_in
 read_of None access e = none_is access e
 read_of (Some packet) access e = read_by packet access (reading packet.bytes) refl e
 
-no_rom : (p : Packet) (access : Access) → access_of p ≡ Some access → access.is_write ≡ true → reads_rom p ≡ false
-no_rom (write_quadlet header offset value) access e w = refl
-no_rom (write_block header offset payload) access e w = refl
-no_rom (read_quadlet header offset) access e w = untrue (ap (λ (a : Access). a.is_write) (same_some _ access e) ∙ w)
-no_rom (read_block header offset count) access e w = untrue (ap (λ (a : Access). a.is_write) (same_some _ access e) ∙ w)
-no_rom (lock header offset extended payload) access e w = refl
-no_rom (write_response header rcode) access e w = refl
-no_rom (read_quadlet_response header rcode value) access e w = refl
-no_rom (read_block_response header rcode payload) access e w = refl
-no_rom (lock_response header rcode extended payload) access e w = refl
-
 got_source : (past : List Moment) (i : ℕ) (front earlier : List Moment) (serial : ℕ) → front ++ said (notes.Got serial) ∷ earlier ≡ past → AllOfTarget past i → AllOfTarget (said (notes.Got serial) ∷ earlier) i
 got_source past i front earlier serial e a = peel front (subst (λ ms. AllOfTarget ms i) (sym e) a)
   where
@@ -120,14 +103,14 @@ pub to_there : (so : Option Sending) (n : ℕ) (q : Sending) → so ≡ Some q �
 to_there None n q e f = none_is q e
 to_there (Some packet) n q e f = ap (λ (x : Sending). x.to) (sym (same_some packet q e)) ∙ (let same : packet.to ≡ n = grind (arith, nat_tests) in same)
 
-judged_from : (front past : List Moment) → AreJudged (front ++ past) → AreJudged past
+pub judged_from : (front past : List Moment) → AreJudged (front ++ past) → AreJudged past
 judged_from [] past a = a
 judged_from (said (notes.Got other) ∷ front) past a = judged_from front past a.1
 judged_from (said (notes.Ignored other cause) ∷ front) past a = judged_from front past a.1
 judged_from (said note ∷ front) past a = judged_from front past a
 judged_from (asked line event ∷ front) past a = judged_from front past a
 
-fair_back : (front past : List Moment) (n : ℕ) → (terms (front ++ past)).injects n ≡ false → (terms past).injects n ≡ false
+pub fair_back : (front past : List Moment) (n : ℕ) → (terms (front ++ past)).injects n ≡ false → (terms past).injects n ≡ false
 fair_back [] past n e = e
 fair_back (m ∷ front) past n e = fair_back front past n (injects_before m (front ++ past) n e)
 
@@ -166,9 +149,9 @@ module _ (start : List Disk) (i : ℕ) (before now : List Moment) (later : List 
 
   generation_mid : (terms mid).generation (suc i) ≡ (terms before).generation (suc i)
   generation_mid =
-      let a = generations_grow (suc i) back before rise_mid in
+      let a = not_fallen (suc i) back before rise_mid in
       let a_is = ap (λ ms. (terms ms).generation (suc i)) mid_is in
-      let b = generations_grow (suc i) (front ++ said (notes.Got serial) ∷ []) mid (subst Rises (sym (append_assoc front (said (notes.Got serial) ∷ []) mid ∙ is)) rise) in
+      let b = not_fallen (suc i) (front ++ said (notes.Got serial) ∷ []) mid (subst Rises (sym (append_assoc front (said (notes.Got serial) ∷ []) mid ∙ is)) rise) in
       let b_is = ap (λ ms. (terms ms).generation (suc i)) (append_assoc front (said (notes.Got serial) ∷ []) mid ∙ is) in
       omega (arith, a, a_is, b, b_is, same)
 
@@ -184,7 +167,7 @@ module _ (start : List Disk) (i : ℕ) (before now : List Moment) (later : List 
 
   from_is : q.from ≡ 0
   from_is =
-      (got_source now i front mid serial is sources).0 q read.p storing.access sent_mid to_is (ap (λ (x : Sending). reading x.bytes) (sym packet_is) ∙ read.read) read.asks (no_rom read.p storing.access read.asks storing.writes)
+      (got_source now i front mid serial is sources).0 q read.p storing.access sent_mid to_is (ap (λ (x : Sending). reading x.bytes) (sym packet_is) ∙ read.read) read.asks (writes_no_rom read.p storing.access read.asks storing.writes)
 
   spelled : access_in_bytes q.bytes ≡ Some storing.access
   spelled = ap (λ (x : Sending). access_in_bytes x.bytes) (sym packet_is) ∙ (ap (λ r. access_in (spelled_by r)) read.read ∙ read.asks)
@@ -216,7 +199,7 @@ module _ (start : List Disk) (i : ℕ) (before now : List Moment) (later : List 
 
   generation_there : (terms was.before).generation (suc i) ≤ q.generation
   generation_there =
-      let a = generations_grow (suc i) (was.later ++ sending ∷ []) was.before (subst Rises (sym (append_assoc was.later (sending ∷ []) was.before ∙ was.is)) rise_before) in
+      let a = not_fallen (suc i) (was.later ++ sending ∷ []) was.before (subst Rises (sym (append_assoc was.later (sending ∷ []) was.before ∙ was.is)) rise_before) in
       let a_is = ap (λ ms. (terms ms).generation (suc i)) (append_assoc was.later (sending ∷ []) was.before ∙ was.is) in
       let c = current in
       omega (arith, a, a_is, c)

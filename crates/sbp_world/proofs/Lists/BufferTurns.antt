@@ -38,10 +38,7 @@ use Rattle.sbp_world.proofs.Lists.LiveTold.{AllAway, IsOwnPacket, TellsAway}
 use Rattle.sbp_world.proofs.Lists.LiveTurns.{SameBus}
 use Rattle.sbp_world.proofs.Lists.ManageWire.{WireMoments, wire_moments}
 use Rattle.sbp_world.proofs.Lists.Rises.{Rises, rises}
-
-split : (a b : List Note) (past : List Moment) → map said (a ++ b) ++ past ≡ map said a ++ (map said b ++ past)
-split [] b past = refl
-split (n ∷ a) b past = ap (λ ms. said n ∷ ms) (split a b past)
+use Rattle.sbp_world.proofs.Common.{said_split}
 
 -- ---- by the notes of a turn
 -- the history with which it begins
@@ -122,7 +119,7 @@ module _ (units ready : ℕ) (start : List Disk) (past : List Moment) (s : Scene
   stands = h_now.sound.stands
 
   now_is : now ≡ map said away.more ++ base
-  now_is = ap (λ ns. map said ns ++ later) away.is ∙ split away.more (base_of g) later
+  now_is = ap (λ ns. map said ns ++ later) away.is ∙ said_split away.more (base_of g) later
 
   generation_same : (terms now).generation (suc i) ≡ (terms before).generation (suc i)
   generation_same = wire_generation v h_now.sound.stands (suc i) (omega arith) ∙ (bus.own ∙ sym (wire_generation w h.sound.stands (suc i) (omega arith)))
@@ -157,7 +154,7 @@ module _ (units ready : ℕ) (start : List Disk) (past : List Moment) (s : Scene
         by (inr x) = absurd (apart (ap is_responding (sym phase) ∙ ((replied x.serial (got_replying x)).waits op is same source).0))
 
 -- ---- the buffers of the memory are those of the history
-place_small : (running : Running) → place_in running < 2
+pub place_small : (running : Running) → place_in running < 2
 place_small running = omega arith
 
 pub buffers_same : (old new : List Moment) (i : ℕ) (s t : InitiatorState) → HoldsLogin old i s → HoldsLogin new i t → (host_at new i).responses ≡ (host_at old i).responses → (running : Running) → response_of running t ≡ response_of running s

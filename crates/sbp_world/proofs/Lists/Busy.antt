@@ -1,6 +1,7 @@
 -- An agent that has an ORB which has not ended has it still behind a step, or the step ends it. One that has a list open, and no such ORB, is on a list of
 -- which some ended.
 use Rattle.std.proofs.Common.{◌≡◌, refl, sym, inl, inr, ◌⊎◌, arith, ◌==◌, ◌+◌, ◌*◌, ℕ, is_some, Bool, true, false, cond, List, ◌++◌, length, Option, Some, None, Result, Ok, Err}
+use Rattle.std.proofs.lemmas.Bool.{false≢true}
 use Rattle.orb_layout.specs.declared.ask.FailCause.{FailCause}
 use Rattle.orb_layout.specs.declared.ask.FailCause.TheVariants as causes
 use Rattle.orb_layout.specs.declared.pointer.OrbPointer.{OrbPointer}
@@ -30,9 +31,6 @@ use Rattle.agent_laws.specs.Along.Along.{Along, Knows, Progress}
 use Rattle.agent_laws.specs.Along.Lists.{OrbList}
 use Rattle.sbp_world.specs.Agents.Alike.{has_list}
 
-no : false ≡ true → ⊥
-no e = cc
-
 -- an ORB is read, reads its data or is answered: it has not ended
 abbrev pub is_busy : Phase → Bool
 is_busy phases.Fetching = true
@@ -42,8 +40,8 @@ is_busy phases.Answering = true
 is_busy _ = false
 
 pub busy_list : (phase : Phase) → is_busy phase ≡ true → has_list phase ≡ true
-busy_list phases.Reset e = absurd (no e)
-busy_list phases.Dead e = absurd (no e)
+busy_list phases.Reset e = absurd (false≢true e)
+busy_list phases.Dead e = absurd (false≢true e)
 busy_list phases.Fetching e = refl
 busy_list phases.ReadingTable e = refl
 busy_list (phases.ReadingData wanted) e = refl
@@ -55,12 +53,12 @@ busy_list phases.Suspended e = refl
 
 -- ---- a list of which some ended
 some_in : (l : OrbList) (p : Progress) (phase : Phase) (m : Machine) → has_list phase ≡ true → is_busy phase ≡ false → Knows l p phase m → p.ended ≡ 0 → ⊥
-some_in l p phases.Reset m h b k z = no h
-some_in l p phases.Dead m h b k z = no h
-some_in l p phases.Fetching m h b k z = no (sym b)
-some_in l p phases.ReadingTable m h b k z = no (sym b)
-some_in l p (phases.ReadingData wanted) m h b k z = no (sym b)
-some_in l p phases.Answering m h b k z = no (sym b)
+some_in l p phases.Reset m h b k z = false≢true h
+some_in l p phases.Dead m h b k z = false≢true h
+some_in l p phases.Fetching m h b k z = false≢true (sym b)
+some_in l p phases.ReadingTable m h b k z = false≢true (sym b)
+some_in l p (phases.ReadingData wanted) m h b k z = false≢true (sym b)
+some_in l p phases.Answering m h b k z = false≢true (sym b)
 some_in l p phases.WritingStatus m h b k z = let e = k.over.ended in omega (arith, e, z)
 some_in l p phases.WritingLastStatus m h b k z = let e = k.over.ended in omega (arith, e, z)
 some_in l p phases.ReadingNext m h b k z = let e = k.over.ended in omega (arith, e, z)
@@ -155,12 +153,12 @@ moves_on phases.Fetching m answer b = orbs_read m (payload_of answer 32)
 moves_on phases.ReadingTable m answer b = tables m (payload_of answer (8 * m.orb.data_size))
 moves_on (phases.ReadingData wanted) m answer b = data_reads m wanted (payload_of answer (chunk_of m (length m.payload) wanted).length)
 moves_on phases.Answering m answer b = chunks m (write_failure answer)
-moves_on phases.WritingStatus m answer b = absurd (no b)
-moves_on phases.ReadingNext m answer b = absurd (no b)
-moves_on phases.WritingLastStatus m answer b = absurd (no b)
-moves_on phases.Reset m answer b = absurd (no b)
-moves_on phases.Suspended m answer b = absurd (no b)
-moves_on phases.Dead m answer b = absurd (no b)
+moves_on phases.WritingStatus m answer b = absurd (false≢true b)
+moves_on phases.ReadingNext m answer b = absurd (false≢true b)
+moves_on phases.WritingLastStatus m answer b = absurd (false≢true b)
+moves_on phases.Reset m answer b = absurd (false≢true b)
+moves_on phases.Suspended m answer b = absurd (false≢true b)
+moves_on phases.Dead m answer b = absurd (false≢true b)
 
 serves : (place : ℕ) (plain : PlainDisk) (told : Told) (move : Move) (m : Machine) → MoveBusy (move, m) → StaysBusy (served place plain told move m)
 serves place plain told (moves.Send step) m h = h
@@ -186,12 +184,12 @@ loses phases.Fetching m cause b = ends m kinds.Failed (Some cause)
 loses phases.ReadingTable m cause b = ends m kinds.Failed (Some cause)
 loses (phases.ReadingData wanted) m cause b = ends m kinds.Failed (Some cause)
 loses phases.Answering m cause b = ends m kinds.Failed (Some cause)
-loses phases.WritingStatus m cause b = absurd (no b)
-loses phases.ReadingNext m cause b = absurd (no b)
-loses phases.WritingLastStatus m cause b = absurd (no b)
-loses phases.Reset m cause b = absurd (no b)
-loses phases.Suspended m cause b = absurd (no b)
-loses phases.Dead m cause b = absurd (no b)
+loses phases.WritingStatus m cause b = absurd (false≢true b)
+loses phases.ReadingNext m cause b = absurd (false≢true b)
+loses phases.WritingLastStatus m cause b = absurd (false≢true b)
+loses phases.Reset m cause b = absurd (false≢true b)
+loses phases.Suspended m cause b = absurd (false≢true b)
+loses phases.Dead m cause b = absurd (false≢true b)
 
 pub lost_busy : (m : Machine) (which : Which) (cause : FailCause) → is_busy m.phase ≡ true → StaysBusy (lost_step m which cause)
 unfolding lost_step

@@ -41,6 +41,7 @@ use Rattle.command_agent.specs.declared.phase.Phase.TheVariants as phases
 use Rattle.sbp_world.proofs.Lists.Follows.{AreSame}
 use Rattle.sbp_world.proofs.Lists.Kept.{IsBeside}
 use Rattle.sbp_world.proofs.Lists.Full.{IsClosed}
+use Rattle.sbp_world.proofs.Lists.StatusRests.{map_agents}
 
 desk_either : (desks : List Desk) (k p : ℕ) (d : Desk) → ((p ≡ k) × (slice_index_or (slice_set desks k d) p new_desk ≡ d)) ⊎ (slice_index_or (slice_set desks k d) p new_desk ≡ slice_index_or desks p new_desk)
 desk_either [] k p d = inr refl
@@ -53,11 +54,6 @@ desk_either (x ∷ desks) (suc k) (suc p) d = by (desk_either desks k p d)
     by (inl h) = inl (ap suc h.0, h.1)
     by (inr h) = inr h
 
-map_agents : (desks : List Desk) (p : ℕ) → (slice_index_or (map disabled desks) p new_desk).agent ≡ (slice_index_or desks p new_desk).agent
-map_agents [] p = refl
-map_agents (d ∷ desks) zero = refl
-map_agents (d ∷ desks) (suc p) = map_agents desks p
-
 abbrev Here : NodeState → ℕ → Machine
 Here node p = (desk_at node p).agent
 
@@ -69,7 +65,7 @@ abort_phase : (m : Machine) (orb : ℕ) → (abort_step m orb).phase ≡ m.phase
 unfolding abort_step
 abort_phase m orb = refl
 
-in_reset : (phase : Phase) → is_reset (state_in phase) ≡ true → phase ≡ phases.Reset
+pub in_reset : (phase : Phase) → is_reset (state_in phase) ≡ true → phase ≡ phases.Reset
 in_reset phases.Reset e = refl
 in_reset phases.Dead e = absurd (let no : false ≡ true = e in cc)
 in_reset phases.Fetching e = absurd (let no : false ≡ true = e in cc)
@@ -111,7 +107,7 @@ plain_more : (told : List Side) (place : ℕ) (cause : CutCause) → AreCuts tol
 plain_more [] place cause a = (tt, tt)
 plain_more (one ∷ later) place cause a = (a.0, plain_more later place cause a.1)
 
-joined : (a b c : List Side) → (a ++ b) ++ c ≡ a ++ (b ++ c)
+pub joined : (a b c : List Side) → (a ++ b) ++ c ≡ a ++ (b ++ c)
 joined [] b c = refl
 joined (m ∷ a) b c = ap (λ ms. m ∷ ms) (joined a b c)
 

@@ -1,5 +1,6 @@
 -- A packet that the target gets, and a time-out: each agent stays in its phase or is cut; or the agent of one place makes a step, or is pointed to an ORB.
-use Rattle.std.proofs.Common.{◌≡◌, ◌∙◌, refl, sym, ap, subst, inl, ◌<◌, ℕ, Bool, true, false, cond, List, [], length, Option, Some, None, Result, Ok, Err}
+use Rattle.std.proofs.Common.{◌≡◌, refl, sym, ap, subst, inl, ◌<◌, ℕ, Bool, true, false, cond, List, [], length, Option, Some, None, Result, Ok, Err}
+use Rattle.std.proofs.lemmas.Bool.{false≢true}
 use Rattle.async_packet.specs.Labels.{LabelParts}
 use Rattle.async_packet.specs.Packet.{Packet, header_in}
 use Rattle.label_table.specs.Layer.{Finding, Layer, judging_step, of_again, of_generation, of_grammar, of_label, of_request, of_response}
@@ -37,11 +38,9 @@ use Rattle.sbp_target.proofs.Histories.Calling.{Good}
 use Rattle.sbp_target.proofs.Histories.Settled.{reaches}
 use Rattle.command_agent.specs.Machine.{Machine, is_ahead, is_sent}
 use Rattle.command_agent.specs.declared.step.Which.TheVariants.{Ahead, Main}
-use Rattle.command_agent.specs.declared.phase.Phase.{Phase}
 use Rattle.command_agent.specs.declared.phase.Phase.TheVariants as phases
 use Rattle.sbp_target.specs.Desks.{is_that, pointed_desk}
 use Rattle.sbp_target.proofs.Histories.Calling.{not_eight}
-use Rattle.sbp_target.proofs.Histories.Stepped.{is_bare}
 use Rattle.sbp_world.specs.Agents.Alike.{has_list}
 use Rattle.sbp_world.proofs.Agents.AskedLate.{ahead_of, main_of}
 use Rattle.sbp_target.specs.Nodes.{with_desk}
@@ -50,19 +49,11 @@ use Rattle.sbp_world.proofs.Lists.Turns.{sent_has}
 use Rattle.sbp_world.proofs.Lists.BusyCuts.{Cutting, First, answers, cuts_one, desk_more, manages, same_desks, sees, starts, ticks}
 use Rattle.sbp_world.proofs.Lists.BusyFollows.{Acts}
 use Rattle.sbp_world.proofs.Lists.BusyTurns.{M, first, late_acts, reply_acts, rung_acts, silent_rests, taken_acts, there}
-use Rattle.sbp_world.proofs.Lists.OpenTurns.{AreSeated, refused, waits_place}
+use Rattle.sbp_world.proofs.Lists.OpenTurns.{AreSeated, refused, waits_place, ahead_lists}
 use Rattle.sbp_world.proofs.Lists.Busy.{is_busy}
 use Rattle.sbp_target.specs.Serving.{ring}
 use Rattle.sbp_target.specs.Receiving.{seen, ticked}
 use Rattle.sbp_world.proofs.Lists.Full.{IsClosed}
-
-no : false ≡ true → ⊥
-no e = cc
-
-ahead_lists : (phase : Phase) (x : Bool) → (is_bare phase ≡ true → x ≡ false) → x ≡ true → has_list phase ≡ true
-ahead_lists phases.Reset x f e = absurd (no (sym (f refl) ∙ e))
-ahead_lists phases.Dead x f e = absurd (no (sym (f refl) ∙ e))
-ahead_lists _ x f e = refl
 
 module _ (w : WorldState) (g : Good w.target) (Given : Type 0) (F : ℕ → Machine → Type 0) (closed : IsClosed F) where
   -- what a call does

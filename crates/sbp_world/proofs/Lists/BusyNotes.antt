@@ -1,7 +1,7 @@
 -- What is told of the steps of the agent of a place, by the history: the ORBs of other initiators ran as often as before, and an end is one of its initiator.
-use Rattle.std.proofs.Common.{◌≡◌, ◌∙◌, refl, sym, ap, subst, ℕ, true, false, List, [], ◌∷◌, Option, Some, None}
-use Rattle.sbp_bus.specs.declared.places.Holder.{Holder}
-use Rattle.sbp_bus.specs.Places.{holder_at, opened_by, opened_step, or_nobody, place_in}
+use Rattle.std.proofs.Common.{◌≡◌, ◌∙◌, refl, sym, ap, subst, ℕ, List, [], ◌∷◌}
+use Rattle.std.proofs.lemmas.Bool.{false≢true}
+use Rattle.sbp_bus.specs.Places.{holder_at, opened_step}
 use Rattle.sbp_bus.specs.Telling.{list_in, orb_in}
 use Rattle.sbp_bus.specs.Words.{check_of}
 use Rattle.sbp_journal.specs.declared.side.Side.{Side}
@@ -12,22 +12,8 @@ use Rattle.sbp_world.specs.Telling.{holder, ticket_at, told, told_all}
 use Rattle.sbp_world.specs.Worlds.{WorldState}
 use Rattle.sbp_world.proofs.Agents.Management.Still.{hist}
 use Rattle.sbp_world.proofs.Lists.BusyFollows.{AreOf, IsOf}
-use Rattle.sbp_world.proofs.Lists.OpenPlaces.{opened_here}
 use Rattle.sbp_world.proofs.Lists.Running.{runs_other}
-
-no : false ≡ true → ⊥
-no e = cc
-
-opened_initiator : (places : List (Option Holder)) (q : ℕ) (list : Option ℕ) → (holder_at (opened_step q list places) q).initiator ≡ (holder_at places q).initiator
-unfolding opened_step
-opened_initiator places q list = by (place_in places q) refl
-  where
-    none : place_in places q ≡ None → opened_step q list places ≡ places
-    none e = ap (λ (x : Option Holder). opened_by x q list places) e
-
-    by : (x : Option Holder) → place_in places q ≡ x → (holder_at (opened_step q list places) q).initiator ≡ (holder_at places q).initiator
-    by None e = ap (λ ps. (holder_at ps q).initiator) (none e)
-    by (Some h) e = ap (λ (x : Option Holder). (or_nobody x).initiator) (opened_here places q list h e) ∙ sym (ap (λ (x : Option Holder). (or_nobody x).initiator) e)
+use Rattle.sbp_world.proofs.Lists.StatusTold.{opened_initiator}
 
 module _ (past : List Moment) (q : ℕ) where
   -- who has the place is the same initiator

@@ -1,6 +1,5 @@
 -- What the target tells of cuts and of the steps of an agent, by the history: a list that was cut is cut from then on; other initiators' ORBs ran as often as before.
-use Rattle.std.proofs.Common.{arith, ◌≡◌, ◌∙◌, refl, sym, ap, subst, ℕ, nat_eq, Bool, true, false, cond, List, [], ◌∷◌, ◌++◌, Option, Some, None}
-use Rattle.std.proofs.lemmas.Bool.Decides.{nat_tests}
+use Rattle.std.proofs.Common.{◌≡◌, ◌∙◌, refl, sym, ap, subst, ℕ, nat_eq, Bool, true, false, cond, List, [], ◌∷◌, ◌++◌, Option, Some, None}
 use Rattle.sbp_bus.specs.declared.places.Holder.{Holder}
 use Rattle.sbp_bus.specs.Places.{holder_at}
 use Rattle.sbp_journal.specs.declared.cause.CutCause.{CutCause}
@@ -14,12 +13,11 @@ use Rattle.sbp_world.specs.Telling.{holder, told, told_all}
 use Rattle.sbp_world.specs.Worlds.{WorldState}
 use Rattle.sbp_world.proofs.Agents.Management.Still.{hist}
 use Rattle.sbp_world.proofs.Lists.BusyCuts.{AreBeside, AreCuts, WasCut}
-
-itself : (a : ℕ) → nat_eq a a ≡ true
-itself a = grind (arith, nat_tests)
+use Rattle.sbp_world.proofs.Lists.Endless.{told_both}
+use Rattle.sbp_world.proofs.Common.{itself}
 
 -- ---- cuts
-still_cut : (x y c : Bool) → c ≡ true → cond x (cond y true c) c ≡ true
+pub still_cut : (x y c : Bool) → c ≡ true → cond x (cond y true c) c ≡ true
 still_cut true true c e = refl
 still_cut true false c e = e
 still_cut false y c e = e
@@ -57,11 +55,6 @@ module _ (past : List Moment) where
   all_cut i n [] w h e = e
   all_cut i n (one ∷ later) w h e = all_cut i n later (told 0 one w) h.1 (one_cut i n one w (h.0, tt) e)
 
-  told_split : (a b : List Side) (w : WorldState) → told_all 0 (a ++ b) w ≡ told_all 0 b (told_all 0 a w)
-  unfolding told_all
-  told_split [] b w = refl
-  told_split (one ∷ a) b w = told_split a b (told 0 one w)
-
   cuts_places : (side : List Side) (w : WorldState) → AreCuts side → (told_all 0 side w).places ≡ w.places
   unfolding told_all told
   cuts_places [] w h = refl
@@ -96,7 +89,7 @@ module _ (past : List Moment) where
       let x = told 0 (sides.Cut p c.cause) v in
       let now : is_cut (hist past x) (holder v p).initiator n ≡ true = cut_here (holder v p).initiator n (holder v p).list c.cause (hist past v) (ap (λ (k : Holder). k.list) at ∙ e) in
       let here : is_cut (hist past x) (holder u p).initiator n ≡ true = ap (λ (k : Holder). is_cut (hist past x) k.initiator n) (sym at) ∙ now in
-      let is : told_all 0 side u ≡ told_all 0 c.back x = ap (λ ss. told_all 0 ss u) c.is ∙ told_split c.front rest u in
+      let is : told_all 0 side u ≡ told_all 0 c.back x = ap (λ ss. told_all 0 ss u) c.is ∙ told_both c.front rest u in
       ap (λ (y : WorldState). is_cut (hist past y) (holder u p).initiator n) is ∙ all_cut (holder u p).initiator n c.back x behind.1 here
 
   -- ---- runs

@@ -1,7 +1,8 @@
 -- What a call of the target makes of its agents: each stays in its phase or is cut; or the agent of one place makes a step, and has its ORB still, or an end of
 -- it is told; or a pointer is taken at one place.
-use Rattle.std.proofs.Common.{◌≡◌, ◌∙◌, refl, sym, ap, subst, inl, inr, ◌⊎◌, ◌<◌, ℕ, is_some, Bool, true, false, List, [], length, Option, Some, None, Result, Ok, Err, arith}
+use Rattle.std.proofs.Common.{◌≡◌, ◌∙◌, refl, sym, ap, subst, inl, inr, ◌⊎◌, ◌<◌, ℕ, is_some, Bool, true, false, List, [], length, Option, Some, None, Result, Ok, arith}
 use Rattle.std.proofs.Math.ListN.{length-set}
+use Rattle.std.proofs.lemmas.Bool.{false≢true}
 use Rattle.async_packet.specs.Packet.{Packet, header_in}
 use Rattle.label_table.specs.Layer.{Layer, answering_step}
 use Rattle.login_table.specs.declared.login.Login.{Login}
@@ -46,41 +47,23 @@ use Rattle.sbp_world.proofs.Lists.StepsUp.{IsUp, doorbell_up, lost_up, point_up,
 use Rattle.sbp_world.proofs.Lists.BusyFollows.{Acts, Steps, alike, announce_from_acts, asks_acts, follow_acts}
 use Rattle.sbp_world.proofs.Lists.Follows.{AreSame, are_self, set_here, set_there}
 use Rattle.sbp_world.proofs.Lists.Full.{IsClosed}
-
-no : false ≡ true → ⊥
-no e = cc
+use Rattle.sbp_world.proofs.Lists.Pointers.{not_taken, deaf_by}
 
 -- ---- a doorbell
 rings_in : (phase : Phase) (m : Machine) → is_busy phase ≡ true → is_busy (doorbell_step (record m { phase = phase })).1.phase ≡ true
 unfolding doorbell_step
-rings_in phases.Reset m e = absurd (no e)
-rings_in phases.Dead m e = absurd (no e)
+rings_in phases.Reset m e = absurd (false≢true e)
+rings_in phases.Dead m e = absurd (false≢true e)
 rings_in phases.Fetching m e = refl
 rings_in phases.ReadingTable m e = refl
 rings_in (phases.ReadingData wanted) m e = refl
 rings_in phases.Answering m e = refl
-rings_in phases.WritingStatus m e = absurd (no e)
-rings_in phases.WritingLastStatus m e = absurd (no e)
-rings_in phases.ReadingNext m e = absurd (no e)
-rings_in phases.Suspended m e = absurd (no e)
-
--- one that nobody hears
-silent_by : (phase : Phase) (m : Machine) → has_list phase ≡ false → doorbell_step (record m { phase = phase }) ≡ (Nothing, record m { phase = phase })
-unfolding doorbell_step
-silent_by phases.Reset m e = refl
-silent_by phases.Dead m e = refl
-silent_by phases.Fetching m e = absurd (no (sym e))
-silent_by phases.ReadingTable m e = absurd (no (sym e))
-silent_by (phases.ReadingData wanted) m e = absurd (no (sym e))
-silent_by phases.Answering m e = absurd (no (sym e))
-silent_by phases.WritingStatus m e = absurd (no (sym e))
-silent_by phases.WritingLastStatus m e = absurd (no (sym e))
-silent_by phases.ReadingNext m e = absurd (no (sym e))
-silent_by phases.Suspended m e = absurd (no (sym e))
+rings_in phases.WritingStatus m e = absurd (false≢true e)
+rings_in phases.WritingLastStatus m e = absurd (false≢true e)
+rings_in phases.ReadingNext m e = absurd (false≢true e)
+rings_in phases.Suspended m e = absurd (false≢true e)
 
 -- ---- a pointer
-not_taken : (refusal : PointRefusal) (ask : Ask) → Err refusal ≡ Ok ask → ⊥
-not_taken refusal ask e = cc
 
 takes_in : (state : AgentState) (m : Machine) (pointer : OrbPointer) (ask : Ask) → (point_in state m pointer).0 ≡ Ok ask → is_busy (point_in state m pointer).1.phase ≡ true
 takes_in states.Reset m Null ask e = absurd (not_taken _ ask e)
@@ -207,7 +190,7 @@ module _ (w : WorldState) (g : Good w.target) (Given : Type 0) (F : ℕ → Mach
       unfolding ring
       silent_rests e c =
           let m = M q in
-          subst (λ (x : Ask × Machine). Cutting F closed M (rung_by q request bytes x first)) (sym (silent_by m.phase m e)) (by (login_at x.node q))
+          subst (λ (x : Ask × Machine). Cutting F closed M (rung_by q request bytes x first)) (sym (deaf_by m.phase m e)) (by (login_at x.node q))
         where
           s : Scene
           s = scene (with_agent there q (M q)) empty_outbox

@@ -1,5 +1,6 @@
 -- Who injected no packets by a history injected none before.
 use Rattle.std.proofs.Common.{◌≡◌, ◌∙◌, refl, sym, ap, ℕ, suc, nat_eq, Bool, true, false, cond, List, [], ◌∷◌, ◌++◌, Option, Some, None}
+use Rattle.std.proofs.lemmas.Bool.{true≢false}
 use Rattle.sbp_base.specs.Update.{upd}
 use Rattle.sbp_journal.specs.declared.cause.Cause.{Cause}
 use Rattle.sbp_journal.specs.declared.cause.Cause.TheVariants as causes
@@ -79,12 +80,8 @@ opened_same (events.Reset physical) t = refl
 opened_same (events.Repeat s) t = refl
 opened_same _ t = refl
 
--- a packet that is sent may be an injected one
-no : true ≡ false → ⊥
-no e = cc
-
 more_by : (b c : Bool) (x : Bool) → cond b (cond c true x) x ≡ false → x ≡ false
-more_by true true x e = absurd (no e)
+more_by true true x e = absurd (true≢false e)
 more_by true false x e = e
 more_by false c x e = e
 

@@ -1,13 +1,12 @@
 -- What each place of a run needs so that lists are open there as they should be, where they were so before: from what is known of the writes of ORB_POINTER, of the
 -- lists that are open, and of the statuses that are taken.
-use Rattle.std.proofs.Common.{◌≡◌, refl, subst, ℕ, ◌<◌, ◌≤◌, List, [], ◌∷◌, ◌++◌, map, length, Option, Some, None}
+use Rattle.std.proofs.Common.{◌≡◌, refl, subst, ℕ, ◌<◌, ◌≤◌, List, [], ◌∷◌, ◌++◌, map, length, Option}
 use Rattle.rbc_disk.specs.Runs.{Told}
 use Rattle.sbp_journal.specs.Run.{Moment, asked, said}
 use Rattle.sbp_world.specs.Histories.{history_of}
 use Rattle.sbp_world.specs.Runs.{Run, after, beginning}
 use Rattle.sbp_world.specs.Settling.{MayAll, after_all}
 use Rattle.sbp_world.specs.Worlds.{WorldState, begun}
-use Rattle.sbp_world.specs.Agents.Management.Terms.{DeliversMore}
 use Rattle.sbp_world.specs.Hosts.Runs.{IsRun, more_deliveries}
 use Rattle.sbp_world.proofs.Hosts.Lasting.{lasting_law}
 use Rattle.sbp_world.proofs.Hosts.Runs.{count_after, count_between}
@@ -24,6 +23,7 @@ use Rattle.sbp_world.proofs.Lists.OpenWires.{wire_after, wire_between}
 use Rattle.sbp_world.proofs.Lists.Beside.{tame_or_few_before}
 use Rattle.sbp_world.proofs.Lists.TameWalks.{still_after, still_between}
 use Rattle.sbp_world.specs.Lists.FewLogins.{IsTameOrFew}
+use Rattle.sbp_world.proofs.Common.{delivers}
 
 -- ---- what open lists stand on at a place
 pub record Closes (past : List Moment) (w : WorldState) : Type 0 where
@@ -39,10 +39,6 @@ pub record ClosesLaw : Type 0 where
 -- the writes that were got were named for lists
 abbrev AreNames : List Moment → WorldState → Type 0
 AreNames ms w = (i : ℕ) → i < length w.initiators → IsCalm ms i → AreNamedFor ms i
-
-delivers : (most : Option ℕ) → DeliversMore (more_deliveries most)
-delivers (Some count) = tt
-delivers None = tt
 
 -- ---- what is known of every run
 module _ (pointers : PointersLaw) (begun_law : BegunLaw) where

@@ -33,6 +33,7 @@ use Rattle.sbp_world.proofs.Lists.Runs.{as_front, lines_same, moments_same, next
 use Rattle.sbp_world.specs.Lists.FewLogins.{IsTameOrFew}
 use Rattle.sbp_world.proofs.Lists.Beside.{tame_or_few_before}
 use Rattle.sbp_world.proofs.Lists.RunSites.{more_by}
+use Rattle.sbp_world.proofs.Common.{delivers}
 
 -- ---- at a place
 module _ (past : List Moment) (w : WorldState) (c : Closes past w) where
@@ -53,10 +54,6 @@ module _ (past : List Moment) (w : WorldState) (c : Closes past w) where
 record Gives : Type 0 where
   ends : (line : ℕ) (run : Run) → IsRun run → 0 < run.units → run.units ≤ 4 → length run.start.disks ≡ run.units → OpenBefore line run run.entries → IsTameOrFew (history_of line run) → OpenAfter line run run.entries
   meets : (line : ℕ) (run : Run) → IsRun run → 0 < run.units → run.units ≤ 4 → length run.start.disks ≡ run.units → (next : ℕ) (most : Option ℕ) (told : List (Option Told)) → MayAll told (begun (after (beginning run) run.entries)) → OpenBetween line run next (more_deliveries most) told → (let s = after_all told (begun (after (beginning run) run.entries)) in let past = asked next (more_deliveries most) ∷ history_of line run in IsTameOrFew (map said s.world.fresh ++ past) → OpenBehind past told (begun (after (beginning run) run.entries)))
-
-delivers : (most : Option ℕ) → DeliversMore (more_deliveries most)
-delivers (Some count) = tt
-delivers None = tt
 
 -- ---- no initiator injected packets, or few logins were given, before, where it is so
 module _ (now : List Moment) where

@@ -1,6 +1,7 @@
 -- What a packet that stands for an operation asks for, by the phase of the operation: in every run.
 use Rattle.std.proofs.Common.{arith, ◌≡◌, ◌∙◌, refl, sym, ap, ℕ, zero, ◌&&◌, nat_eq, nat_le, not, Bool, true, false, cond, List, [], ◌∷◌, length, Some, None}
 use Rattle.std.proofs.lemmas.Bool.Decides.{nat_tests}
+use Rattle.std.proofs.lemmas.Option.{none-some}
 use Rattle.async_packet.specs.Fields.{largest}
 use Rattle.label_table.specs.Bodies.{Body, block_read, block_write, quadlet_read}
 use Rattle.mgmt_agent.specs.declared.operation.Operation.{Operation}
@@ -20,15 +21,12 @@ use Rattle.sbp_world.specs.Lists.ManagedFor.{is_its_packet, managed_for, operati
 use Rattle.sbp_world.proofs.Lists.ContentPhases.{AskOf, sits}
 use Rattle.sbp_world.proofs.Lists.ContentRuns.{contents_after, contents_between}
 
-none_some : {A : Type 0} (a : A) → None ≡ Some a → ⊥
-none_some a e = cc
-
 -- ---- the body that leaves, by the phase
 written : (b : Bool) (fifo : ℕ) (out : List ℕ) (body : Body) → cond b (Some (block_write fifo out)) None ≡ Some body → access_for body ≡ write_access fifo out
 written true fifo out body e =
     let is : block_write fifo out ≡ body = cc in
     ap access_for (sym is)
-written false fifo out body e = absurd (none_some body e)
+written false fifo out body e = absurd (none-some body e)
 
 pub content : (phase : Phase) (op : Operation) (ask : Ask) (out : List ℕ) (body : Body) → AskOf phase op ask out → manager_body ask out ≡ Some body → AccessOf phase op (access_for body)
 content phases.Orb op ask out body a e =
@@ -74,7 +72,7 @@ there start past generation to bytes s serial op same is_asked true test e =
       spelled = a.access;
       content = content op.phase op t.manager_asks t.manager.outgoing a.body ((sits start past).0 op e asks) a.asks;
     }
-there start past generation to bytes s serial op same is_asked false test e = absurd (none_some op e)
+there start past generation to bytes s serial op same is_asked false test e = absurd (none-some op e)
 
 later_on : (start : List Disk) (m : Moment) (past : List Moment) (serial : ℕ) (op : Operation) → WasAsked start past serial op → WasAsked start (m ∷ past) serial op
 later_on start m past serial op w = record {
@@ -92,7 +90,7 @@ later_on start m past serial op w = record {
 }
 
 was_asked : (start : List Disk) (past : List Moment) → AreContents start past → (serial : ℕ) (op : Operation) → managed_for start past serial ≡ Some op → WasAsked start past serial op
-was_asked start [] c serial op e = absurd (none_some op e)
+was_asked start [] c serial op e = absurd (none-some op e)
 was_asked start (said (notes.Sent s generation zero to bytes) ∷ past) c serial op e = by (was_asked start past c.1 serial op) (nat_eq serial s) refl e
   where
     now : List Moment

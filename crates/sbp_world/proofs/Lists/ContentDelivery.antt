@@ -49,6 +49,7 @@ use Rattle.sbp_world.specs.Lists.Contents.{AreContents}
 use Rattle.sbp_world.proofs.Lists.ContentLanding.{Ends, calm_request, ignored_ends, manage_of, noted_world, other_ends, own_ends, rested, starting_request}
 use Rattle.sbp_world.proofs.Agents.Management.Managed.{IsReady}
 use Rattle.sbp_world.proofs.Agents.Management.Still.{Clock, clock_still, gets_clock, hist, ignores_still}
+use Rattle.sbp_world.proofs.Agents.Management.Lapsing.{agent_no, unsolicited_no, none_no}
 
 -- what is known at a turn's first note is what was known before it
 pub ready_on : (past : List Moment) (w v : WorldState) (source : ℕ) → v.generations ≡ w.generations → Clock (terms (hist past w)) (terms (hist past v)) → IsReady past w source → IsReady past v source
@@ -150,14 +151,6 @@ module _ {past : List Moment} (start : List Disk) (w : WorldState) (h : Stands p
         (subst (λ b. Doing (Unit {0}) (ForRequest (is_barred w.target p) w.target p sent.bytes layer) w.target g.lives o (requested (is_barred w.target p) p w.target o) (cond {A = Judged × Scene} b (judgements.Ignored causes.Login, answered p sent.bytes 7 [] (scene asked_node empty_outbox)) (judgements.Got, serve p sent.bytes (scene asked_node empty_outbox))).1) barred d))
 
   -- ---- whatever it is found to be
-  agent_no : (place : ℕ) → Some (purposes.Agent place) ≢ Some purposes.Management
-  agent_no place e = cc
-
-  unsolicited_no : Some purposes.Unsolicited ≢ Some purposes.Management
-  unsolicited_no e = cc
-
-  none_no : None ≢ Some purposes.Management
-  none_no e = cc
 
   found_ends : (told : Option Told) (media : Held) (f : Finding Purpose) (layer : Layer Purpose) → judging_step w.target.layer sent.generation sent.bytes ≡ (f, layer) → IsFound f w.target.layer layer sent.bytes → DoneAs (QuietFinding f) (ForFinding f w.target sent.bytes layer) (delivered f w.target o) (received_as told sent.bytes f (with_layer layer (whole_of w.target media))) → EndsAs (received_as told sent.bytes f (with_layer layer (whole_of w.target media)))
   found_ends told media of_generation layer e f d = ignored_as causes.Generation o (with_layer layer (whole_of w.target media)) d

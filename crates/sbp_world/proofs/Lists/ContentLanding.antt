@@ -1,5 +1,5 @@
 -- A packet is delivered to the target: behind the whole turn each packet of an operation asks for what the operation asked for.
-use Rattle.std.proofs.Common.{arith, ◌≡◌, ◌≢◌, ◌∙◌, refl, sym, ap, subst, ℕ, ◌^◌, ◌<◌, ◌≤◌, is_some, Bool, true, false, cond, List, [], ◌∷◌, ◌++◌, length, Option, Some, None, Result, Ok}
+use Rattle.std.proofs.Common.{arith, ◌≡◌, ◌≢◌, ◌∙◌, refl, sym, ap, subst, ℕ, ◌^◌, ◌<◌, ◌≤◌, is_some, Bool, true, false, cond, List, [], ◌∷◌, length, Option, Some, None, Result, Ok}
 use Rattle.std.specs.Prelude.{unwrap_or}
 use Rattle.std.proofs.lemmas.Bool.Decides.{nat_tests}
 use Rattle.async_packet.specs.declared.fault.PacketFault.{PacketFault}
@@ -29,19 +29,16 @@ use Rattle.sbp_journal.specs.declared.cause.Judged.TheVariants as judgements
 use Rattle.sbp_journal.specs.declared.outbox.Outgoing.{Outgoing}
 use Rattle.sbp_journal.specs.Outgoings.{empty_outbox}
 use Rattle.async_packet.specs.Canon.{canon}
-use Rattle.bus_transactions.specs.Judging.{facts_of, may_get}
+use Rattle.bus_transactions.specs.Judging.{facts_of}
 use Rattle.bus_transactions.specs.Rows.{kind_as}
 use Rattle.bus_transactions.proofs.FitJudged.{bytes_of, spelled}
 use Rattle.label_table.specs.Bodies.{response_to}
-use Rattle.label_table.specs.Judging.{row_of}
-use Rattle.label_table.specs.Layer.{answering_step}
 use Rattle.sbp_journal.specs.Addresses.{start_at, start_serves}
 use Rattle.sbp_laws.specs.Packets as laws
 use Rattle.sbp_laws.specs.Targets.{start_got}
 use Rattle.target_base.specs.declared.address.Demand.{Demand}
 use Rattle.target_base.specs.declared.address.Demand.TheVariants as demands
 use Rattle.target_base.specs.Addresses.{demand_of}
-use Rattle.sbp_target.specs.Sending.{answer_step}
 use Rattle.sbp_target.specs.Serving.{answered}
 use Rattle.sbp_world.specs.Sending.{sent_all}
 use Rattle.sbp_world.proofs.FitTarget.Demands.{FitsDemand, demand_fits}
@@ -49,7 +46,7 @@ use Rattle.sbp_world.proofs.Agents.Management.Demands.{demand_is, starts_at}
 use Rattle.sbp_laws.specs.Targets.{Target, got_by, is_serial, over, replied as laws_replied, request_got, target_at}
 use Rattle.sbp_target.specs.declared.purpose.Purpose.{Purpose}
 use Rattle.sbp_target.specs.declared.purpose.Purpose.TheVariants as purposes
-use Rattle.sbp_target.specs.Nodes.{NodeState, Scene, scene}
+use Rattle.sbp_target.specs.Nodes.{NodeState, scene}
 use Rattle.sbp_target.specs.Receiving.{answer_in}
 use Rattle.sbp_target.specs.Replies.{Whole}
 use Rattle.sbp_bus.specs.Packets.{judged_note}
@@ -84,7 +81,8 @@ use Rattle.sbp_world.proofs.Agents.Management.Still.{hist}
 use Rattle.sbp_world.proofs.Agents.Management.Told.{office_in, term_in}
 use Rattle.sbp_world.specs.Lists.Contents.{AreContents}
 use Rattle.sbp_world.proofs.Lists.ContentTurns.{Passes, calm_contents, managing_contents, none_passes, one_passes}
-use Rattle.sbp_world.proofs.Agents.Management.Landing.{response_part, started_asks}
+use Rattle.sbp_world.proofs.Agents.Management.Landing.{response_part, start_asks, answer_is_one}
+use Rattle.sbp_world.proofs.Agents.CrewFirsts.{current_by}
 
 -- what a request asks for
 record AccessIs (p : Packet) : Type 0 where
@@ -126,18 +124,9 @@ manage_of (demands.Refused rcode) node p bytes layer source before m = absurd m
 manage_of (demands.Rom at len) node p bytes layer source before m = absurd m
 manage_of (demands.Agent place access) node p bytes layer source before m = absurd m
 
-start_asks : (o : Office) (source orb : ℕ) → o.manager.operation ≡ None → orb < 2 ^ 48 → FitsAsk (started source orb o).asks
-unfolding management.start_step
-start_asks o source orb e small = started_asks o.manager source orb o e small
-
 one_passed : (start : List Disk) (past : List Moment) (packet : Outgoing) (number : ℕ) (kind : Kind) → part_of packet.bytes ≡ response number kind → PassedOver start past (packet ∷ [])
 unfolding sent_all
 one_passed start past packet number kind e v i = response_term start past v i packet number kind e
-
--- the response that leaves first
-answer_is_one : (p : Packet) (bytes : List ℕ) (s : Scene) → s.outbox.packets ≡ [] → (answered p bytes 0 [] s).outbox.packets ≡ record { to = (header_in p).source; label = None; bytes = canon (response_to s.node.layer.node p 0 []) } ∷ []
-unfolding answer_step answering_step
-answer_is_one p bytes s e = ap (λ ps. ps ++ record { to = (header_in p).source; label = None; bytes = canon (response_to s.node.layer.node p 0 []) } ∷ []) e
 
 module _ {past : List Moment} (start : List Disk) (w : WorldState) (h : Stands past w) (g : Good w.target) (law : TransactionLaw w.target) (at : IsManagementAt start (hist past w) w.target) (serial : ℕ) (again : Bool) (sent : Sent) (found : found_sent serial w.store.kept ≡ Some sent) (zero_to : sent.to ≡ 0) (were : AreContents start (hist past w)) where
   abbrev t : Terms
@@ -233,10 +222,6 @@ module _ {past : List Moment} (start : List Disk) (w : WorldState) (h : Stands p
         managing_contents start past x.node v x.outbox (replied (answer_in p) rested) old source [] turned idle office (none_passed start past) (none_passes start past) ready ask l.bytes (noted_contents judgements.Got x.node)
 
   -- ---- a request
-  -- a packet that is got is of the target's generation
-  current_by : (c n r a e : Bool) → may_get (row_of (record { is_current = c; is_for_node = n; is_response = r; is_awaited = a; is_repeated = e })) ≡ true → c ≡ true
-  current_by true n r a e m = refl
-  current_by false n r a e m = absurd (let no : false ≡ true = m in cc)
 
   module _ (p : Packet) (read : reading sent.bytes ≡ Ok p) (none : reply_kind p ≡ None) where
     record Asks : Type 0 where

@@ -3,10 +3,10 @@
 use Rattle.std.proofs.Common.{arith, ◌≡◌, ◌∙◌, refl, sym, ap, subst, ℕ, zero, ◌+◌, ◌≤◌, ◌==◌, ◌&&◌, nat_eq, not, Bool, true, false, cond, List, [], ◌∷◌, ◌++◌, Option, Some, None}
 use Rattle.std.specs.Prelude.{is_none, position, unwrap_or}
 use Rattle.std.proofs.lemmas.Bool.Decides.{nat_tests}
+use Rattle.std.proofs.lemmas.Option.{same_Some, none-some}
 use Rattle.bus_transactions.specs.Packets.{SerialsCount}
 use Rattle.mgmt_agent.specs.declared.operation.Operation.{Operation}
 use Rattle.mgmt_agent.specs.Machine.{Machine, start_step, start_with}
-use Rattle.orb_layout.specs.declared.ask.Ask.{Ask}
 use Rattle.orb_layout.specs.declared.ask.Ask.TheVariants as asks
 use Rattle.orb_layout.specs.declared.ask.Ask.TheVariants.{Nothing}
 use Rattle.orb_layout.specs.Pointers.{offset_at}
@@ -33,12 +33,7 @@ use Rattle.sbp_world.proofs.Hosts.SentMoments.{count_now}
 use Rattle.sbp_world.specs.Lists.ManagedFor.{is_its_packet, managed_for, operation_if}
 use Rattle.sbp_world.proofs.Lists.ContentPhases.{sits}
 use Rattle.sbp_world.proofs.Sessions.Buffers.{untrue}
-
-none_some : {A : Type 0} (a : A) → None ≡ Some a → ⊥
-none_some a e = cc
-
-same_serial : (m n : ℕ) → Some m ≡ Some n → m ≡ n
-same_serial m n e = cc
+use Rattle.sbp_world.proofs.Lists.MainStays.{wanted as wants_some}
 
 -- ---- what a moment does to the operation and its request
 pub data Moves (before now : Office) (m : Moment) : Type 0 where
@@ -161,10 +156,6 @@ module _ (t : Target) (m : Moment) where
   key_moves (Some (events.Inject a b)) unit = keeps refl refl refl
 
 -- ---- a packet
-wants_some : (ask : Ask) (is_write : Bool) → wants ask is_write ≡ true → is_nothing ask ≡ false
-wants_some (asks.Read offset len) is_write e = refl
-wants_some (asks.Write offset len) is_write e = refl
-wants_some Nothing is_write e = untrue e
 
 module _ (serial generation from to : ℕ) (bytes : List ℕ) (o : Office) where
   abbrev Puts : Office → Type 0
@@ -272,9 +263,9 @@ module _ (start : List Disk) where
       let l = was.1 in
       let k = (remains (m ∷ []) past c).count in
       (kept_for m past c r l ∙ (was.0 ∙ sym (op_is manager)), omega (arith, l, k))
-  own_now m past c b (drops none) r e = absurd (none_some r (sym none ∙ e))
+  own_now m past c b (drops none) r e = absurd (none-some r (sym none ∙ e))
   own_now m past c b (puts serial generation to bytes at manager decided manages asks some) r e =
-      let same : serial ≡ r = same_serial serial r (sym manages ∙ e) in
+      let same : serial ≡ r = same_Some serial r (sym manages ∙ e) in
       let sent = said (notes.Sent serial generation zero to bytes) in
       let counts : SerialsCount (sent ∷ past) = subst (λ x. SerialsCount (x ∷ past)) at c in
       let is : serial ≡ (terms past).count + 1 = counts.0 in
@@ -293,7 +284,7 @@ module _ (start : List Disk) where
           ∙ ap (λ b. operation_if b t.manager.operation) its
 
 pub bound : (start : List Disk) (past : List Moment) → SerialsCount past → Bound start past
-bound start [] c = record { own = λ r e. absurd (none_some r e); bare = λ e. refl }
+bound start [] c = record { own = λ r e. absurd (none-some r e); bare = λ e. refl }
 bound start (m ∷ past) c =
     let b = bound start past (serials_behind m past c) in
     let moves = moment_moves start m past b.bare in
@@ -308,9 +299,9 @@ pub record IsSoBefore (start : List Disk) (before past : List Moment) (r : ℕ) 
 
 one_back : (start : List Disk) (m : Moment) (past : List Moment) (r : ℕ) → SerialsCount (m ∷ past) → r ≤ (terms past).count → Moves (office_of (target_at start past)) (office_of (target_at start (m ∷ past))) m → (target_at start (m ∷ past)).manages ≡ Some r → IsSoBefore start past (m ∷ past) r
 one_back start m past r c l (keeps manager decided manages) e = record { manages = sym manages ∙ e; operation = sym (op_is manager); manager = sym manager; decided = sym decided }
-one_back start m past r c l (drops none) e = absurd (none_some r (sym none ∙ e))
+one_back start m past r c l (drops none) e = absurd (none-some r (sym none ∙ e))
 one_back start m past r c l (puts serial generation to bytes at manager decided manages asks some) e =
-    let same : serial ≡ r = same_serial serial r (sym manages ∙ e) in
+    let same : serial ≡ r = same_Some serial r (sym manages ∙ e) in
     let counts : SerialsCount (said (notes.Sent serial generation zero to bytes) ∷ past) = subst (λ x. SerialsCount (x ∷ past)) at c in
     let is : serial ≡ (terms past).count + 1 = counts.0 in
     absurd (omega (arith, same, is, l))
@@ -332,7 +323,7 @@ SameDecided t u = (t.manager ≡ u.manager) × (t.decided ≡ u.decided)
 
 decided_back : (m : Moment) (t u : Target) (r : ℕ) → u.manages ≡ Some r → Moves (office_of t) (office_of u) m → SameDecided t u
 decided_back m t u r e (keeps manager decided manages) = (sym manager, sym decided)
-decided_back m t u r e (drops none) = absurd (none_some r (sym none ∙ e))
+decided_back m t u r e (drops none) = absurd (none-some r (sym none ∙ e))
 decided_back m t u r e (puts serial other node content at manager decided manages asks some) = (sym manager, sym decided)
 
 pub sent_back : (start : List Disk) (m : Moment) (past : List Moment) (r : ℕ) → SerialsCount (m ∷ past) → (target_at start (m ∷ past)).manages ≡ Some r → SameDecided (target_at start past) (target_at start (m ∷ past))

@@ -41,7 +41,7 @@ use Rattle.sbp_world.specs.Agents.Management.Offices.{Office, by_managed, by_not
 use Rattle.sbp_world.proofs.Agents.AskedBytes.{plain, reads_back}
 use Rattle.sbp_world.proofs.Agents.Management.Asking.{Leaves, MayLeave, Turned, leaves, silent}
 use Rattle.sbp_world.proofs.Agents.Management.Idle.{IsIdle}
-use Rattle.sbp_world.proofs.Agents.Management.Managed.{IsReady, PassedOver}
+use Rattle.sbp_world.proofs.Agents.Management.Managed.{IsReady, PassedOver, one_sent}
 use Rattle.sbp_world.proofs.Agents.Management.Outs.{sides_idle}
 use Rattle.sbp_world.proofs.Agents.Management.Requests.{asked_labelled}
 use Rattle.sbp_world.proofs.Agents.Management.Sides.{AllBehind, TellsBehind}
@@ -205,10 +205,6 @@ module _ (start : List Disk) (past : List Moment) (w : WorldState) (idle : IsIdl
 pub one_passes : (start : List Disk) (past : List Moment) (packet : Outgoing) (number : ℕ) (kind : Kind) → part_of packet.bytes ≡ response number kind → Passes start past (packet ∷ [])
 unfolding sent_all sent
 one_passes start past packet number kind e v i h = to_passes start past v i (node_of v.generations 0 packet.to) packet number kind e h
-
-one_sent : (packet : Outgoing) (v : WorldState) → sent_all 0 (packet ∷ []) v ≡ sent 0 packet v
-unfolding sent_all
-one_sent packet v = refl
 
 module _ (start : List Disk) (past : List Moment) (now : NodeState) (w : WorldState) (outbox : OutboxState) (first : Office) (old : Lives) (source : ℕ) (before : List Outgoing) (turned : Turned first old source before (scene now outbox)) (idle : IsIdle (term_in start past w)) (office : office_in start past w ≡ first) (passed : PassedOver start past before) (passes : Passes start past before) (ready : IsReady past w source) (ask_fits : FitsAsk first.asks) (bytes : AreBytes now.manager.outgoing) (h : Are start past w) where
   abbrev told_world : WorldState

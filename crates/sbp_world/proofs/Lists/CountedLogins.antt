@@ -1,6 +1,6 @@
 -- How many live logins the places of a table have (NCITS 325-1998, login, reconnect and logout): at most one for each place; one more where a login is granted, and at most one
 -- fewer behind any other decision.
-use Rattle.std.proofs.Common.{arith, ◌≡◌, ◌∙◌, refl, sym, ap, subst, ℕ, zero, suc, ◌+◌, ◌*◌, ◌<◌, ◌≤◌, ◌==◌, ◌&&◌, not, Bool, true, false, cond, List, [], ◌∷◌, length, Option, Some, None, Result, Ok, Err}
+use Rattle.std.proofs.Common.{arith, ◌≡◌, ◌∙◌, refl, sym, ap, subst, ℕ, zero, suc, ◌+◌, ◌*◌, ◌<◌, ◌≤◌, ◌==◌, not, Bool, true, false, cond, List, [], ◌∷◌, length, Option, Some, None, Result, Ok, Err}
 use Rattle.std.specs.Prelude.{is_none, position, slice_set}
 use Rattle.std.proofs.lemmas.List.Quantifiers.{position-Some}
 use Rattle.login_table.specs.declared.login.Entered.{Entered}
@@ -23,6 +23,7 @@ use Rattle.sbp_journal.specs.declared.operation.FunctionWord.{FunctionWord}
 use Rattle.sbp_journal.specs.declared.operation.FunctionWord.TheVariants as words
 use Rattle.sbp_world.proofs.Agents.Management.Deciding.{Agrees, IsOther, agree}
 use Rattle.sbp_world.proofs.Lists.GrantSides.{word_grants}
+use Rattle.sbp_world.proofs.Agents.Hiring.{not_old}
 
 abbrev pub live_at : Option Login → ℕ
 live_at None = 0
@@ -68,12 +69,6 @@ held_none : (login : Login) → is_live login ≡ false → live_at (Some login)
 held_none login e = ap (λ b. cond b 1 0) e
 
 -- ---- a login is granted
-old_held : (asked : LoginRequest) (login : Login) → is_old asked login ≡ true → is_live login ≡ false
-old_held asked login e = by (is_live login) (login.unit == asked.unit) (login.eui == asked.eui) e
-  where
-    by : (live unit eui : Bool) → (not live && unit && eui) ≡ true → live ≡ false
-    by true unit eui e = absurd (let no : false ≡ true = e in cc)
-    by false unit eui e = refl
 
 left_counts : (asked : LoginRequest) (places : List (Option Login)) → live_in (left_for asked places) ≡ live_in places
 unfolding left_for
@@ -83,7 +78,7 @@ left_counts asked places = by (find (is_old asked) places) refl
     by None e = refl
     by (Some k) e =
         let x = found (is_old asked) places k e in
-        let held : is_live x.login ≡ false = old_held asked x.login x.passes in
+        let held : is_live x.login ≡ false = not_old asked x.login x.passes in
         let at : live_at (place_at places k) ≡ 0 = ap live_at x.stands ∙ held_none x.login held in
         let c = set_counts places k None (there places k x.login x.stands) in
         omega (arith, at, c)

@@ -26,6 +26,7 @@ use Rattle.sbp_world.proofs.Lists.Runs.{as_front}
 use Rattle.sbp_laws.specs.Turns.{event_of}
 use Rattle.sbp_world.proofs.Hosts.Carries.{IsNoAct}
 use Rattle.sbp_world.proofs.Lists.Turned.{IsOne}
+use Rattle.sbp_world.proofs.Lists.JoinLaws.{moments_same, lines_same}
 
 -- from a scene with a history behind which its line began, to the next one
 pub data Goes : List Moment → Scene → List Moment → Scene → Type 0 where
@@ -45,16 +46,9 @@ Keeps units ready start Q P =
     (past : List Moment) (s : Scene) (later : List Moment) (t : Scene) (lines more : ℕ) → Goes past s later t → Holding units ready start past lines s.world → Holding units ready start later more t.world → Q (hist past s.world) s.world → Q (hist later t.world) t.world → P (hist past s.world) s.world → P (hist later t.world) t.world
 
 -- ---- a run with another list of entries
-moments_same : (line : ℕ) (run : Run) (every entries : List Entry) → moments_behind line (record run { entries = every }) entries ≡ moments_behind line run entries
-moments_same line run every [] = refl
-moments_same line run every (e ∷ before) = ap (λ ms. map said e.notes ++ asked e.line e.event ∷ ms) (moments_same line run every before)
-
-lines_same : (run : Run) (every entries : List Entry) → AreLines run entries → AreLines (record run { entries = every }) entries
-lines_same run every [] l = tt
-lines_same run every (e ∷ before) l = (l.0, lines_same run every before l.1)
 
 -- in a line that delivers more an initiator acts not
-more_no_act : (most : Option ℕ) (i : ℕ) → IsNoAct i (Some (more_deliveries most))
+pub more_no_act : (most : Option ℕ) (i : ℕ) → IsNoAct i (Some (more_deliveries most))
 more_no_act (Some count) i = tt
 more_no_act None i = tt
 

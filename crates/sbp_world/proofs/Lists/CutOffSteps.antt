@@ -2,8 +2,7 @@
 use Rattle.std.proofs.Common.{append_assoc, arith, ◌≡◌, ◌∙◌, refl, sym, ap, subst, inl, inr, ◌⊎◌, ◌<◌, ◌≤◌, ◌==◌, ◌&&◌, ℕ, Bool, true, false, List, [], ◌∷◌, ◌++◌, length, map, Option, Some, None}
 use Rattle.std.proofs.lemmas.Bool.Decides.{nat_tests}
 use Rattle.bus_transactions.specs.Packets.{SerialsCount}
-use Rattle.command_agent.specs.Machine.{is_sent, state_in}
-use Rattle.command_agent.specs.Steps.{is_reset}
+use Rattle.command_agent.specs.Machine.{is_sent}
 use Rattle.command_agent.specs.declared.phase.Phase.{Phase}
 use Rattle.command_agent.specs.declared.phase.Phase.TheVariants as phases
 use Rattle.rbc_disk.specs.Disk.{Disk}
@@ -42,6 +41,8 @@ use Rattle.sbp_world.proofs.Lists.ResetStays.{AreUngot, IsUngot, cut_over, cut_s
 use Rattle.sbp_world.proofs.Lists.Rises.{Rises}
 use Rattle.sbp_world.proofs.Lists.StatusKnown.{generation_grows}
 use Rattle.sbp_world.proofs.Lists.StepsUp.{IsUp}
+use Rattle.sbp_world.proofs.Lists.AnswersCarriedBefore.{tail_is}
+use Rattle.sbp_world.proofs.Agents.AskedAgents.{sent_reset}
 
 -- ---- the moments of a turn behind one of them
 -- no packet is got in them, or the one is the line that begins the turn
@@ -56,9 +57,6 @@ none_there (x ∷ xs) m ys e = absurd (let z : x ∷ (xs ++ m ∷ ys) ≡ [] = e
 head_of : (x y : Moment) (xs ys : List Moment) → x ∷ xs ≡ y ∷ ys → x ≡ y
 head_of x y xs ys e = cc
 
-tail_of : (x y : Moment) (xs ys : List Moment) → x ∷ xs ≡ y ∷ ys → xs ≡ ys
-tail_of x y xs ys e = cc
-
 quiet_ungot : (note : Note) → IsQuiet note → IsUngot (said note)
 quiet_ungot (notes.Got serial) q = q
 quiet_ungot note q = tt
@@ -69,22 +67,22 @@ more_since x since moment until u (as_line line event e f) = as_line line event 
 
 one_since : (since : List Moment) (moment : Moment) (until : List Moment) (m : Moment) → since ++ moment ∷ until ≡ m ∷ [] → Since since moment until
 one_since [] moment until m e = ungot tt
-one_since (x ∷ since) moment until m e = none_there since moment until (tail_of x m (since ++ moment ∷ until) [] e)
+one_since (x ∷ since) moment until m e = none_there since moment until (tail_is x m (since ++ moment ∷ until) [] e)
 
 two_since : (since : List Moment) (moment : Moment) (until : List Moment) (m : Moment) (line : ℕ) (event : Event) → since ++ moment ∷ until ≡ m ∷ asked line event ∷ [] → Since since moment until
 two_since [] moment until m line event e = ungot tt
 two_since (x ∷ []) moment until m line event e =
-    let f = tail_of x m (moment ∷ until) (asked line event ∷ []) e in
-    as_line line event (head_of moment (asked line event) until [] f) (tail_of moment (asked line event) until [] f)
+    let f = tail_is x m (moment ∷ until) (asked line event ∷ []) e in
+    as_line line event (head_of moment (asked line event) until [] f) (tail_is moment (asked line event) until [] f)
 two_since (x ∷ y ∷ since) moment until m line event e =
-    none_there since moment until (tail_of y (asked line event) (since ++ moment ∷ until) [] (tail_of x m (y ∷ (since ++ moment ∷ until)) (asked line event ∷ []) e))
+    none_there since moment until (tail_is y (asked line event) (since ++ moment ∷ until) [] (tail_is x m (y ∷ (since ++ moment ∷ until)) (asked line event ∷ []) e))
 
 front_since : (base : List Moment) → ((since : List Moment) (moment : Moment) (until : List Moment) → since ++ moment ∷ until ≡ base → Since since moment until) → (front : List Note) → AllQuiet front → (since : List Moment) (moment : Moment) (until : List Moment) → since ++ moment ∷ until ≡ map said front ++ base → Since since moment until
 front_since base at [] q since moment until e = at since moment until e
 front_since base at (note ∷ front) q [] moment until e = ungot tt
 front_since base at (note ∷ front) q (x ∷ since) moment until e =
     let same = head_of x (said note) (since ++ moment ∷ until) (map said front ++ base) e in
-    more_since x since moment until (subst IsUngot (sym same) (quiet_ungot note q.0)) (front_since base at front q.1 since moment until (tail_of x (said note) (since ++ moment ∷ until) (map said front ++ base) e))
+    more_since x since moment until (subst IsUngot (sym same) (quiet_ungot note q.0)) (front_since base at front q.1 since moment until (tail_is x (said note) (since ++ moment ∷ until) (map said front ++ base) e))
 
 -- the moments that a turn adds
 record Parted (before now : List Moment) : Type 0 where
@@ -188,18 +186,6 @@ pub record TurnFacts (wild : ℕ → Bool) (start : List Disk) (past : List Mome
   pub cuts : (p list : ℕ) → p < 8 → (holder w p).list ≡ Some list → IsUp (machine_at w p) → (machine_at v p).phase ≡ phases.Reset → is_cut (hist later v) (initiator_in w p) list ≡ true
   pub ends_stay : (p list : ℕ) → p < 8 → (holder w p).list ≡ Some list → IsUp (machine_at w p) → (machine_at v p).phase ≡ phases.Reset → ends (hist later v) (initiator_in w p) list ≡ ends (hist past w) (initiator_in w p) list
 
-sent_up : (p : Phase) → is_sent p ≡ true → is_reset (state_in p) ≡ false
-sent_up phases.Reset e = absurd (let z : false ≡ true = e in cc)
-sent_up phases.Dead e = absurd (let z : false ≡ true = e in cc)
-sent_up phases.Suspended e = refl
-sent_up phases.Fetching e = refl
-sent_up phases.ReadingTable e = refl
-sent_up (phases.ReadingData wanted) e = refl
-sent_up phases.Answering e = refl
-sent_up phases.WritingStatus e = refl
-sent_up phases.ReadingNext e = refl
-sent_up phases.WritingLastStatus e = refl
-
 module _ (wild : ℕ → Bool) (start : List Disk) (past : List Moment) (w : WorldState) (later : List Moment) (v : WorldState) (f : TurnFacts wild start past w later v) where
   abbrev before : List Moment
   before = hist past w
@@ -272,7 +258,7 @@ module _ (wild : ℕ → Bool) (start : List Disk) (past : List Moment) (w : Wor
           by false e = absurd (no_main ((has_one start (asked 0 events.Settle ∷ before) m.place).none e))
 
       up : IsUp (machine_at w m.place)
-      up = sent_up (machine_at w m.place).phase (ap is_sent (sym (f.phases_then m.place m.small)) ∙ sent_phase)
+      up = sent_reset (machine_at w m.place).phase (ap is_sent (sym (f.phases_then m.place m.small)) ∙ sent_phase)
 
       orb_there : IsForOrb before w m.place i slot
       orb_there = f.for_orbs m.place i slot serial m.small inside own waits_there x_then

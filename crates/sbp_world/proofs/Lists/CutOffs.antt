@@ -1,5 +1,6 @@
 -- What an ORB that was cut off leaves: its slot stays closed to lists that are open, while the target is in its generation.
 use Rattle.std.proofs.Common.{append_assoc, arith, ◌≡◌, ◌∙◌, refl, sym, ap, subst, ◌<◌, ◌≤◌, ℕ, suc, Bool, true, false, List, ◌++◌, Some, None}
+use Rattle.std.proofs.lemmas.Bool.{false≢true}
 use Rattle.sbp_journal.specs.Run.{Moment}
 use Rattle.sbp_journal.specs.Wire.{terms}
 use Rattle.sbp_laws.specs.Lists.{orb, prepared_in, taken_at}
@@ -12,9 +13,6 @@ use Rattle.sbp_world.proofs.Lists.Passing.{PassLaw}
 use Rattle.sbp_world.proofs.Lists.Rises.{Rises}
 use Rattle.sbp_world.proofs.Lists.SlotsCut.{cut_ends, open_apart, put_before_ahead}
 use Rattle.sbp_world.proofs.Lists.UnrunTerms.{cut_stays}
-
-no : false ≡ true → ⊥
-no e = cc
 
 -- ---- no ORB of an open list has the slot
 module _ (wild : ℕ → Bool) (i : ℕ) (own : wild i ≡ false) (past : List Moment) (passes : PassLaw wild past) (rises : Rises past) (begins : Begins i past) (untaken : (n k : ℕ) → ends past i n ≤ k → taken_at past i n k ≡ None) where
@@ -30,7 +28,7 @@ module _ (wild : ℕ → Bool) (i : ℕ) (own : wild i ≡ false) (past : List M
     cut_there = at (λ ms. is_cut ms i off.list ≡ true) off.cut
 
     other : list ≡ off.list → ⊥
-    other e = no (sym opened.uncut ∙ (ap (is_cut past i) e ∙ off.cut))
+    other e = false≢true (sym opened.uncut ∙ (ap (is_cut past i) e ∙ off.cut))
 
     by : HadSlot past off.before i slot (orb off.list off.number) → ⊥
     by (in_generation held current) =

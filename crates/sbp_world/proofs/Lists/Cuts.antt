@@ -1,6 +1,6 @@
 -- What a call of the target leaves that runs and ends no ORB: cuts, decisions, resets, seconds, and what is asked of registers but a pointer and a doorbell.
-use Rattle.std.proofs.Common.{◌≡◌, ◌∙◌, refl, sym, ap, subst, inl, inr, ◌⊎◌, ℕ, zero, suc, ◌+◌, Bool, true, false, cond, List, [], ◌∷◌, length, map, Option, Some, None, Result, Ok, Err}
-use Rattle.std.specs.Prelude.{slice_index_or, slice_set}
+use Rattle.std.proofs.Common.{◌≡◌, ◌∙◌, refl, sym, ap, subst, inl, inr, ◌⊎◌, ℕ, zero, suc, ◌+◌, Bool, true, false, cond, List, [], length, map, Option, Some, None, Result, Ok, Err}
+use Rattle.std.specs.Prelude.{slice_index_or}
 use Rattle.std.proofs.Math.ListN.{length-map, length-set}
 use Rattle.async_packet.specs.Packet.{Packet, header_in}
 use Rattle.label_table.specs.Bodies.{Body}
@@ -41,18 +41,7 @@ use Rattle.sbp_world.specs.Telling.{told_all}
 use Rattle.sbp_world.specs.Worlds.{WorldState}
 use Rattle.sbp_world.proofs.Lists.Follows.{AreSame, told_last}
 use Rattle.sbp_world.proofs.Lists.Kept.{IsBeside, IsLess, Kept, as_kept, less_kept, marked, one_beside, same, shut}
-
--- a desk that is set is there, and the others are as they were
-desk_either : (desks : List Desk) (k p : ℕ) (d : Desk) → ((p ≡ k) × (slice_index_or (slice_set desks k d) p new_desk ≡ d)) ⊎ (slice_index_or (slice_set desks k d) p new_desk ≡ slice_index_or desks p new_desk)
-desk_either [] k p d = inr refl
-desk_either (x ∷ desks) zero zero d = inl (refl, refl)
-desk_either (x ∷ desks) zero (suc p) d = inr refl
-desk_either (x ∷ desks) (suc k) zero d = inr refl
-desk_either (x ∷ desks) (suc k) (suc p) d = by (desk_either desks k p d)
-  where
-    by : ((p ≡ k) × (slice_index_or (slice_set desks k d) p new_desk ≡ d)) ⊎ (slice_index_or (slice_set desks k d) p new_desk ≡ slice_index_or desks p new_desk) → ((suc p ≡ suc k) × (slice_index_or (slice_set desks k d) p new_desk ≡ d)) ⊎ (slice_index_or (slice_set desks k d) p new_desk ≡ slice_index_or desks p new_desk)
-    by (inl h) = inl (ap suc h.0, h.1)
-    by (inr h) = inr h
+use Rattle.sbp_world.proofs.Lists.StatusRests.{desk_either, map_agents}
 
 abbrev Here : NodeState → ℕ → Machine
 Here node p = (desk_at node p).agent
@@ -70,11 +59,6 @@ set_less node k d l p = by (desk_either node.desks k p d)
 reset_shut : (m : Machine) → IsLess m (reset_step m)
 unfolding reset_step
 reset_shut m = shut m (reset_step m) refl
-
-map_agents : (desks : List Desk) (p : ℕ) → (slice_index_or (map disabled desks) p new_desk).agent ≡ (slice_index_or desks p new_desk).agent
-map_agents [] p = refl
-map_agents (d ∷ desks) zero = refl
-map_agents (d ∷ desks) (suc p) = map_agents desks p
 
 module _ (wild : ℕ → Bool) (past : List Moment) (u : WorldState) where
   abbrev machines_of : NodeState → ℕ → Machine

@@ -1,6 +1,7 @@
 -- What each call of the target writes: to FIFOs of logins alone; or what the step of an agent asks for as a reply comes, beside; or the management goes on.
 use Rattle.std.proofs.Common.{◌≡◌, ◌∙◌, refl, sym, ap, subst, ◌<◌, nat_lt, ℕ, Bool, true, false, cond, List, [], ◌∷◌, length, Option, Some, None, Result, Ok, Err, arith, ◌++◌}
 use Rattle.std.proofs.Math.ListN.{length-set}
+use Rattle.std.proofs.lemmas.Option.{none-some}
 use Rattle.async_packet.specs.Labels.{LabelParts}
 use Rattle.async_packet.specs.Packet.{Packet, header_in}
 use Rattle.command_agent.specs.declared.step.AgentStep.{AgentStep}
@@ -61,12 +62,7 @@ use Rattle.rbc_disk.specs.declared.command.Outcome.{Outcome}
 use Rattle.sbp_journal.specs.declared.side.Side.{Side}
 use Rattle.sbp_world.proofs.Agents.UnitsKept.{Keeps}
 use Rattle.sbp_world.proofs.Lists.RunTells.{advance_tells}
-
-no_ask : (offset size : ℕ) → asks.Nothing ≡ asks.Write offset size → ⊥
-no_ask offset size e = cc
-
-none_login : (login : Login) → None ≡ Some login → ⊥
-none_login login e = cc
+use Rattle.sbp_world.proofs.Lists.StatusSteps.{none_wrote}
 
 module _ (Fifo : ℕ → ℕ → Type 0) where
   reads_all : (packets : List Outgoing) → AllRead packets → AllFifo Fifo packets
@@ -118,7 +114,7 @@ module _ (w : WorldState) (g : Good w.target) (Fifo : ℕ → ℕ → Type 0) (f
       asked_only : (ask : Ask) → ((offset size : ℕ) → ask ≡ asks.Write offset size → ⊥) → (login : Option Login) → login ≡ login_at w.target q → (s : Scene) → length s.node.desks ≡ 8 → AllRead s.outbox.packets → WroteSo layer (asked_in q ask login s)
       asked_only ask f None e s desks a = reads_only layer s a
       asked_only ask f (Some login) e s desks a =
-          to_logins (follows_quiet q b login Fifo (fifos q login (sym e) (lives login (sym e))) (steps.asks ask) (AllFifo Fifo) (more_fifo Fifo) s (λ offset size z. no_ask offset size z) f (reads_all Fifo s.outbox.packets a))
+          to_logins (follows_quiet q b login Fifo (fifos q login (sym e) (lives login (sym e))) (steps.asks ask) (AllFifo Fifo) (more_fifo Fifo) s (λ offset size z. none_wrote offset size z) f (reads_all Fifo s.outbox.packets a))
 
       logins_same : (rcode : ℕ) (given : List ℕ) (s : Scene) → login_at (answered request bytes rcode given s).node q ≡ login_at s.node q
       unfolding answer_step
@@ -204,7 +200,7 @@ module _ (w : WorldState) (g : Good w.target) (Fifo : ℕ → ℕ → Type 0) (f
         where
           is_served : (x : Bool) (one : Login) → cond x (Some one) None ≡ Some login → Some one ≡ Some login
           is_served true one f = f
-          is_served false one f = absurd (none_login login f)
+          is_served false one f = absurd (none-some login f)
 
           served_is : (o : Option Login) → if_served (length w.target.units) o ≡ Some login → o ≡ Some login
           served_is None f = f
@@ -246,8 +242,8 @@ module _ (w : WorldState) (g : Good w.target) (Fifo : ℕ → ℕ → Type 0) (f
   -- ---- a time-out
   module _ (layer : Layer Purpose) (peer : ℕ) (label : LabelParts) (late_live : (place : ℕ) → place < 8 → (which : Which) → which_in (desk_at w.target place) peer label ≡ Some which → (login : Login) → login_at w.target place ≡ Some login → is_live login ≡ true) where
     lost_none : (which : Which) (n : Machine) (at size : ℕ) → (lost_step n which causes.Timeout).0.ended ≡ None → (lost_step n which causes.Timeout).0.ask ≡ asks.Write at size → ⊥
-    lost_none Main n at size e ask = no_ask at size (sym (lost_asks n causes.Timeout e) ∙ ask)
-    lost_none Ahead n at size e ask = no_ask at size (sym (ap (λ (x : AgentStep). x.ask) (quiet_ahead n causes.Timeout)) ∙ ask)
+    lost_none Main n at size e ask = none_wrote at size (sym (lost_asks n causes.Timeout e) ∙ ask)
+    lost_none Ahead n at size e ask = none_wrote at size (sym (ap (λ (x : AgentStep). x.ask) (quiet_ahead n causes.Timeout)) ∙ ask)
 
     late_by : (place : ℕ) (login : Option Login) → login_at w.target place ≡ login → (which : Option Which) → which_in (desk_at w.target place) peer label ≡ which → WroteSo layer (expired_by place login which (first w g layer))
     late_by place None l which e = to_logins tt

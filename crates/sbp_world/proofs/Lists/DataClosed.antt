@@ -2,6 +2,8 @@
 use Rattle.rbc_disk.specs.Disk.{Disk}
 use Rattle.std.proofs.Common.{arith, ◌≡◌, ◌∙◌, refl, sym, ap, subst, ◌<◌, ◌≤◌, ◌-◌, ◌+◌, ◌^◌, ◌&&◌, not, ℕ, suc, nat_eq, nat_lt, Bool, true, false, cond, List, [], ◌∷◌, ◌++◌, length, Option, Some, None}
 use Rattle.std.proofs.lemmas.Bool.Decides.{nat_tests}
+use Rattle.std.proofs.lemmas.Bool.{false≢true}
+use Rattle.std.proofs.lemmas.Option.{same_Some}
 use Rattle.bus_transactions.specs.Packets.{SerialsCount}
 use Rattle.command_agent.specs.Machine.{Machine, cut_to}
 use Rattle.page_table.specs.Buffer.{chunk, chunk_from}
@@ -37,31 +39,20 @@ use Rattle.sbp_world.proofs.Lists.Passing.{PassLaw}
 use Rattle.sbp_world.proofs.Lists.Rises.{Rises}
 use Rattle.sbp_world.proofs.Lists.StatusKnown.{each_from, generation_grows}
 use Rattle.sbp_world.proofs.Lists.StatusMoments.{ended_below, ended_stays}
-
-no : false ≡ true → ⊥
-no e = cc
-
-split : (a b c : List Moment) → a ++ (b ++ c) ≡ (a ++ b) ++ c
-split [] b c = refl
-split (m ∷ a) b c = ap (λ ms. m ∷ ms) (split a b c)
-
-tail_is : (m x : Moment) (a b : List Moment) → m ∷ a ≡ x ∷ b → a ≡ b
-tail_is m x a b e = cc
-
-itself : (a : ℕ) → nat_eq a a ≡ true
-itself a = grind (arith, nat_tests)
+use Rattle.sbp_world.proofs.Common.{itself, moments_split}
+use Rattle.sbp_world.proofs.Lists.AnswersCarriedBefore.{tail_is}
 
 all_true : (a b c : Bool) → a ≡ true → b ≡ true → c ≡ true → a && b && c ≡ true
 all_true true true true e f g = refl
-all_true true true false e f g = absurd (no g)
-all_true true false c e f g = absurd (no f)
-all_true false b c e f g = absurd (no e)
+all_true true true false e f g = absurd (false≢true g)
+all_true true false c e f g = absurd (false≢true f)
+all_true false b c e f g = absurd (false≢true e)
 
 all_false : (a b c : Bool) → a ≡ false → b ≡ false → c ≡ false → not a && not b && not c ≡ true
 all_false false false false e f g = refl
-all_false false false true e f g = absurd (no (sym g))
-all_false false true c e f g = absurd (no (sym f))
-all_false true b c e f g = absurd (no (sym e))
+all_false false false true e f g = absurd (false≢true (sym g))
+all_false false true c e f g = absurd (false≢true (sym f))
+all_false true b c e f g = absurd (false≢true (sym e))
 
 -- a packet from the target to an initiator
 pub record IsSent (t : Terms) (i serial : ℕ) : Type 0 where
@@ -70,12 +61,9 @@ pub record IsSent (t : Terms) (i serial : ℕ) : Type 0 where
   pub from : packet.from ≡ 0
   pub to : packet.to ≡ suc i
 
-same_node : (a b : ℕ) → Some a ≡ Some b → a ≡ b
-same_node a b e = cc
-
 sent_by : (t : Terms) (i serial : ℕ) (so : Option Sending) → t.sent serial ≡ so → sender_in so ≡ Some 0 → receiver_in so ≡ Some (suc i) → IsSent t i serial
 sent_by t i serial None e f g = absurd (let z : None ≡ Some 0 = f in cc)
-sent_by t i serial (Some q) e f g = record { packet = q; sent = e; from = same_node q.from 0 f; to = same_node q.to (suc i) g }
+sent_by t i serial (Some q) e f g = record { packet = q; sent = e; from = same_Some q.from 0 f; to = same_Some q.to (suc i) g }
 
 module _ (start : List Disk) (wild : ℕ → Bool) (i : ℕ) (own : wild i ≡ false) where
   -- ---- what each history of a run is
@@ -116,7 +104,7 @@ module _ (start : List Disk) (wild : ℕ → Bool) (i : ℕ) (own : wild i ≡ f
 
     none_over : (front back : List Moment) → front ++ back ≡ M → is_over (back ++ T) i (orb n k) ≡ true → ⊥
     none_over front back is o =
-        let all : front ++ (back ++ T) ≡ ms = split front back T ∙ (ap (λ h. h ++ T) is ∙ at) in
+        let all : front ++ (back ++ T) ≡ ms = moments_split front back T ∙ (ap (λ h. h ++ T) is ∙ at) in
         let there = sound_from front (back ++ T) (subst IsSound (sym all) f) in
         let x : HasEnded i (back ++ T) n k = over_ended i wild own (back ++ T) there.passes there.taken (orb n k) o in
         still x.status (ap (λ h. ended_status h i n k) (sym all) ∙ (ended_stays wild i own front (back ++ T) n k (subst (PassLaw wild) (sym all) f.passes) x.below ∙ x.is)) x.proper
@@ -204,14 +192,8 @@ module _ (start : List Disk) (wild : ℕ → Bool) (i : ℕ) (own : wild i ≡ f
       abbrev pub mc : Machine
       mc = its.was.machine
 
-      same_access : (x y : Access) → Some x ≡ Some y → x ≡ y
-      same_access x y e = cc
-
-      same_cmd : (x y : Cmd) → Some x ≡ Some y → x ≡ y
-      same_cmd x y e = cc
-
       pub access_same : a.access ≡ its.writes.access
-      access_same = same_access a.access its.writes.access (sym access_is ∙ its.writes.is)
+      access_same = same_Some a.access its.writes.access (sym access_is ∙ its.writes.is)
 
       pieced : IsPieceOf A i n k mc its.writes.access.offset its.was.size
       pieced = moved i B n k a.serial s q its (λ x y. IsPieceOf A i x y mc its.writes.access.offset its.was.size) its.was.piece
@@ -226,7 +208,7 @@ module _ (start : List Disk) (wild : ℕ → Bool) (i : ℕ) (own : wild i ≡ f
       slot_there = sym (slot_lasts i n k wild (mid i B n k a.serial s q its) A passes_there appended) ∙ ap (λ h. slot_at h i n k) (whole i B n k a.serial s q its)
 
       cmd_same : pieced.cmd ≡ a.cmd
-      cmd_same = same_cmd pieced.cmd a.cmd (sym pieced.command ∙ (sym (command_lasts i n k wild (mid i B n k a.serial s q its) A passes_there appended) ∙ (ap (λ h. command_at h i n k) (whole i B n k a.serial s q its) ∙ a.command)))
+      cmd_same = same_Some pieced.cmd a.cmd (sym pieced.command ∙ (sym (command_lasts i n k wild (mid i B n k a.serial s q its) A passes_there appended) ∙ (ap (λ h. command_at h i n k) (whole i B n k a.serial s q its) ∙ a.command)))
 
       abbrev pub limit : ℕ
       limit = 2 ^ (a.cmd.max_payload + 2)
@@ -281,9 +263,6 @@ module _ (start : List Disk) (wild : ℕ → Bool) (i : ℕ) (own : wild i ≡ f
     pub before : List Moment
     pub is : later ++ said (notes.Ended i (Some n) (Some k) status) ∷ before ≡ past
 
-  same_status : (a b : StatusKind) → Some a ≡ Some b → a ≡ b
-  same_status a b e = cc
-
   further : (m : Moment) (past : List Moment) (n k : ℕ) (status : StatusKind) → WasEnded past n k status → WasEnded (m ∷ past) n k status
   further m past n k status w = record { later = m ∷ w.later; before = w.before; is = ap (λ h. m ∷ h) w.is }
 
@@ -303,7 +282,7 @@ module _ (start : List Disk) (wild : ℕ → Bool) (i : ℕ) (own : wild i ≡ f
                 ap (λ a. said (notes.Ended a (Some n) (Some k) status) ∷ past) same_i
                 ∙ ap (λ a. said (notes.Ended j (Some a) (Some k) status) ∷ past) same_n
                 ∙ ap (λ a. said (notes.Ended j (Some m) (Some a) status) ∷ past) same_k
-                ∙ ap (λ x. said (notes.Ended j (Some m) (Some l) x) ∷ past) (sym (same_status st status is));
+                ∙ ap (λ x. said (notes.Ended j (Some m) (Some l) x) ∷ past) (sym (same_Some st status is));
           }
       by again true true false f g h is = again is
       by again true false z f g h is = again is
@@ -338,7 +317,7 @@ module _ (start : List Disk) (wild : ℕ → Bool) (i : ℕ) (own : wild i ≡ f
       sound = sound_from (mid i ms n k next other following e) B (subst IsSound (sym whole_is) f)
 
       served_before : AreServed start B i
-      served_before = below e.later B sends e.was.later (split e.later (sends ∷ e.was.later) B ∙ whole_is)
+      served_before = below e.later B sends e.was.later (moments_split e.later (sends ∷ e.was.later) B ∙ whole_is)
 
       early : IsDataOf start B i n k serial packet slot
       early = into_turn i ms n k next other following e f.serials n k serial slot packet d less
@@ -354,10 +333,10 @@ module _ (start : List Disk) (wild : ℕ → Bool) (i : ℕ) (own : wild i ≡ f
       there = moved i ms n k next other following e (λ x y. prepared_in B i (slot_at B i x y) ≡ Some (orb x y)) e.was.piece.has
 
       extends : WasClosed e.before serial → WasClosed ms serial
-      extends w = subst (λ h. WasClosed h serial) (sym (split e.later (sends ∷ []) e.before) ∙ e.is) (closed_on (e.later ++ sends ∷ []) e.before serial w)
+      extends w = subst (λ h. WasClosed h serial) (sym (moments_split e.later (sends ∷ []) e.before) ∙ e.is) (closed_on (e.later ++ sends ∷ []) e.before serial w)
 
       sound_then : IsSound e.before
-      sound_then = sound_from (e.later ++ sends ∷ []) e.before (subst IsSound (sym (sym (split e.later (sends ∷ []) e.before) ∙ e.is)) f)
+      sound_then = sound_from (e.later ++ sends ∷ []) e.before (subst IsSound (sym (sym (moments_split e.later (sends ∷ []) e.before) ∙ e.is)) f)
 
       by_turn : (m : Machine) → IsInTurn e.before B i n k m → WasClosed e.before serial
       by_turn m (is_first none start) = let some = ran_so i B n k serial slot packet early in absurd (omega (arith, none, some))
@@ -389,7 +368,7 @@ module _ (start : List Disk) (wild : ℕ → Bool) (i : ℕ) (own : wild i ≡ f
       sound_past = sound_from (ended_note ∷ []) past sound_end
 
       pub at_past : (moment.later ++ ended_note ∷ []) ++ past ≡ ms
-      at_past = sym (split moment.later (ended_note ∷ []) past) ∙ moment.is
+      at_past = sym (moments_split moment.later (ended_note ∷ []) past) ∙ moment.is
 
       so : EndSo i ended_note past
       so = sound_end.ends_so.0
@@ -404,7 +383,7 @@ module _ (start : List Disk) (wild : ℕ → Bool) (i : ℕ) (own : wild i ≡ f
       then_sound = subst IsSound (sym w.is) sound_past
 
       pub at_turn : ((moment.later ++ ended_note ∷ []) ++ w.later) ++ C ≡ ms
-      at_turn = sym (split (moment.later ++ ended_note ∷ []) w.later C) ∙ (ap (λ h. (moment.later ++ ended_note ∷ []) ++ h) w.is ∙ at_past)
+      at_turn = sym (moments_split (moment.later ++ ended_note ∷ []) w.later C) ∙ (ap (λ h. (moment.later ++ ended_note ∷ []) ++ h) w.is ∙ at_past)
 
       pub sound_turn : IsSound C
       sound_turn = sound_from w.later C then_sound
@@ -429,7 +408,7 @@ module _ (start : List Disk) (wild : ℕ → Bool) (i : ℕ) (own : wild i ≡ f
         not_behind high =
             let x = inside serial packet.generation packet.from packet.to packet.bytes d.before moment.later X d.later (d.is ∙ sym moment.is) (subst SerialsCount (sym moment.is) f.serials) high in
             let front = d.later ++ leaving_note ∷ [] in
-            let at_it : front ++ d.before ≡ ms = sym (split d.later (leaving_note ∷ []) d.before) ∙ d.is in
+            let at_it : front ++ d.before ≡ ms = sym (moments_split d.later (leaving_note ∷ []) d.before) ∙ d.is in
             let there : IsSound d.before = sound_from front d.before (subst IsSound (sym at_it) f) in
             let passes : PassLaw wild (x.0 ++ X) = subst (PassLaw wild) (sym x.1) there.passes in
             let low : k < ends X i n = ended_below past i n k status (sound_end.passes.0 own).turn.number in
@@ -500,7 +479,7 @@ module _ (start : List Disk) (wild : ℕ → Bool) (i : ℕ) (own : wild i ≡ f
         (λ status e proper.
         let w = ended_closed n k status e proper serial slot packet d current in
         let front = w.later ++ said (notes.Got w.got) ∷ [] in
-        let at_it : front ++ w.before ≡ ms = sym (split w.later (said (notes.Got w.got) ∷ []) w.before) ∙ w.is in
+        let at_it : front ++ w.before ≡ ms = sym (moments_split w.later (said (notes.Got w.got) ∷ []) w.before) ∙ w.is in
         let more = all_grow serial front w.before in
         let same : (terms (front ++ w.before)).news serial ≡ (terms ms).news serial = ap (λ h. (terms h).news serial) at_it in
         let one = w.served.once in

@@ -1,7 +1,7 @@
 -- Where the management asks to write, as the ORBs that it reads name it: to their FIFOs, and to the places of their responses. So it asks to write into no buffer of an initiator.
 use Rattle.std.proofs.Common.{arith, ◌≡◌, ◌∙◌, refl, sym, ap, subst, ◌<◌, ◌+◌, ◌*◌, ◌^◌, ◌==◌, ℕ, Bool, true, false, cond, List, [], length, Option, Some, None, Result, Ok, Err}
+use Rattle.std.proofs.lemmas.Option.{none-some}
 use Rattle.bus_memory.specs.Memory.{new_memory}
-use Rattle.bus_memory.specs.declared.window.Window.{Window}
 use Rattle.bus_memory.specs.declared.window.Window.TheVariants as windows
 use Rattle.bus_memory.specs.Windows.{IfShare, start, window_at}
 use Rattle.bus_memory.proofs.Found.{window_here, window_share}
@@ -26,9 +26,8 @@ use Rattle.sbp_world.proofs.Lists.BufferClears.{place_window}
 use Rattle.sbp_world.proofs.Lists.DataOffice.{IsDryAt}
 use Rattle.sbp_world.proofs.Lists.OwnFifos.{fifo_low, fifo_no_window}
 use Rattle.sbp_world.proofs.Lists.StatusBytes.{same_address, written_at}
-
-no_window : (window : Window) → None ≡ Some window → ⊥
-no_window window e = cc
+use Rattle.sbp_world.proofs.Lists.StatusSteps.{none_wrote, read_wrote}
+use Rattle.sbp_world.proofs.Lists.FifoReplies.{same_at}
 
 no_place : (place slot : ℕ) → Some (windows.Response place) ≡ Some (windows.Buffer slot) → ⊥
 no_place place slot e = cc
@@ -46,18 +45,9 @@ aside_dry at (of_response place small is) slot goes =
     no_place place slot (sym here ∙ (ap window_at (sym is) ∙ moved at slot (omega (arith, small, is)) goes))
 
 its_dry : (fifo : ℕ) → IsItsFifo fifo → IsDryAt fifo
-its_dry fifo (of_login own) slot goes = let low = fifo_low fifo own in no_window (windows.Buffer slot) (sym (fifo_no_window fifo own) ∙ moved fifo slot (omega (arith, low)) goes)
+its_dry fifo (of_login own) slot goes = let low = fifo_low fifo own in none-some (windows.Buffer slot) (sym (fifo_no_window fifo own) ∙ moved fifo slot (omega (arith, low)) goes)
 its_dry fifo (of_place place small is) slot goes =
-    no_window (windows.Buffer slot) (sym (place_window place small) ∙ (ap window_at (sym is) ∙ moved fifo slot (omega (arith, small, is)) goes))
-
-same_at : (a b at len : ℕ) → asks.Write a b ≡ asks.Write at len → a ≡ at
-same_at a b at len e = cc
-
-none_write : (at len : ℕ) → asks.Nothing ≡ asks.Write at len → ⊥
-none_write at len e = cc
-
-read_write : (from size at len : ℕ) → asks.Read from size ≡ asks.Write at len → ⊥
-read_write from size at len e = cc
+    none-some (windows.Buffer slot) (sym (place_window place small) ∙ (ap window_at (sym is) ∙ moved fifo slot (omega (arith, small, is)) goes))
 
 module _ (May : ℕ → Type 0) (its : (fifo : ℕ) → IsItsFifo fifo → May fifo) (aside : (at : ℕ) → IsAside at → May at) (m : management.Machine) (t : Table) (keys : List (List ℕ)) (answer : Answer) (own : Operation) where
   abbrev Dry : Ask → Type 0
@@ -67,10 +57,10 @@ module _ (May : ℕ → Type 0) (its : (fifo : ℕ) → IsItsFifo fifo → May f
   to_dry fifo len d at size e = subst May (same_at fifo len at size e) d
 
   none_dry : Dry asks.Nothing
-  none_dry at len e = absurd (none_write at len e)
+  none_dry at len e = absurd (none_wrote at len e)
 
   read_dry : (from size : ℕ) → Dry (asks.Read from size)
-  read_dry from size at len e = absurd (read_write from size at len e)
+  read_dry from size at len e = absurd (read_wrote from size at len e)
 
   responds : (begun : management.Machine) (orb : ManagementOrb) (status : Status) → IsGoodOrb orb → (b : Bool) → Dry (cond b (management.status_step begun own orb.fifo status) (management.quiet (asks.Write orb.second (length begun.outgoing)), management.in_phase begun own (phases.Response orb.fifo))).0.ask
   responds begun orb status g true = to_dry orb.fifo 8 (its orb.fifo g.its)

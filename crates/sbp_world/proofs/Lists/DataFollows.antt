@@ -2,6 +2,8 @@
 -- that the agent has to write behind it; all others go to FIFOs.
 use Rattle.std.proofs.Common.{arith, ◌≡◌, ◌∙◌, refl, sym, ap, subst, ◌<◌, ◌≤◌, nat_le, is_some, ℕ, Bool, true, false, cond, List, [], ◌∷◌, ◌++◌, length, Option, Some, None}
 use Rattle.std.proofs.lemmas.Bool.Decides.{nat_tests}
+use Rattle.std.proofs.lemmas.Bool.{false≢true}
+use Rattle.std.proofs.lemmas.Option.{same_Some, none-some}
 use Rattle.command_agent.specs.declared.step.AgentStep.{AgentStep}
 use Rattle.command_agent.specs.declared.step.Which.{Which}
 use Rattle.command_agent.specs.declared.step.Which.TheVariants.{Ahead, Main}
@@ -30,12 +32,7 @@ use Rattle.sbp_world.proofs.Lists.StatusFollows.{noted_outbox, noted_same}
 use Rattle.sbp_world.proofs.Lists.StatusLosses.{lost_asks, quiet_ahead}
 use Rattle.sbp_world.proofs.Lists.StatusPackets.{step_packets}
 use Rattle.sbp_world.proofs.Lists.StatusReads.{IsOfBody, IsRead, asked_body, body_reads, reads_body}
-
-no : false ≡ true → ⊥
-no e = cc
-
-no_ask : (offset size : ℕ) → asks.Nothing ≡ asks.Write offset size → ⊥
-no_ask offset size e = cc
+use Rattle.sbp_world.proofs.Lists.StatusSteps.{none_wrote}
 
 -- ---- what a packet writes: to a FIFO; or what a step of an agent asks for
 pub data IsBy (Fifo : ℕ → ℕ → Type 0) (step : AgentStep) (m : Machine) (node to offset : ℕ) (payload : List ℕ) : Type 0 where
@@ -54,7 +51,7 @@ module _ (Fifo : ℕ → ℕ → Type 0) (step : AgentStep) (m : Machine) (node 
   AllBy (packet ∷ later) = IsSo packet × AllBy later
 
   pub read_so : (packet : Outgoing) → IsRead packet.bytes → IsSo packet
-  read_so packet r access e w = absurd (no (sym r ∙ (ap is_write_in e ∙ w)))
+  read_so packet r access e w = absurd (false≢true (sym r ∙ (ap is_write_in e ∙ w)))
 
 -- packets write to FIFOs alone
 abbrev pub AllFifo : (ℕ → ℕ → Type 0) → List Outgoing → Type 0
@@ -72,11 +69,11 @@ module _ (Fifo : ℕ → ℕ → Type 0) where
 
   quiet_by : (step : AgentStep) (m : Machine) (node to offset : ℕ) (payload : List ℕ) → IsBy Fifo quiet new_machine 0 to offset payload → IsBy Fifo step m node to offset payload
   quiet_by step m node to offset payload (to_fifo fifo own e) = to_fifo fifo own e
-  quiet_by step m node to offset payload (of_step at size none ask to_is offset_is payload_is) = absurd (no_ask at size ask)
+  quiet_by step m node to offset payload (of_step at size none ask to_is offset_is payload_is) = absurd (none_wrote at size ask)
 
   quiet_to : (node to offset : ℕ) (payload : List ℕ) → IsBy Fifo quiet new_machine node to offset payload → IsBy Fifo quiet new_machine 0 to offset payload
   quiet_to node to offset payload (to_fifo fifo own e) = to_fifo fifo own e
-  quiet_to node to offset payload (of_step at size none ask to_is offset_is payload_is) = absurd (no_ask at size ask)
+  quiet_to node to offset payload (of_step at size none ask to_is offset_is payload_is) = absurd (none_wrote at size ask)
 
   pub more_so : (step : AgentStep) (m : Machine) (node : ℕ) (packets : List Outgoing) (packet : Outgoing) → AllSo Fifo step m node packets → IsSo Fifo quiet new_machine 0 packet → AllSo Fifo step m node (packets ++ packet ∷ [])
   more_so step m node [] packet h p = ((λ access e w. quiet_by step m node packet.to access.offset access.payload (p access e w)), tt)
@@ -176,7 +173,7 @@ module _ (q : ℕ) (b : q < 8) (login : Login) (Fifo : ℕ → ℕ → Type 0) (
   lost_so which true s h =
       let l = lost_step (Agent s) which causes.Label in
       let t = scene (with_agent s.node q l.1) s.outbox in
-      asks_more l.0 (noted q l.0 t) (told_more l.0 t h) (λ offset size e none. no_ask offset size (sym (lost_none which (Agent s) none) ∙ e))
+      asks_more l.0 (noted q l.0 t) (told_more l.0 t h) (λ offset size e none. none_wrote offset size (sym (lost_none which (Agent s) none) ∙ e))
 
   lose_so : (which : Which) (s : Scene) → Kept s → Kept (lose q login which s).1
   unfolding lose
@@ -210,18 +207,12 @@ module _ (q : ℕ) (b : q < 8) (login : Login) (Fifo : ℕ → ℕ → Type 0) (
       pick_so _ (false, s) (ahead_sent q login.node s.node (request_step s.node.layer s.outbox login.node body (purposes.Agent q))) h
       (ahead_out s h body (f body refl) (asking_step s.node.layer login.node body (purposes.Agent q)) (asked_body s.node.layer login.node body (purposes.Agent q)))
 
-  same_body : (x y : Body) → Some x ≡ Some y → x ≡ y
-  same_body x y e = cc
-
-  none_body : (x : Body) → None ≡ Some x → ⊥
-  none_body x e = cc
-
   picked_reads : (x : Bool) (offset len : ℕ) (one : Body) → cond x (Some (block_read offset len)) None ≡ Some one → reads_body one ≡ true
-  picked_reads true offset len one e = ap reads_body (sym (same_body (block_read offset len) one e))
-  picked_reads false offset len one e = absurd (none_body one e)
+  picked_reads true offset len one e = ap reads_body (sym (same_Some (block_read offset len) one e))
+  picked_reads false offset len one e = absurd (none-some one e)
 
   ahead_reads : (ask : Ask) (outgoing : List ℕ) → ((offset size : ℕ) → ask ≡ asks.Write offset size → ⊥) → (one : Body) → agent_body ask false login.fifo outgoing ≡ Some one → reads_body one ≡ true
-  ahead_reads asks.Nothing outgoing f one e = absurd (none_body one e)
+  ahead_reads asks.Nothing outgoing f one e = absurd (none-some one e)
   ahead_reads (asks.Read offset len) outgoing f one e = picked_reads (nat_le len 2048) offset len one e
   ahead_reads (asks.Write offset size) outgoing f one e = absurd (f offset size refl)
 

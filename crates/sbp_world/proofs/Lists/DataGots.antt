@@ -20,10 +20,7 @@ use Rattle.sbp_world.proofs.Lists.DataServed.{IsOwned, gen_low, into_turn, mid, 
 use Rattle.sbp_world.proofs.Lists.OpenNews.{all_grow}
 use Rattle.sbp_world.proofs.Lists.Rises.{Rises}
 use Rattle.sbp_world.proofs.Lists.StatusKnown.{IsKnown, each_from, got_by, known_less, spelled, writes_no_rom}
-
-split : (a b c : List Moment) → a ++ (b ++ c) ≡ (a ++ b) ++ c
-split [] b c = refl
-split (m ∷ a) b c = ap (λ ms. m ∷ ms) (split a b c)
+use Rattle.sbp_world.proofs.Common.{moments_split}
 
 both_true : (a b : Bool) → a ≡ true → b ≡ true → (a && b) ≡ true
 both_true true true e f = refl
@@ -67,7 +64,7 @@ module _ (start : List Disk) (wild : ℕ → Bool) (i : ℕ) (own : wild i ≡ f
     not_closed : WasClosed past serial → ⊥
     not_closed w =
         let front = w.later ++ said (notes.Got w.got) ∷ [] in
-        let at : front ++ w.before ≡ past = sym (split w.later (said (notes.Got w.got) ∷ []) w.before) ∙ w.is in
+        let at : front ++ w.before ≡ past = sym (moments_split w.later (said (notes.Got w.got) ∷ []) w.before) ∙ w.is in
         let more = all_grow serial front w.before in
         let same : (terms (front ++ w.before)).news serial ≡ (terms past).news serial = ap (λ h. (terms h).news serial) at in
         let one = w.served.once in

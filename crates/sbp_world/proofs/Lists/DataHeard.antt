@@ -14,7 +14,6 @@ use Rattle.rbc_disk.specs.Disk.{Disk}
 use Rattle.std.proofs.Common.{arith, ◌≡◌, ◌∙◌, refl, sym, ap, subst, ◌<◌, ℕ, suc, Bool, true, false, List, [], ◌∷◌, ◌++◌, map, Option, Some, None, ◌≤◌, cond, nat_eq, nat_lt, length}
 use Rattle.async_packet.specs.Labels.{LabelParts}
 use Rattle.async_packet.specs.Packet.{Packet, header_in}
-use Rattle.bus_memory.specs.declared.window.Window.{Window}
 use Rattle.bus_memory.specs.declared.window.Window.TheVariants as windows
 use Rattle.bus_memory.specs.Windows.{IfShare, window_at}
 use Rattle.bus_memory.proofs.Found.{window_share}
@@ -77,6 +76,7 @@ use Rattle.sbp_journal.specs.declared.cause.Judged.TheVariants as judgements
 use Rattle.sbp_world.proofs.Lists.DataHears.{AreHeard}
 use Rattle.std.specs.Prelude.{slice_index_or}
 use Rattle.std.proofs.lemmas.Bool.Decides.{nat_tests}
+use Rattle.std.proofs.lemmas.Option.{none-some, same_Some}
 use Rattle.orb_list.specs.Lists.{last_at}
 use Rattle.orb_list.specs.Tickets.{TicketParts}
 use Rattle.rbc_command.specs.declared.sense.Sense.{Sense}
@@ -99,12 +99,7 @@ use Rattle.orb_layout.specs.declared.status.StatusKind.{StatusKind}
 use Rattle.sbp_world.proofs.Lists.DataOpen.{none_ended, told_open}
 use Rattle.sbp_world.proofs.Lists.EndTells.{AreMild, EndedBy, TellsEnd, delivery_ends, of_end, of_mild}
 use Rattle.sbp_world.proofs.Lists.RunTells.{delivery_may, served_there}
-
-no_ask : (offset size : ℕ) → asks.Nothing ≡ asks.Write offset size → ⊥
-no_ask offset size e = cc
-
-no_window : (window : Window) → None ≡ Some window → ⊥
-no_window window e = cc
+use Rattle.sbp_world.proofs.Lists.StatusSteps.{none_wrote}
 
 -- each live login for the node of an initiator has the FIFO of a login
 abbrev pub FifoFor : WorldState → ℕ → ℕ → ℕ → Type 0
@@ -117,7 +112,7 @@ AreOwnFor w i = (place : ℕ) (login : Login) → login_at w.target place ≡ So
 fifo_dry : (fifo offset slot : ℕ) → IsLoginFifo fifo → offset ≡ written_at fifo → window_at offset ≡ Some (windows.Buffer slot) → ⊥
 fifo_dry fifo offset slot own e goes =
     let low = fifo_low fifo own in
-    no_window (windows.Buffer slot) (sym (ap window_at (e ∙ same_address fifo (omega (arith, low))) ∙ fifo_no_window fifo own) ∙ goes)
+    none-some (windows.Buffer slot) (sym (ap window_at (e ∙ same_address fifo (omega (arith, low))) ∙ fifo_no_window fifo own) ∙ goes)
 
 above_zero : (at slot : ℕ) → window_at at ≡ Some (windows.Buffer slot) → 0 < at
 above_zero at slot e = let share = (subst (IfShare at) e (window_share at)).1 in omega (arith, share)
@@ -266,7 +261,7 @@ module _ (disks : List Disk) (wild : ℕ → Bool) (i : ℕ) (own : wild i ≡ f
   -- ---- what a call writes
   by_fifo : (to : ℕ) (access : Access) → node_of w.generations 0 to ≡ Some (suc i) → IsBy (FifoFor w i) quiet new_machine 0 to access.offset access.payload → (slot : ℕ) → window_at access.offset ≡ Some (windows.Buffer slot) → ⊥
   by_fifo to access there (to_fifo fifo own e) slot goes = absurd (fifo_dry fifo access.offset slot (own there) e goes)
-  by_fifo to access there (of_step at size none ask to_is offset_is payload_is) slot goes = absurd (no_ask at size ask)
+  by_fifo to access there (of_step at size none ask to_is offset_is payload_is) slot goes = absurd (none_wrote at size ask)
 
   dry_fifo : (note : Note) (packets : List Outgoing) → AllFifo (FifoFor w i) packets → AllDry disks i past ms note w.generations packets
   dry_fifo note [] h = tt
@@ -363,12 +358,6 @@ module _ (disks : List Disk) (wild : ℕ → Bool) (i : ℕ) (own : wild i ≡ f
     abbrev first_note : Note
     first_note = judged_note serial (received run sent.generation sent.bytes (whole_of w.target media)).0
 
-    some_login : (one other : Login) → Some one ≡ Some other → one ≡ other
-    some_login one other z = cc
-
-    some_which : (one other : Which) → Some one ≡ Some other → one ≡ other
-    some_which one other z = cc
-
     silent_by : (p : Packet) (label : LabelParts) (place : ℕ) → (judging_step w.target.layer sent.generation sent.bytes).0 ≡ of_response p label (Some (purposes.Agent place)) → (login : Login) → login_at w.target place ≡ Some login → (which : Which) → which_in (desk_at w.target place) (header_in p).source label ≡ Some which → (reply_step (machine_at w place) place (plain_in w.target.units media.disks login.unit) run which (answer_in p)).0.ended ≡ None → (at orb_at : ℕ) (status : StatusKind) → EndedBy w.target sent run media at orb_at status → ⊥
     silent_by p label place f login is which e none at orb_at status x =
         let both : of_response x.packet x.label (Some (purposes.Agent at)) ≡ of_response p label (Some (purposes.Agent place)) = sym x.found ∙ f in
@@ -376,12 +365,12 @@ module _ (disks : List Disk) (wild : ℕ → Bool) (i : ℕ) (own : wild i ≡ f
         let same_packet : x.packet ≡ p = cc in
         let same_label : x.label ≡ label = cc in
         let login_there : login_at w.target place ≡ Some x.login = subst (λ y. login_at w.target y ≡ Some x.login) same_place (served_there w.target at x.login x.served) in
-        let same_login : x.login ≡ login = some_login x.login login (sym login_there ∙ is) in
+        let same_login : x.login ≡ login = same_Some x.login login (sym login_there ∙ is) in
         let which_there : which_in (desk_at w.target place) (header_in p).source label ≡ Some x.which =
         subst (λ y. which_in (desk_at w.target place) (header_in p).source y ≡ Some x.which) same_label
         (subst (λ y. which_in (desk_at w.target place) (header_in y).source x.label ≡ Some x.which) same_packet
         (subst (λ y. which_in (desk_at w.target y) (header_in x.packet).source x.label ≡ Some x.which) same_place x.is_which)) in
-        let same_which : x.which ≡ which = some_which x.which which (sym which_there ∙ e) in
+        let same_which : x.which ≡ which = same_Some x.which which (sym which_there ∙ e) in
         let one = subst (λ y. (reply_step (machine_at w y) y (plain_in w.target.units media.disks x.login.unit) run x.which (answer_in x.packet)).0.ended ≡ Some status) same_place x.ended in
         let two = subst (λ (y : Login). (reply_step (machine_at w place) place (plain_in w.target.units media.disks y.unit) run x.which (answer_in x.packet)).0.ended ≡ Some status) same_login one in
         let three = subst (λ y. (reply_step (machine_at w place) place (plain_in w.target.units media.disks login.unit) run y (answer_in x.packet)).0.ended ≡ Some status) same_which two in

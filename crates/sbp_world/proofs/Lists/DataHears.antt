@@ -1,5 +1,6 @@
 -- What a reply answers that an agent gets while it writes an answer: the write of the chunk for which it waits.
-use Rattle.std.proofs.Common.{◌≡◌, ◌∙◌, sym, ap, subst, ◌<◌, ℕ, suc, Bool, false, List, ◌∷◌, length, Option, Some, None, refl, true}
+use Rattle.std.proofs.Common.{◌≡◌, ◌∙◌, sym, ap, subst, ◌<◌, ℕ, suc, Bool, false, List, ◌∷◌, length, Some, true}
+use Rattle.std.proofs.lemmas.Option.{same_Some}
 use Rattle.async_packet.specs.Labels.{LabelParts}
 use Rattle.async_packet.specs.Packet.{Packet, header_in}
 use Rattle.command_agent.specs.declared.phase.Phase.TheVariants as phases
@@ -12,10 +13,10 @@ use Rattle.packet_store.specs.Kept.{found_sent}
 use Rattle.rbc_disk.specs.Disk.{Disk}
 use Rattle.sbp_journal.specs.Addresses.{Access}
 use Rattle.sbp_journal.specs.Run.{Moment, asked}
-use Rattle.sbp_journal.specs.Transactions.{Part, Sending, Transaction, no_packet, part_of, request, response}
+use Rattle.sbp_journal.specs.Transactions.{request}
 use Rattle.sbp_journal.specs.Wire.{Terms, opened, terms}
 use Rattle.sbp_journal.specs.declared.event.Event.{Event}
-use Rattle.sbp_laws.specs.Packets.{access_at, answered_as, answered_at, answered_in, begun_in, is_under_way, receiver_in, sender_in, waits_for}
+use Rattle.sbp_laws.specs.Packets.{access_at, answered_at, begun_in, is_under_way, receiver_in, sender_in}
 use Rattle.sbp_laws.specs.Packets as laws
 use Rattle.sbp_laws.specs.Targets.{agent_at, over, target_at}
 use Rattle.sbp_target.specs.declared.purpose.Purpose.TheVariants as purposes
@@ -34,6 +35,8 @@ use Rattle.sbp_world.proofs.Lists.DataPieces.{next_chunk, next_size}
 use Rattle.sbp_world.proofs.Lists.Heard.{closed, request_to, tells, waiting, waits_so}
 use Rattle.sbp_world.proofs.Lists.Sites.{Site, Waiting, waiting as agent_waiting}
 use Rattle.sbp_world.proofs.Lists.Told.{AgentOn}
+use Rattle.sbp_world.proofs.Lists.OrbWaits.{waits_same}
+use Rattle.sbp_world.proofs.Lists.OrbLines.{answered_same}
 
 -- the packet with a serial answers the write for which the agent of a place waits
 pub record IsHeard (past : List Moment) (w : WorldState) (serial place : ℕ) (answer : Answer) : Type 0 where
@@ -48,8 +51,6 @@ AreHeard wild past w =
     (serial : ℕ) (sent : Sent) → found_sent serial w.store.kept ≡ Some sent → sent.to ≡ 0 → (packet : Packet) (label : LabelParts) (place : ℕ) → (judging_step w.target.layer sent.generation sent.bytes).0 ≡ of_response packet label (Some (purposes.Agent place)) → which_in (desk_at w.target place) (header_in packet).source label ≡ Some Main → place < 8 → wild (holder w place).initiator ≡ false → (machine_at w place).phase ≡ phases.Answering → IsHeard past w serial place (answer_in packet)
 
 -- ---- at a place
-same_node : (i j : ℕ) → Some i ≡ Some j → i ≡ j
-same_node i j e = cc
 
 module _ (wild : ℕ → Bool) (units ready : ℕ) (has : 0 < units) (start : List Disk) {past : List Moment} {lines : ℕ} (w : WorldState) (h : Holding units ready start past lines w) (s : Site start past w) (lists : (i : ℕ) → wild i ≡ false → OpenLists (hist past w) w) (calm : (i : ℕ) → wild i ≡ false → IsCalm (hist past w) i) (holds : (i : ℕ) → i < length w.initiators → HoldsOrbs (hist past w) i (initiator_at w i)) (agents : (p : ℕ) → p < 8 → AgentOn wild (hist past w) (holder w p) (machine_at w p)) where
   abbrev t : Terms
@@ -67,7 +68,7 @@ module _ (wild : ℕ → Bool) (units ready : ℕ) (has : 0 < units) (start : Li
 
     calm_from : t.injects sent.from ≡ false
     calm_from =
-        let from_is : sent.from ≡ suc (initiator_in w place) = same_node sent.from (suc (initiator_in w place)) (sym (request_to units ready has start w h s.agents.requests s.agents.are s.agents.known s.asked serial sent found zero_to packet label place e) ∙ asked_for.to) in
+        let from_is : sent.from ≡ suc (initiator_in w place) = same_Some sent.from (suc (initiator_in w place)) (sym (request_to units ready has start w h s.agents.requests s.agents.are s.agents.known s.asked serial sent found zero_to packet label place e) ∙ asked_for.to) in
         ap t.injects from_is ∙ calm (initiator_in w place) own
 
     pub heard_there : IsHeard (hist past w) w serial place (answer_in packet)
@@ -80,18 +81,6 @@ module _ (wild : ℕ → Bool) (units ready : ℕ) (has : 0 < units) (start : Li
     }
 
 -- ---- as a line begins that delivers a packet
-as_same : (u : Terms) (r : Bool) (part : Part) (sending : Sending) → answered_as part (record u { repeats = r }) sending ≡ answered_as part u sending
-as_same u r (request label kind) sending = refl
-as_same u r (response label kind) sending = refl
-as_same u r no_packet sending = refl
-
-answered_same : (u : Terms) (r : Bool) (sent : Option Sending) → answered_in (record u { repeats = r }) sent ≡ answered_in u sent
-answered_same u r None = refl
-answered_same u r (Some sending) = as_same u r (part_of sending.bytes) sending
-
-waits_same : (u : Terms) (r : Bool) (x : Option Transaction) (serial : ℕ) → waits_for (record u { repeats = r }) x serial ≡ waits_for u x serial
-waits_same u r None serial = refl
-waits_same u r (Some x) serial = refl
 
 module _ (wild : ℕ → Bool) (line : ℕ) (event : Event) (r : Bool) (as_opened : (t : Terms) → opened event t ≡ record t { repeats = r }) (ms : List Moment) (w : WorldState) where
   abbrev old : Terms

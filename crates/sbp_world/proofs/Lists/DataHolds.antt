@@ -1,6 +1,7 @@
 -- A write of data is of an ORB whose slot has it until its status is taken, while its initiator is in the generation of the write.
-use Rattle.std.proofs.Common.{arith, ◌≡◌, ◌∙◌, refl, sym, ap, subst, inl, inr, ◌⊎◌, ◌<◌, ◌≤◌, ◌==◌, ℕ, suc, nat_eq, Bool, true, false, cond, List, [], ◌∷◌, ◌++◌, length, Option, Some, None}
-use Rattle.std.proofs.lemmas.Bool.Decides.{nat_tests}
+use Rattle.std.proofs.Common.{arith, ◌≡◌, ◌∙◌, refl, sym, ap, subst, inl, inr, ◌⊎◌, ◌<◌, ◌≤◌, ◌==◌, ℕ, suc, Bool, true, false, List, [], ◌∷◌, ◌++◌, length, Option, Some, None}
+use Rattle.std.proofs.lemmas.Bool.{false≢true}
+use Rattle.std.proofs.lemmas.Option.{none-some}
 use Rattle.bus_transactions.specs.Packets.{SerialsCount}
 use Rattle.rbc_disk.specs.Disk.{Disk}
 use Rattle.sbp_journal.specs.declared.note.Note.TheVariants as notes
@@ -25,7 +26,7 @@ use Rattle.sbp_world.specs.Lists.Statuses.{IsToHost}
 use Rattle.sbp_world.proofs.Lists.DataTurns.{ran_on}
 use Rattle.sbp_world.proofs.Lists.Rises.{Rises}
 use Rattle.sbp_world.proofs.Lists.SlotsHeld.{slots_stay_law}
-use Rattle.sbp_world.proofs.Lists.StatusKnown.{each_from, generation_grows}
+use Rattle.sbp_world.proofs.Lists.StatusKnown.{each_from, generation_grows, unlike, own_sight}
 use Rattle.sbp_world.proofs.Lists.StatusMoments.{HasTaken, over_taken, taken_stays}
 use Rattle.sbp_world.proofs.Lists.StatusRuns.{rises_of}
 use Rattle.sbp_world.proofs.Lists.TameWalks.{from_after, from_between}
@@ -33,22 +34,7 @@ use Rattle.sbp_world.specs.Lists.FewLogins.{IsTameOrFew}
 use Rattle.sbp_world.proofs.Lists.Beside.{tame_or_few_before}
 use Rattle.sbp_world.specs.Lists.Closes.{UnderFrom}
 use Rattle.sbp_world.proofs.Lists.Walks.{Walks}
-
-no : false ≡ true → ⊥
-no e = cc
-
-split : (a b c : List Moment) → a ++ (b ++ c) ≡ (a ++ b) ++ c
-split [] b c = refl
-split (m ∷ a) b c = ap (λ ms. m ∷ ms) (split a b c)
-
-itself : (a : ℕ) → nat_eq a a ≡ true
-itself a = grind (arith, nat_tests)
-
-own_sight : (node generation : ℕ) (old : ℕ → ℕ) → cond (nat_eq node node) generation (old node) ≡ generation
-own_sight node generation old = ap (λ b. cond b generation (old node)) (itself node)
-
-unlike : (x y : ℕ) → (x == y) ≡ false → x ≡ y → ⊥
-unlike x y e f = no (sym e ∙ (let z : (x == y) ≡ true = grind (arith, nat_tests) in z))
+use Rattle.sbp_world.proofs.Common.{moments_split}
 
 -- ---- a slot keeps its ORB in a generation until its status is taken
 module _ (i slot : ℕ) (one : Orb) (mid before : List Moment) (rises : Rises (mid ++ before)) (same : (terms before).generation (suc i) ≡ (terms (mid ++ before)).generation (suc i)) where
@@ -56,7 +42,7 @@ module _ (i slot : ℕ) (one : Orb) (mid before : List Moment) (rises : Rises (m
   none_saw front back generation is differs =
       let x = said (notes.Seen (suc i) generation) in
       let there = x ∷ (back ++ before) in
-      let whole : front ++ there ≡ mid ++ before = split front (x ∷ back) before ∙ ap (λ ms. ms ++ before) is in
+      let whole : front ++ there ≡ mid ++ before = moments_split front (x ∷ back) before ∙ ap (λ ms. ms ++ before) is in
       let up : Rises (front ++ there) = subst Rises (sym whole) rises in
       let here : Rises there = each_from _ front there up in
       let a = generation_grows back before (suc i) here.1 in
@@ -69,7 +55,7 @@ module _ (i slot : ℕ) (one : Orb) (mid before : List Moment) (rises : Rises (m
 
   none_over : taken_at (mid ++ before) i one.list one.number ≡ None → (front back : List Moment) → front ++ back ≡ mid → HasTaken (back ++ before) i one.list one.number → ⊥
   none_over none front back is taken =
-      let whole : front ++ (back ++ before) ≡ mid ++ before = split front back before ∙ ap (λ ms. ms ++ before) is in
+      let whole : front ++ (back ++ before) ≡ mid ++ before = moments_split front back before ∙ ap (λ ms. ms ++ before) is in
       let later = subst (λ ms. HasTaken ms i one.list one.number) whole (taken_stays front (back ++ before) i one.list one.number taken) in
       let z : None ≡ Some later.taken = sym none ∙ later.is in cc
 
@@ -104,7 +90,7 @@ module _ (start : List Disk) (ms : List Moment) (i : ℕ) (rises : Rises ms) (se
     mid = s.later ++ leaves ∷ was.later
 
     whole : mid ++ was.before ≡ ms
-    whole = sym (split s.later (leaves ∷ was.later) was.before) ∙ (ap (λ h. s.later ++ leaves ∷ h) was.is ∙ s.is)
+    whole = sym (moments_split s.later (leaves ∷ was.later) was.before) ∙ (ap (λ h. s.later ++ leaves ∷ h) was.is ∙ s.is)
 
     up : Rises (mid ++ was.before)
     up = subst Rises (sym whole) rises
@@ -117,7 +103,7 @@ module _ (start : List Disk) (ms : List Moment) (i : ℕ) (rises : Rises ms) (se
 
     ran_so : 0 < runs ms i was.list (ends was.before i was.list)
     ran_so =
-        subst (λ h. 0 < runs h i was.list (ends was.before i was.list)) (sym (split s.later (leaves ∷ []) s.before) ∙ s.is)
+        subst (λ h. 0 < runs h i was.list (ends was.before i was.list)) (sym (moments_split s.later (leaves ∷ []) s.before) ∙ s.is)
         (ran_on (s.later ++ leaves ∷ []) s.before i was.list (ends was.before i was.list) was.ran)
 
     held_so : packet.generation ≡ (terms ms).generation (suc i) → IsOfOrb ms i slot
@@ -152,13 +138,10 @@ held_walk : (wild : ℕ → Bool) (units ready : ℕ) → 0 < units → (start :
 held_walk wild units ready has start past s later t step p i b own =
     data_held start (hist later t.world) i (rises_of later t.world step.reaches.holds.sound.stands (hist later t.world) refl) step.reaches.site.serials ((step.so_far_then i own) i b (step.reaches.calm i own))
 
-none_sent : (packet : Sending) → None ≡ Some packet → ⊥
-none_sent packet e = cc
-
 first_held : (wild : ℕ → Bool) (line : ℕ) (run : Run) → AllHeld wild (moments_behind line run []) (beginning run).world
 first_held wild line run i b own = record {
-  seen = λ serial slot packet t x. absurd (none_sent packet t.is);
-  held = λ serial slot packet t x. absurd (none_sent packet t.is);
+  seen = λ serial slot packet t x. absurd (none-some packet t.is);
+  held = λ serial slot packet t x. absurd (none-some packet t.is);
 }
 
 pub delivers : (most : Option ℕ) → DeliversMore (more_deliveries most)

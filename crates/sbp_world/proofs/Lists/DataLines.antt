@@ -4,6 +4,7 @@ use Rattle.std.proofs.Common.{arith, ◌≡◌, refl, sym, subst, ℕ, suc, ◌+
 use Rattle.std.specs.Prelude.{if◌then◌else◌, slice_set}
 use Rattle.std.specs.List.{AllByRecursion}
 use Rattle.std.proofs.lemmas.Bool.Decides.{nat_tests}
+use Rattle.std.proofs.lemmas.Bool.{false≢true}
 use Rattle.async_packet.specs.Labels.{LabelParts}
 use Rattle.sbp_world.specs.Hosts.Handing.{AreOthers, history}
 use Rattle.sbp_world.proofs.Hosts.ActLeft.{act_left}
@@ -53,9 +54,6 @@ use Rattle.sbp_world.specs.declared.parts.delivering.Arrival.{Arrival}
 use Rattle.sbp_world.specs.Delivering.{arrived, at_target, delivered, delivered_by, initiator_received, initiators_received, marked, received_by, received_step, target_received, whole_of, with_initiators}
 use Rattle.sbp_world.proofs.Wire.Comes.{own_inside, own_outside, received_is, to_own, to_zero}
 
-no : false ≡ true → ⊥
-no e = cc
-
 -- packets write into no buffer
 abbrev pub AllPlain : List Outgoing → Type 0
 AllPlain [] = Unit {0}
@@ -67,7 +65,7 @@ is_plain (notes.Sent serial generation from to bytes) = false
 is_plain _ = true
 
 tame_plain : (note : Note) → is_tame note ≡ true → is_plain note ≡ true
-tame_plain (notes.Sent serial generation from to bytes) e = absurd (no e)
+tame_plain (notes.Sent serial generation from to bytes) e = absurd (false≢true e)
 tame_plain _ e = refl
 
 -- ---- what the target hands out as a second passes, or a generation is seen
@@ -89,7 +87,7 @@ abbrev pub S : List Disk → ℕ → List Moment → WorldState → Type 0
 S disks o past w = EachMoment (DataSo disks o) (history w past)
 
 pub plain_on : (disks : List Disk) (o : ℕ) (note : Note) (ms : List Moment) → is_plain note ≡ true → EachMoment (DataSo disks o) ms → EachMoment (DataSo disks o) (said note ∷ ms)
-plain_on disks o (notes.Sent serial generation from to bytes) ms e h = absurd (no e)
+plain_on disks o (notes.Sent serial generation from to bytes) ms e h = absurd (false≢true e)
 plain_on disks o _ ms e h = (tt, h)
 
 -- ---- what a node tells

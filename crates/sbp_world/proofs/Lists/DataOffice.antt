@@ -3,6 +3,7 @@
 use Rattle.rbc_disk.specs.Disk.{Disk}
 use Rattle.std.proofs.Common.{arith, ◌≡◌, ◌∙◌, refl, sym, ap, subst, ◌≤◌, ◌==◌, nat_le, ℕ, suc, Bool, true, false, cond, List, [], ◌∷◌, ◌++◌, length, Option, Some, None}
 use Rattle.std.proofs.lemmas.Bool.Decides.{nat_tests}
+use Rattle.std.proofs.lemmas.Bool.{false≢true}
 use Rattle.bus_memory.specs.declared.window.Window.TheVariants as windows
 use Rattle.label_table.specs.declared.judgement.Asked.{Asked}
 use Rattle.label_table.specs.Bodies.{Body, block_read, block_write, quadlet_read, quadlet_write}
@@ -51,9 +52,7 @@ use Rattle.sbp_world.proofs.Lists.StatusOffice.{Kept, decided_kept, failed_kept,
 use Rattle.sbp_world.proofs.Lists.StatusTurn.{Behind, IsFirst}
 use Rattle.sbp_world.proofs.Lists.Turns.{Ready}
 use Rattle.sbp_world.specs.Telling.{told_all}
-
-no : false ≡ true → ⊥
-no e = cc
+use Rattle.sbp_world.proofs.Lists.StatusSteps.{none_wrote}
 
 -- an address is in no buffer
 abbrev pub IsDryAt : ℕ → Type 0
@@ -75,7 +74,7 @@ module _ (source : ℕ) (Ours : Type 0) where
   Fine (block_read at asked) = Unit {0}
 
   read_dry : (bytes : List ℕ) → IsRead bytes → (slot : ℕ) → IsDataWrite bytes slot → ⊥
-  read_dry bytes r slot w = no (sym r ∙ (ap is_write_in w.is ∙ w.writes))
+  read_dry bytes r slot w = false≢true (sym r ∙ (ap is_write_in w.is ∙ w.writes))
 
   dry_of : (layer : Layer Purpose) (body : Body) → Fine body → (asked : Asked) → IsOfBody layer source body (Some asked) → Ours → IsDry (record { to = source; label = Some asked.label; bytes = asked.bytes })
   dry_of layer (quadlet_write at value) f asked of ours slot w = absurd f
@@ -130,16 +129,13 @@ IfLeaves Ours (Some source) packets = Leaves source (Ours source) packets
 abbrev pub AreAsksDry : WorldState → ℕ → Answer → Type 0
 AreAsksDry w i answer = (op : Operation) → w.target.manager.operation ≡ Some op → node_of w.generations 0 op.source ≡ Some (suc i) → (at len : ℕ) → (management.reply_step w.target.manager w.target.logins w.target.keys answer).0.ask ≡ asks.Write at len → IsDryAt at
 
-none_write : (at len : ℕ) → asks.Nothing ≡ asks.Write at len → ⊥
-none_write at len e = cc
-
 -- a time-out writes nothing
 late_by : (op : Operation) (phase : Phase) (w : WorldState) (at len : ℕ) → (management.reply_in phase w.target.manager op w.target.logins w.target.keys Expired).0.ask ≡ asks.Write at len → ⊥
-late_by op phases.Orb w at len e = none_write at len e
-late_by op (phases.HighEui orb) w at len e = none_write at len e
-late_by op (phases.LowEui orb high) w at len e = none_write at len e
-late_by op (phases.Response fifo) w at len e = none_write at len e
-late_by op phases.Status w at len e = none_write at len e
+late_by op phases.Orb w at len e = none_wrote at len e
+late_by op (phases.HighEui orb) w at len e = none_wrote at len e
+late_by op (phases.LowEui orb high) w at len e = none_wrote at len e
+late_by op (phases.Response fifo) w at len e = none_wrote at len e
+late_by op phases.Status w at len e = none_wrote at len e
 
 pub late_dry : (w : WorldState) (i : ℕ) → AreAsksDry w i Expired
 unfolding management.reply_step

@@ -1,6 +1,8 @@
 -- In a turn in which the target tells of no end of an ORB but as failed, the first ORB of a list that had not ended as the turn began has not ended but as failed.
 use Rattle.std.proofs.Common.{arith, ◌≡◌, ◌∙◌, refl, sym, ap, subst, ◌<◌, ◌≤◌, ℕ, suc, nat_eq, Bool, true, false, cond, List, [], ◌∷◌, Option, Some, None}
 use Rattle.std.proofs.lemmas.Bool.Decides.{nat_tests}
+use Rattle.std.proofs.lemmas.Bool.{false≢true}
+use Rattle.std.proofs.lemmas.Option.{none-some}
 use Rattle.orb_layout.specs.declared.status.StatusKind.{StatusKind}
 use Rattle.orb_layout.specs.declared.status.StatusKind.TheVariants as kinds
 use Rattle.sbp_bus.specs.Telling.{list_in, orb_in}
@@ -18,16 +20,10 @@ use Rattle.sbp_world.proofs.Lists.OrbSteps.{ends_read}
 use Rattle.sbp_world.proofs.Lists.Passing.{PassLaw}
 use Rattle.sbp_world.proofs.Lists.StatusMoments.{ends_grow}
 
-no : false ≡ true → ⊥
-no e = cc
-
-none_status : (status : StatusKind) → None ≡ Some status → ⊥
-none_status status e = cc
-
 -- ---- an ORB that ended is below the ends
 module _ (wild : ℕ → Bool) (i : ℕ) (own : wild i ≡ false) where
   pub ended_less : (ms : List Moment) → PassLaw wild ms → (n k : ℕ) (status : StatusKind) → ended_status ms i n k ≡ Some status → k < ends ms i n
-  ended_less [] law n k status e = absurd (none_status status e)
+  ended_less [] law n k status e = absurd (none-some status e)
   ended_less (said (notes.Ended j (Some m) (Some l) st) ∷ ms) law n k status e = by (λ x. ended_less ms law.1 n k status x) (nat_eq i j) (nat_eq n m) (nat_eq k l) refl refl refl e
     where
       grown : ends ms i n ≤ ends (said (notes.Ended j (Some m) (Some l) st) ∷ ms) i n
@@ -55,12 +51,12 @@ module _ (wild : ℕ → Bool) (i : ℕ) (own : wild i ≡ false) where
 -- ---- what is told
 failed_of : (status : StatusKind) → ends_read (Some status) ≡ false → status ≡ kinds.Failed
 failed_of kinds.Failed e = refl
-failed_of kinds.Dummy e = absurd (no (sym e))
-failed_of kinds.Good e = absurd (no (sym e))
-failed_of (kinds.Check sense) e = absurd (no (sym e))
-failed_of kinds.Aborted e = absurd (no (sym e))
-failed_of (kinds.Illegal meaning) e = absurd (no (sym e))
-failed_of (kinds.Management meaning) e = absurd (no (sym e))
+failed_of kinds.Dummy e = absurd (false≢true (sym e))
+failed_of kinds.Good e = absurd (false≢true (sym e))
+failed_of (kinds.Check sense) e = absurd (false≢true (sym e))
+failed_of kinds.Aborted e = absurd (false≢true (sym e))
+failed_of (kinds.Illegal meaning) e = absurd (false≢true (sym e))
+failed_of (kinds.Management meaning) e = absurd (false≢true (sym e))
 
 module _ (past : List Moment) (i n k : ℕ) where
   abbrev pub IsOpen : List Moment → Type 0

@@ -1,6 +1,8 @@
 -- At each place of a run in which no initiator injected packets, and before which lists were open as they should be, each end of an ORB, but as failed, was of one that had
 -- not run before its turn, or of one whose last chunk of the answer was written then.
 use Rattle.std.proofs.Common.{arith, ◌≡◌, ◌∙◌, refl, sym, ap, subst, ◌<◌, ℕ, Bool, true, false, List, [], ◌∷◌, ◌++◌, map, length, Option, Some, None}
+use Rattle.std.proofs.lemmas.Bool.{false≢true}
+use Rattle.std.proofs.lemmas.Option.{same_Some}
 use Rattle.login_table.proofs.Searching.{within}
 use Rattle.orb_layout.specs.declared.status.StatusKind.{StatusKind}
 use Rattle.orb_layout.specs.declared.status.StatusKind.TheVariants as kinds
@@ -24,7 +26,6 @@ use Rattle.sbp_world.specs.Telling.{holder, ticket_at}
 use Rattle.sbp_world.specs.Wire.Lines.{IsLine}
 use Rattle.sbp_world.specs.Worlds.{Scene, WorldState, begun, without_notes}
 use Rattle.sbp_world.proofs.Agents.Management.Still.{hist}
-use Rattle.sbp_world.specs.Agents.Management.Terms.{DeliversMore}
 use Rattle.sbp_world.specs.Hosts.Runs.{more_deliveries}
 use Rattle.sbp_world.specs.Lists.Closes.{Always, Under}
 use Rattle.sbp_world.specs.Lists.DataEnds.{AllEndSo, EndSo, WasWritten, is_behind, is_fresh, IsWritten}
@@ -48,13 +49,7 @@ use Rattle.sbp_world.specs.Lists.DataWhole.{AreWhole}
 use Rattle.sbp_world.proofs.Lists.DataProved.{full_of}
 use Rattle.sbp_world.proofs.Lists.DataWhole.{whole_law}
 use Rattle.sbp_world.proofs.Lists.Full.{IsFull}
-
-no : false ≡ true → ⊥
-no e = cc
-
-split : (a b : List Note) (past : List Moment) → map said a ++ (map said b ++ past) ≡ map said (a ++ b) ++ past
-split [] b past = refl
-split (n ∷ a) b past = ap (λ ms. said n ∷ ms) (split a b past)
+use Rattle.sbp_world.proofs.Common.{delivers, said_joined}
 
 -- ---- an end
 module _ (i : ℕ) where
@@ -63,12 +58,12 @@ module _ (i : ℕ) where
 
   plain_end : (note : Note) → IsPlain note → (past : List Moment) → EndSo i (said note) past
   plain_end (notes.Ended j (Some n) (Some k) kinds.Failed) p past = λ e proper. absurd (proper refl)
-  plain_end (notes.Ended j (Some n) (Some k) kinds.Dummy) p past = absurd (no (sym p))
-  plain_end (notes.Ended j (Some n) (Some k) kinds.Good) p past = absurd (no (sym p))
-  plain_end (notes.Ended j (Some n) (Some k) (kinds.Check sense)) p past = absurd (no (sym p))
-  plain_end (notes.Ended j (Some n) (Some k) kinds.Aborted) p past = absurd (no (sym p))
-  plain_end (notes.Ended j (Some n) (Some k) (kinds.Illegal meaning)) p past = absurd (no (sym p))
-  plain_end (notes.Ended j (Some n) (Some k) (kinds.Management meaning)) p past = absurd (no (sym p))
+  plain_end (notes.Ended j (Some n) (Some k) kinds.Dummy) p past = absurd (false≢true (sym p))
+  plain_end (notes.Ended j (Some n) (Some k) kinds.Good) p past = absurd (false≢true (sym p))
+  plain_end (notes.Ended j (Some n) (Some k) (kinds.Check sense)) p past = absurd (false≢true (sym p))
+  plain_end (notes.Ended j (Some n) (Some k) kinds.Aborted) p past = absurd (false≢true (sym p))
+  plain_end (notes.Ended j (Some n) (Some k) (kinds.Illegal meaning)) p past = absurd (false≢true (sym p))
+  plain_end (notes.Ended j (Some n) (Some k) (kinds.Management meaning)) p past = absurd (false≢true (sym p))
   plain_end (notes.Ended j (Some n) None status) p past = tt
   plain_end (notes.Ended j None k status) p past = tt
   plain_end _ p past = tt
@@ -78,7 +73,7 @@ module _ (i : ℕ) where
   all_plain (note ∷ more) p past e = (plain_end note p.0 (map said more ++ past), all_plain more p.1 past e)
 
   plainly_ends : (past : List Moment) (old new : List Note) → Plainly old new → E (map said old ++ past) → E (map said new ++ past)
-  plainly_ends past old new q e = subst (λ ns. E (map said ns ++ past)) q.is (subst E (split q.more old past) (all_plain q.more q.plain (map said old ++ past) e))
+  plainly_ends past old new q e = subst (λ ns. E (map said ns ++ past)) q.is (subst E (said_joined q.more old past) (all_plain q.more q.plain (map said old ++ past) e))
 
   early_ends : (early : List Note) → AllLight early → (past : List Moment) → E past → E (map said early ++ past)
   early_ends [] l past e = e
@@ -90,8 +85,8 @@ module _ (i : ℕ) where
       let got = said (notes.Got serial) ∷ (map said old ++ past) in
       let is = f serial early ended x in
       plainly_ends past (ended ∷ (early ++ notes.Got serial ∷ old)) new q (
-        subst (λ ms. EndSo i (said ended) ms) (split early (notes.Got serial ∷ old) past) is.0,
-        subst E (split early (notes.Got serial ∷ old) past) (early_ends early is.1 got (tt, e)),
+        subst (λ ms. EndSo i (said ended) ms) (said_joined early (notes.Got serial ∷ old) past) is.0,
+        subst E (said_joined early (notes.Got serial ∷ old) past) (early_ends early is.1 got (tt, e)),
       )
 
   by_names : (past : List Moment) (j : ℕ) (x y : Option ℕ) (status : StatusKind) → ((n k : ℕ) → x ≡ Some n → y ≡ Some k → j ≡ i → (status ≡ kinds.Failed → ⊥) → WasWritten past i n k) → EndSo i (said (notes.Ended j x y status)) past
@@ -105,9 +100,6 @@ pub record Known (wild : ℕ → Bool) (past : List Moment) (w : WorldState) : T
   pub asked_orbs : AreAsked wild (hist past w) w
   pub heard : AreHeard wild (hist past w) w
   pub full : (q : ℕ) → q < 8 → wild (initiator_in w q) ≡ false → IsFull (machine_at w q)
-
-same_number : (a b : ℕ) → Some a ≡ Some b → a ≡ b
-same_number a b e = cc
 
 module _ (wild : ℕ → Bool) (i : ℕ) (own : wild i ≡ false) (past : List Moment) (s : Scene) (known : Known wild past s.world) (run : Option Told) (serial : ℕ) (early : List Note) (ended : Note) (r : IsEndBy s run serial early ended) where
   abbrev w : WorldState
@@ -165,7 +157,7 @@ module _ (wild : ℕ → Bool) (i : ℕ) (own : wild i ≡ false) (past : List M
     so : (m k : ℕ) → list_in (ticket_at w r.place r.orb) ≡ Some m → orb_in (ticket_at w r.place r.orb) ≡ Some k → WasWritten now i m k
     so m k e f =
         let x = names in
-        subst (λ y. WasWritten now i y k) (same_number n m (sym x.0 ∙ e)) (written_at (holder w r.place).initiator k mine (same_number k (ends ms (holder w r.place).initiator n) (sym f ∙ x.1)) it)
+        subst (λ y. WasWritten now i y k) (same_Some n m (sym x.0 ∙ e)) (written_at (holder w r.place).initiator k mine (same_Some k (ends ms (holder w r.place).initiator n) (sym f ∙ x.1)) it)
 
   pub end_told : EndSo i (said ended) now
   end_told =
@@ -254,10 +246,6 @@ ends_walk wild units ready has start past s later t step p i b own =
 
 first_ends : (wild : ℕ → Bool) (line : ℕ) (run : Run) → AllEnds wild (moments_behind line run []) (beginning run).world
 first_ends wild line run = λ i b own. (tt, (tt, tt))
-
-delivers : (most : Option ℕ) → DeliversMore (more_deliveries most)
-delivers (Some count) = tt
-delivers None = tt
 
 pub ends_law : Always Ground → Under AllEndSo
 ends_law ground = record {

@@ -1,5 +1,6 @@
 -- At each place of a run, the write that an agent along a list waits for while it writes its answer is of the next chunk of the buffer of its present ORB.
 use Rattle.std.proofs.Common.{arith, ◌≡◌, ◌∙◌, sym, ap, subst, ◌<◌, ◌≤◌, ◌+◌, ◌-◌, ◌^◌, ℕ, Bool, true, false, List, length, take, drop, Some}
+use Rattle.std.proofs.lemmas.Option.{same_Some}
 use Rattle.command_agent.specs.declared.phase.Phase.{Phase}
 use Rattle.command_agent.specs.declared.phase.Phase.TheVariants as phases
 use Rattle.command_agent.specs.declared.step.Which.TheVariants.{Main}
@@ -63,9 +64,6 @@ chunk_written m fifo access a = record {
   piece = same_piece access.offset (length access.payload) (chunk_of m m.written (length m.answer)) (ap (λ (x : Access). x.offset) a.0) a.1;
 }
 
-same_command : (one other : Cmd) → Some one ≡ Some other → one ≡ other
-same_command one other e = cc
-
 module _ (past : List Moment) (i n : ℕ) (p : Progress) (m : Machine) (k : Answers (orbs past i n) p m.present m.orb m.segments m.answer m.written m.outgoing) where
   module _ (a : WasAsked (command_at past i n p.ended) (request_at past i n p.ended) (slot_at past i n p.ended)) where
     laid_is : m.segments ≡ laid_out (slot_at past i n p.ended) a.cmd a.cmd.segments
@@ -74,7 +72,7 @@ module _ (past : List Moment) (i n : ℕ) (p : Progress) (m : Machine) (k : Answ
     most_is : m.orb.max_payload ≡ a.cmd.max_payload
     most_is =
         let o = k.told.good.own in
-        ap (λ (x : CommandOrb). x.max_payload) o.orb ∙ ap (λ (c : Cmd). c.max_payload) (same_command o.cmd a.cmd (sym o.command ∙ a.command_is))
+        ap (λ (x : CommandOrb). x.max_payload) o.orb ∙ ap (λ (c : Cmd). c.max_payload) (same_Some o.cmd a.cmd (sym o.command ∙ a.command_is))
 
     pub chunk_is : chunk_of m m.written (length m.answer) ≡ cut_to (length m.answer - m.written) (chunk_from (laid_out (slot_at past i n p.ended) a.cmd a.cmd.segments) m.written (2 ^ (a.cmd.max_payload + 2)))
     chunk_is =

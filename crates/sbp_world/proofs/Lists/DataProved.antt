@@ -1,6 +1,6 @@
 -- At each place of a run in which no initiator injected packets, or few logins were given, and before which lists were open as they should be, the target sent the data of answers as they are to be
 -- sent; where this is known of the management.
-use Rattle.std.proofs.Common.{◌≡◌, ◌∙◌, ap, sym, subst, ◌<◌, ℕ, Bool, false, List, [], length, Option, Some, None, arith}
+use Rattle.std.proofs.Common.{◌≡◌, ◌∙◌, ap, sym, subst, ◌<◌, ℕ, Bool, false, List, [], length, arith}
 use Rattle.rbc_disk.specs.Disk.{Disk}
 use Rattle.sbp_journal.specs.Run.{Moment}
 use Rattle.sbp_laws.specs.Turns.{EachMoment}
@@ -9,7 +9,6 @@ use Rattle.sbp_world.specs.Runs.{Run, beginning}
 use Rattle.sbp_world.specs.Worlds.{Scene, WorldState, without_notes, initiator_at}
 use Rattle.sbp_world.proofs.Agents.Management.Holding.{target_generation}
 use Rattle.sbp_world.proofs.Agents.Management.Still.{hist}
-use Rattle.sbp_world.specs.Agents.Management.Terms.{DeliversMore}
 use Rattle.sbp_world.specs.Hosts.Runs.{more_deliveries}
 use Rattle.sbp_world.specs.Lists.Closes.{Always, AreHere, UnderFrom, WhereTameOrFew, AreUntaken}
 use Rattle.sbp_world.specs.Lists.DataWrites.{AllDataSo, DataSo}
@@ -36,16 +35,13 @@ use Rattle.sbp_world.proofs.Lists.StatusPlaced.{has_slot}
 use Rattle.sbp_world.specs.Lists.DataWhole.{AreWhole}
 use Rattle.sbp_world.proofs.Lists.DataSteps.{answers_is}
 use Rattle.sbp_world.proofs.Lists.Full.{IsFull}
+use Rattle.sbp_world.proofs.Common.{delivers}
 
 abbrev pub AllData : List Disk → (ℕ → Bool) → List Moment → WorldState → Type 0
 AllData start wild ms w = (i : ℕ) → i < length w.initiators → wild i ≡ false → EachMoment (DataSo start i) ms
 
 pub full_of : (wild : ℕ → Bool) (past : List Moment) (w : WorldState) → ((j : ℕ) → wild j ≡ false → IsCalm past j) → AreWhole past w → (q : ℕ) → q < 8 → wild (initiator_in w q) ≡ false → IsFull (machine_at w q)
 full_of wild past w calm whole q b own e = let x = whole q b (calm (initiator_in w q) own) (answers_is (machine_at w q).phase e) in record { more = x.0; fills = x.1 }
-
-delivers : (most : Option ℕ) → DeliversMore (more_deliveries most)
-delivers (Some count) = tt
-delivers None = tt
 
 module _ (Placed : ℕ → WorldState → Type 0) (placed_on : (i : ℕ) (w : WorldState) → Placed i w → Placed i (without_notes w)) (gives : (start : List Disk) (wild : ℕ → Bool) (i : ℕ) (own : wild i ≡ false) (past : List Moment) (w : WorldState) (r : Ready wild past w) → AreAsked wild (hist past w) w → Placed i w → EachMoment (DataSo start i) (hist past w) → HaveSlots (hist past w) i → Given start wild i own past w r) where
   -- what is known where lists were open as they should be before

@@ -1,6 +1,7 @@
 -- An agent that begins to write an answer in a reply in which a command runs has an answer with bytes to write.
 use Rattle.std.proofs.Common.{arith, ◌≡◌, refl, subst, ◌<◌, ◌==◌, ◌+◌, ℕ, Bool, true, false, cond, List, ◌++◌, length, Option, Some, None, IfSome, Result, Ok, Err, ◌*◌}
 use Rattle.std.proofs.lemmas.Bool.Decides.{nat_tests}
+use Rattle.std.proofs.lemmas.Bool.{false≢true}
 use Rattle.orb_layout.specs.declared.ask.FailCause.{FailCause}
 use Rattle.orb_layout.specs.declared.ask.FailCause.TheVariants as causes
 use Rattle.orb_layout.specs.declared.pointer.OrbPointer.{OrbPointer}
@@ -31,9 +32,6 @@ use Rattle.command_agent.specs.Machine.{Machine, chunk_of, is_ahead, plan_of}
 use Rattle.command_agent.specs.Steps.{advanced, ahead_of, ahead_read, ahead_step, answer_chunk, answer_step, check_step, checked, chunk_written, data_grown, data_read, data_step, elements_read, end_step, follow_step, judge_step, judged, next_read, orb_read, passed_step, quiet, ran_as, reply_step, reread_step, run_step, sent, served, status_written, table_read, told_or, turn_step, unread_buffer, wait_step, with_outcome}
 use Rattle.sbp_world.specs.Agents.Alike.{answers}
 
-no : false ≡ true → ⊥
-no e = cc
-
 abbrev Begins : AgentStep × Machine → Type 0
 Begins s = answers s.1.phase ≡ true → IfSome s.0.ran (λ outcome. 0 < answered_length outcome)
 
@@ -52,16 +50,16 @@ pick_step true x y h k = h
 pick_step false x y h k = k
 
 ends : (m : Machine) (kind : StatusKind) (dead : Option FailCause) → Begins (end_step m kind dead)
-ends m kind None = λ e. absurd (no e)
-ends m kind (Some cause) = λ e. absurd (no e)
+ends m kind None = λ e. absurd (false≢true e)
+ends m kind (Some cause) = λ e. absurd (false≢true e)
 
 -- ---- runs
 good_begins : (m : Machine) (len : ℕ) (b : Bool) → (len == 0) ≡ b → Begins (with_outcome (outcomes.Good len) (cond b (end_step m kinds.Good None) (answer_step m)))
-good_begins m len true e = λ f. absurd (no f)
+good_begins m len true e = λ f. absurd (false≢true f)
 good_begins m len false e = λ f. let z : 0 < len = grind (arith, nat_tests) in z
 
 outcome_begins : (m : Machine) (outcome : Outcome) → Begins (with_outcome outcome (ran_as m outcome))
-outcome_begins m (outcomes.Check sense) = λ e. absurd (no e)
+outcome_begins m (outcomes.Check sense) = λ e. absurd (false≢true e)
 outcome_begins m (outcomes.Good len) = good_begins m len (len == 0) refl
 
 runs : (m : Machine) (told : Told) → Begins (run_step m told)
@@ -69,12 +67,12 @@ runs m told = outcome_begins (record m { answer = told.answer; written = 0 }) to
 
 judges : (m : Machine) (told : Told) (need : Need) → Begins (judged m told need)
 judges m told needs.RunNow = runs m told
-judges m told (needs.Payload len) = λ e. absurd (no e)
+judges m told (needs.Payload len) = λ e. absurd (false≢true e)
 
 passes : (m : Machine) (place : ℕ) (plain : PlainDisk) (told : Told) → Begins (passed_step m place plain told)
 passes m place plain told =
     let n = record m { segments = unread_buffer m.orb } in
-    pick_step (reads_table m.orb) (_, record m { phase = phases.ReadingTable }) (judge_step n place plain told) (λ e. absurd (no e)) (judges n told (need_of n.orb.cdb (plan_of n) plain place))
+    pick_step (reads_table m.orb) (_, record m { phase = phases.ReadingTable }) (judge_step n place plain told) (λ e. absurd (false≢true e)) (judges n told (need_of n.orb.cdb (plan_of n) plain place))
 
 checks : (m : Machine) (place : ℕ) (plain : PlainDisk) (told : Told) (found : Option StatusKind) → Begins (checked m place plain told found)
 checks m place plain told (Some kind) = ends m kind (death_by kind)
@@ -166,7 +164,7 @@ module _ (m : Machine) (place : ℕ) (plain : PlainDisk) (told : Option Told) (a
 
   -- and one that goes on has more to write
   more_by : (n : Machine) (b : Bool) → (n.written == length n.answer) ≡ b → answers (cond b (end_step n kinds.Good None) (answer_step n)).1.phase ≡ true → (n.written == length n.answer) ≡ false
-  more_by n true e f = absurd (no f)
+  more_by n true e f = absurd (false≢true f)
   more_by n false e f = e
 
   pub goes_on : m.phase ≡ phases.Answering → write_failure answer ≡ None → answers (reply_step m place plain told Main answer).1.phase ≡ true → (m.written + answer_chunk m == length m.answer) ≡ false

@@ -2,6 +2,7 @@
 use Rattle.rbc_disk.specs.Disk.{Disk}
 use Rattle.std.proofs.Common.{arith, ◌≡◌, ◌∙◌, refl, sym, ap, subst, ◌<◌, ◌≤◌, ◌+◌, ◌^◌, ℕ, suc, nat_lt, Bool, true, false, List, [], ◌∷◌, ◌++◌, length, Some}
 use Rattle.std.proofs.lemmas.Bool.Decides.{nat_tests}
+use Rattle.std.proofs.lemmas.Option.{same_Some}
 use Rattle.bus_transactions.specs.Packets.{SerialsCount}
 use Rattle.command_agent.specs.Machine.{Machine}
 use Rattle.orb_layout.specs.declared.status.StatusKind.{StatusKind}
@@ -27,13 +28,7 @@ use Rattle.sbp_world.proofs.Lists.DataClosed.{Before, C, at_past, at_turn, befor
 use Rattle.sbp_world.proofs.Lists.DataServed.{closed_on, grows, into_turn, mid, moved, ran_so, turn, whole}
 use Rattle.sbp_world.proofs.Lists.DataSlots.{command_lasts, prepared_below, slot_lasts}
 use Rattle.sbp_world.proofs.Lists.Passing.{PassLaw}
-
-split : (a b c : List Moment) → a ++ (b ++ c) ≡ (a ++ b) ++ c
-split [] b c = refl
-split (m ∷ a) b c = ap (λ ms. m ∷ ms) (split a b c)
-
-same_cmd : (x y : Cmd) → Some x ≡ Some y → x ≡ y
-same_cmd x y e = cc
+use Rattle.sbp_world.proofs.Common.{moments_split}
 
 module _ (start : List Disk) (wild : ℕ → Bool) (i : ℕ) (own : wild i ≡ false) where
   -- ---- behind the turn in which a write is answered
@@ -62,7 +57,7 @@ module _ (start : List Disk) (wild : ℕ → Bool) (i : ℕ) (own : wild i ≡ f
       all = front ++ (later ++ said (notes.Got got) ∷ [])
 
       whole_is : all ++ B ≡ ms
-      whole_is = sym (split front (later ++ said (notes.Got got) ∷ []) B) ∙ (ap (λ h. front ++ h) (sym (split later (said (notes.Got got) ∷ []) B)) ∙ at)
+      whole_is = sym (moments_split front (later ++ said (notes.Got got) ∷ []) B) ∙ (ap (λ h. front ++ h) (sym (moments_split later (said (notes.Got got) ∷ []) B)) ∙ at)
 
       serials : SerialsCount (all ++ B)
       serials = subst SerialsCount (sym whole_is) fm.serials
@@ -81,7 +76,7 @@ module _ (start : List Disk) (wild : ℕ → Bool) (i : ℕ) (own : wild i ≡ f
 
       whole_in : (cmd : Cmd) → command_at ms i n k ≡ Some cmd → chunk_from (laid_out (slot_at ms i n k) cmd cmd.segments) c.was.machine.written (2 ^ (cmd.max_payload + 2)) ≡ Some (chunk c.writes.access.offset (length c.writes.access.payload))
       whole_in cmd e =
-          let same : a.cmd ≡ cmd = same_cmd a.cmd cmd (sym command_is ∙ e) in
+          let same : a.cmd ≡ cmd = same_Some a.cmd cmd (sym command_is ∙ e) in
           subst (λ (x : Cmd). chunk_from (laid_out (slot_at ms i n k) x x.segments) c.was.machine.written (2 ^ (x.max_payload + 2)) ≡ Some (chunk c.writes.access.offset (length c.writes.access.payload))) same
           (subst (λ y. chunk_from (laid_out y a.cmd a.cmd.segments) c.was.machine.written (2 ^ (a.cmd.max_payload + 2)) ≡ Some (chunk c.writes.access.offset (length c.writes.access.payload))) slot_is (its_whole start wild i own B f g n k m got a current there).whole)
 
@@ -95,7 +90,7 @@ module _ (start : List Disk) (wild : ℕ → Bool) (i : ℕ) (own : wild i ≡ f
           writes = c.writes;
           later = all ++ c.later;
           before = c.before;
-          is = sym (split all c.later (said (notes.Sent a.serial q.generation q.from q.to q.bytes) ∷ c.before)) ∙ (ap (λ h. all ++ h) c.is ∙ whole_is);
+          is = sym (moments_split all c.later (said (notes.Sent a.serial q.generation q.from q.to q.bytes) ∷ c.before)) ∙ (ap (λ h. all ++ h) c.is ∙ whole_is);
           was = c.was;
           list_is = c.list_is;
           number_is = c.number_is;
@@ -126,7 +121,7 @@ module _ (start : List Disk) (wild : ℕ → Bool) (i : ℕ) (own : wild i ≡ f
       sound_there = sound_from start wild i own (mid i ms n k serial slot packet d) T (subst (IsSound start wild i own) (sym (whole i ms n k serial slot packet d)) f)
 
       at_before : (d.later ++ leaves ∷ []) ++ d.before ≡ ms
-      at_before = sym (split d.later (leaves ∷ []) d.before) ∙ d.is
+      at_before = sym (moments_split d.later (leaves ∷ []) d.before) ∙ d.is
 
       sound_before : IsSound start wild i own d.before
       sound_before = sound_from start wild i own (d.later ++ leaves ∷ []) d.before (subst (IsSound start wild i own) (sym at_before) f)
@@ -198,7 +193,7 @@ module _ (start : List Disk) (wild : ℕ → Bool) (i : ℕ) (own : wild i ≡ f
           let at : P ++ (later ++ said (notes.Got got) ∷ W) ≡ ms = ap (λ h. P ++ h) is ∙ at_past start wild i own ms f before_it n k status e proper in
           let less : a.serial < (terms ms).count + 1 = least a.serial (sent_below W a.serial _ sound_here.serials c.sent.is) in
           let slot_here : slot_at W i n k ≡ slot_at ms i n k = slot_is W sound_here n k m got a level there later P ms once at f ((terms ms).count + 1) less in_end in
-          let same : a.cmd ≡ cmd = same_cmd a.cmd cmd (sym (command_is W sound_here n k m got a level there later P ms once at f ((terms ms).count + 1) less in_end) ∙ command) in
+          let same : a.cmd ≡ cmd = same_Some a.cmd cmd (sym (command_is W sound_here n k m got a level there later P ms once at f ((terms ms).count + 1) less in_end) ∙ command) in
           let long : m.written ≡ bytes_of (laid_out (slot_at ms i n k) cmd cmd.segments) =
           filled ∙ (a.whole ∙ (ap (λ y. bytes_of (laid_out y a.cmd a.cmd.segments)) slot_here ∙ ap (λ (x : Cmd). bytes_of (laid_out (slot_at ms i n k) x x.segments)) same)) in
           subst (λ x. IsWrittenTo start ms i n k ((terms ms).count + 1) x) long

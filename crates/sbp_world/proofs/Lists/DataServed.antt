@@ -3,6 +3,8 @@
 use Rattle.rbc_disk.specs.Disk.{Disk}
 use Rattle.std.proofs.Common.{arith, ◌≡◌, ◌∙◌, refl, sym, ap, subst, ◌<◌, ◌≤◌, ◌+◌, ◌==◌, ◌&&◌, not, ℕ, suc, nat_eq, nat_lt, Bool, true, false, cond, List, [], ◌∷◌, ◌++◌, Option, Some, None}
 use Rattle.std.proofs.lemmas.Bool.Decides.{nat_tests}
+use Rattle.std.proofs.lemmas.Bool.{false≢true}
+use Rattle.std.proofs.lemmas.Option.{same_Some}
 use Rattle.bus_transactions.specs.Packets.{SerialsCount}
 use Rattle.orb_layout.specs.declared.status.StatusKind.{StatusKind}
 use Rattle.orb_layout.specs.declared.status.StatusKind.TheVariants as kinds
@@ -24,16 +26,8 @@ use Rattle.sbp_world.proofs.Lists.Passing.{PassLaw}
 use Rattle.sbp_world.proofs.Lists.Rises.{Rises}
 use Rattle.sbp_world.proofs.Lists.StatusKnown.{Where, each_from, generation_grows, is_before, is_here, sent_where}
 use Rattle.sbp_world.proofs.Lists.StatusMoments.{below, ended_stays, ends_grow}
-
-no : false ≡ true → ⊥
-no e = cc
-
-split : (a b c : List Moment) → a ++ (b ++ c) ≡ (a ++ b) ++ c
-split [] b c = refl
-split (m ∷ a) b c = ap (λ ms. m ∷ ms) (split a b c)
-
-tail_is : (m x : Moment) (a b : List Moment) → m ∷ a ≡ x ∷ b → a ≡ b
-tail_is m x a b e = cc
+use Rattle.sbp_world.proofs.Common.{moments_split}
+use Rattle.sbp_world.proofs.Lists.AnswersCarriedBefore.{tail_is}
 
 -- ---- where packets stand
 -- what was sent behind the last moments: these are before it
@@ -124,14 +118,14 @@ module _ {start : List Disk} (i : ℕ) where
     mid = d.later ++ leaving ∷ d.was.later
 
     pub whole : mid ++ turn ≡ ms
-    whole = sym (split d.later (leaving ∷ d.was.later) turn) ∙ (ap (λ h. d.later ++ leaving ∷ h) d.was.is ∙ d.is)
+    whole = sym (moments_split d.later (leaving ∷ d.was.later) turn) ∙ (ap (λ h. d.later ++ leaving ∷ h) d.was.is ∙ d.is)
 
     pub moved : (P : ℕ → ℕ → Type 0) → P d.was.list (ends turn i d.was.list) → P n k
     moved P x = subst (λ a. P a k) d.list_is (subst (λ b. P d.was.list b) d.number_is x)
 
     pub ran_so : 0 < runs ms i n k
     ran_so =
-        subst (λ h. 0 < runs h i n k) (sym (split d.later (leaving ∷ []) d.before) ∙ d.is)
+        subst (λ h. 0 < runs h i n k) (sym (moments_split d.later (leaving ∷ []) d.before) ∙ d.is)
         (ran_on (d.later ++ leaving ∷ []) d.before i n k (moved (λ a b. 0 < runs d.before i a b) d.was.ran))
 
     module _ (rises : Rises ms) where
@@ -153,7 +147,7 @@ module _ {start : List Disk} (i : ℕ) where
         let there : SerialsCount (d.later ++ leaving ∷ d.before) = subst SerialsCount (sym d.is) c in
         let number : serial ≡ (terms d.before).count + 1 = (serials_from d.later (leaving ∷ d.before) there).0 in
         let front = d.later ++ leaving ∷ [] in
-        let at : front ++ d.before ≡ ms = sym (split d.later (leaving ∷ []) d.before) ∙ d.is in
+        let at : front ++ d.before ≡ ms = sym (moments_split d.later (leaving ∷ []) d.before) ∙ d.is in
         let counted : SerialsCount (front ++ d.before) = subst SerialsCount (sym at) c in
         let one : IsDataOf start d.before i m l first early place = shrink i front d.before m l first place early counted (omega (arith, number, less)) (subst (λ h. IsDataOf start h i m l first early place) (sym at) e) in
         let inner : SerialsCount (d.was.later ++ turn) = subst SerialsCount (sym d.was.is) (serials_from front d.before counted) in
@@ -166,7 +160,7 @@ closed_on later before serial w = record {
   later = later ++ w.later;
   before = w.before;
   got = w.got;
-  is = sym (split later w.later (said (notes.Got w.got) ∷ w.before)) ∙ ap (λ h. later ++ h) w.is;
+  is = sym (moments_split later w.later (said (notes.Got w.got) ∷ w.before)) ∙ ap (λ h. later ++ h) w.is;
   closed = w.closed;
   served = w.served;
 }
@@ -181,16 +175,13 @@ module _ (i : ℕ) where
   further : (m : Moment) (past : List Moment) (n k : ℕ) (status : StatusKind) → WasTaken past n k status → WasTaken (m ∷ past) n k status
   further m past n k status w = record { later = m ∷ w.later; before = w.before; is = ap (λ h. m ∷ h) w.is; so = w.so }
 
-  same_taken : (a b : TakenStatus) → Some a ≡ Some b → a ≡ b
-  same_taken a b e = cc
-
   pub taken_then : (past : List Moment) → EachMoment (TakenSo i) past → (n k : ℕ) (t : TakenStatus) → taken_at past i n k ≡ Some t → WasTaken past n k t.status
   taken_then [] each n k t e = absurd (let z : None ≡ Some t = e in cc)
   taken_then (said (notes.Taken j m l status answer) ∷ past) each n k t e = by (λ f. further (said (notes.Taken j m l status answer)) past n k t.status (taken_then past each.1 n k t f)) _ (nat_eq i j) (nat_eq n m) (nat_eq k l) refl refl refl refl e
     where
       by : (taken_at past i n k ≡ Some t → WasTaken (said (notes.Taken j m l status answer) ∷ past) n k t.status) → (new : TakenStatus) → (x y z : Bool) → nat_eq i j ≡ x → nat_eq n m ≡ y → nat_eq k l ≡ z → new.status ≡ status → cond x (cond y (cond z (Some new) (taken_at past i n k)) (taken_at past i n k)) (taken_at past i n k) ≡ Some t → WasTaken (said (notes.Taken j m l status answer) ∷ past) n k t.status
       by again new true true true f g h same is =
-          let kind : status ≡ t.status = sym same ∙ ap (λ (x : TakenStatus). x.status) (same_taken new t is) in
+          let kind : status ≡ t.status = sym same ∙ ap (λ (x : TakenStatus). x.status) (same_Some new t is) in
           let same_n : m ≡ n = grind (arith, nat_tests) in
           let same_k : l ≡ k = grind (arith, nat_tests) in
           let so : IsTakenSo past i m l status = each.0 f in
@@ -209,14 +200,14 @@ module _ (i : ℕ) where
 
   first_of : (a b c d : Bool) → (a && b && c && d) ≡ true → a ≡ true
   first_of true b c d e = refl
-  first_of false b c d e = absurd (no e)
+  first_of false b c d e = absurd (false≢true e)
 
   not_failed : (status : StatusKind) → ((row_of status).resp == 0) ≡ true → status ≡ kinds.Failed → ⊥
-  not_failed status e f = no (subst (λ (x : StatusKind). ((row_of x).resp == 0) ≡ true) f e)
+  not_failed status e f = false≢true (subst (λ (x : StatusKind). ((row_of x).resp == 0) ≡ true) f e)
 
   module _ (wild : ℕ → Bool) (own : wild i ≡ false) where
     over_by : (past : List Moment) → PassLaw wild past → EachMoment (TakenSo i) past → (n k : ℕ) (found : Option TakenStatus) (linked passed : ℕ) (pinned : Bool) → taken_at past i n k ≡ found → is_over_by found linked passed k pinned ≡ true → HasEnded past n k
-    over_by past law each n k None linked passed pinned e o = absurd (no o)
+    over_by past law each n k None linked passed pinned e o = absurd (false≢true o)
     over_by past law each n k (Some t) linked passed pinned e o =
         let w = taken_then past each n k t e in
         let kind : t.status ≡ kinds.Failed → ⊥ = not_failed t.status (first_of ((row_of t.status).resp == 0) (nat_lt (suc k) linked) _ (not pinned) o) in

@@ -1,6 +1,7 @@
 -- The writes of answers were served in turn, and are in sequence, in every run in which no initiator injected packets, or few logins were given, where lists were open as they should be before.
 use Rattle.sbp_world.specs.Lists.Closes.{UnderFrom}
 use Rattle.std.proofs.Common.{◌≡◌, ◌∙◌, sym, ap, subst, ◌<◌, ◌≤◌, ℕ, List, ◌∷◌, ◌++◌, map, length, Option, Some, None}
+use Rattle.std.proofs.lemmas.Option.{same_Some}
 use Rattle.rbc_disk.specs.Runs.{Told}
 use Rattle.sbp_journal.specs.declared.event.Event.{Event}
 use Rattle.sbp_journal.specs.Run.{Moment, asked, said}
@@ -154,11 +155,9 @@ data_gots_law data_so ends_so statuses = record {
 }
 
 -- ---- what was served was got
-same_packet : (one other : Sending) → Some one ≡ Some other → one ≡ other
-same_packet one other e = cc
 
 got_by : (past : List Moment) (i : ℕ) → SerialsCount past → AllApart past i → (serial slot : ℕ) (packet : Sending) → IsToHost past i serial packet → IsDataWrite packet.bytes slot → 0 < (terms past).served serial → WasGot past serial
-got_by past i c apart serial slot packet t x l = was_got i serial slot packet t.to_host x past c (λ q e. same_packet q packet (sym e ∙ t.is)) apart l
+got_by past i c apart serial slot packet t x l = was_got i serial slot packet t.to_host x past c (λ q e. same_Some q packet (sym e ∙ t.is)) apart l
 
 pub served_got_law : UnderFrom (λ start. WhereTameOrFew (AllDataSo start)) → Under AllEndSo → Under (WhereTameOrFew AllStatuses) → ServedGotLaw
 served_got_law data_so ends_so statuses = record {

@@ -1,6 +1,7 @@
 -- A write into a data buffer that was served was got: what an initiator ignores for its slot is written to a FIFO.
 use Rattle.std.proofs.Common.{arith, ◌≡◌, ◌∙◌, refl, sym, ap, subst, ◌<◌, ◌≤◌, ℕ, suc, nat_eq, nat_le, Bool, true, false, cond, List, [], ◌∷◌, Option, Some, None}
 use Rattle.std.proofs.lemmas.Bool.Decides.{nat_tests}
+use Rattle.std.proofs.lemmas.Option.{none-some}
 use Rattle.bus_memory.specs.declared.window.Window.{Window}
 use Rattle.bus_memory.specs.declared.window.Window.TheVariants as windows
 use Rattle.bus_memory.specs.Windows.{window_at, within}
@@ -8,32 +9,29 @@ use Rattle.bus_transactions.specs.Packets.{SerialsCount}
 use Rattle.async_packet.specs.Reading.{reading}
 use Rattle.sbp_journal.specs.declared.cause.Cause.{Cause}
 use Rattle.sbp_journal.specs.declared.cause.Cause.TheVariants as causes
-use Rattle.sbp_journal.specs.declared.event.Event.{Event}
 use Rattle.sbp_journal.specs.declared.event.Event.TheVariants as events
 use Rattle.sbp_journal.specs.declared.note.Note.{Note}
 use Rattle.sbp_journal.specs.declared.note.Note.TheVariants as notes
 use Rattle.sbp_journal.specs.Run.{Moment, asked, said}
 use Rattle.sbp_journal.specs.Transactions.{Sending}
-use Rattle.sbp_journal.specs.Wire.{Terms, ignores_that, opened, terms}
+use Rattle.sbp_journal.specs.Wire.{ignores_that, terms}
 use Rattle.sbp_world.proofs.Hosts.Remaining.{remains}
 use Rattle.sbp_world.proofs.Hosts.SentMoments.{sent_below, serials_from}
 use Rattle.sbp_world.specs.Lists.DataGots.{WasGot}
 use Rattle.sbp_world.specs.Lists.DataWrites.{IsDataWrite}
 use Rattle.sbp_world.proofs.Lists.OpenedAside as aside
-use Rattle.sbp_world.proofs.Lists.ServedTerms.{ignored_served, quiet_served}
+use Rattle.sbp_world.proofs.Lists.ServedTerms.{ignored_served, quiet_served, opened_served}
 use Rattle.sbp_world.proofs.Lists.SlotShut.{AllApart, IsApartTo}
 use Rattle.sbp_world.proofs.Lists.StatusKnown.{spelled}
 
 -- ---- a data buffer stands before the FIFOs
-no_window : (w : Window) → None ≡ Some w → ⊥
-no_window w e = cc
 
 same_window : (v w : Window) → Some v ≡ Some w → v ≡ w
 same_window v w e = cc
 
 window_by : (a b c d r x : Bool) (orb table buffer management answer : Window) (slot : ℕ) → a ≡ false → b ≡ false → c ≡ false → d ≡ false → r ≡ false → cond a (Some orb) (cond b (Some table) (cond c (Some buffer) (cond d (Some management) (cond r (Some answer) (cond x (Some windows.Rom) None))))) ≡ Some (windows.Buffer slot) → ⊥
 window_by false false false false false true orb table buffer management answer slot f g h j k e = let z : windows.Rom ≡ windows.Buffer slot = same_window windows.Rom (windows.Buffer slot) e in cc
-window_by false false false false false false orb table buffer management answer slot f g h j k e = no_window (windows.Buffer slot) e
+window_by false false false false false false orb table buffer management answer slot f g h j k e = none-some (windows.Buffer slot) e
 window_by true b c d r x orb table buffer management answer slot f g h j k e = absurd (let z : true ≡ false = f in cc)
 window_by false true c d r x orb table buffer management answer slot f g h j k e = absurd (let z : true ≡ false = g in cc)
 window_by false false true d r x orb table buffer management answer slot f g h j k e = absurd (let z : true ≡ false = h in cc)
@@ -49,11 +47,6 @@ low_buffer offset high slot e =
 -- ---- where it was got
 further : (m : Moment) (past : List Moment) (serial : ℕ) → WasGot past serial → WasGot (m ∷ past) serial
 further m past serial g = record { later = m ∷ g.later; before = g.before; is = ap (λ h. m ∷ h) g.is }
-
-opened_served : (event : Event) (t : Terms) → (opened event t).served ≡ t.served
-opened_served (events.Reset physical) t = refl
-opened_served (events.Repeat serial) t = refl
-opened_served event t = refl
 
 module _ (i serial slot : ℕ) (packet : Sending) (to : packet.to ≡ suc i) (x : IsDataWrite packet.bytes slot) where
   -- what was sent with this serial is this packet

@@ -34,7 +34,7 @@ use Rattle.sbp_world.proofs.Lists.DataPieces.{chunk_is, same_piece}
 use Rattle.sbp_world.proofs.Lists.Deliveries.{waits_has}
 use Rattle.sbp_world.proofs.Lists.RunFits.{WasAsked}
 use Rattle.sbp_world.proofs.Lists.RunOutcomes.{AreAsked}
-use Rattle.sbp_world.proofs.Lists.StatusAnswers.{answering_next, goes, heard, keeps, main_wrote, opened, reply, small, step_ended}
+use Rattle.sbp_world.proofs.Lists.StatusAnswers.{answering_next, goes, heard, keeps, main_wrote, opened, reply, small, step_ended, run_ended}
 use Rattle.sbp_world.proofs.Lists.StatusDue.{Ours}
 use Rattle.sbp_world.proofs.Lists.Turns.{Ready, heard_ended, heard_outcome}
 use Rattle.orb_layout.specs.declared.ask.FailCause.{FailCause}
@@ -71,7 +71,7 @@ use Rattle.sbp_target.specs.Telling.{orb_of}
 use Rattle.sbp_world.specs.Hosts.Carrying.{Follows}
 use Rattle.sbp_world.proofs.Lists.Slots.{IsFilled, data_window}
 use Rattle.sbp_world.proofs.Lists.StatusLosses.{present_is}
-use Rattle.sbp_world.proofs.Lists.StatusSteps.{EndsSo, replied_leaves}
+use Rattle.sbp_world.proofs.Lists.StatusSteps.{EndsSo, replied_leaves, none_wrote, read_wrote}
 use Rattle.command_agent.specs.Runs.{MayRun, MayTell}
 use Rattle.rbc_disk.specs.Checks.{check_of}
 use Rattle.rbc_disk.specs.declared.command.Outcome.TheVariants as outcomes
@@ -82,18 +82,12 @@ use Rattle.sbp_world.proofs.Lists.AnswerChecks.{check_length, ended_none}
 use Rattle.sbp_world.proofs.Lists.AnswerWays.{IsWay}
 use Rattle.sbp_world.proofs.Lists.Full.{IsFull, IsPart}
 use Rattle.sbp_world.proofs.Lists.DataRan.{goes_on as more_goes, reply_begins}
-
-same_offset : (a b offset size : ℕ) → asks.Write a b ≡ asks.Write offset size → a ≡ offset
-same_offset a b offset size e = cc
+use Rattle.sbp_world.proofs.Lists.FifoReplies.{same_at}
+use Rattle.sbp_world.proofs.Lists.EndReads.{none_if}
+use Rattle.sbp_world.proofs.Agents.Sized.{chunk_few}
 
 same_size : (a b offset size : ℕ) → asks.Write a b ≡ asks.Write offset size → b ≡ size
 same_size a b offset size e = cc
-
-read_write : (at len offset size : ℕ) → asks.Read at len ≡ asks.Write offset size → ⊥
-read_write at len offset size e = cc
-
-none_write : (offset size : ℕ) → asks.Nothing ≡ asks.Write offset size → ⊥
-none_write offset size e = cc
 
 -- an ORB that is named stands in its slot, and its command fills the buffer
 pub record IsStored (ms : List Moment) (i n k : ℕ) : Type 0 where
@@ -189,15 +183,15 @@ has_run ms i n k (Some outcome) g h = ran_some ms i n k _ h
 -- a write to an address but 0 is one of an answer
 is_answering : (phase : Phase) (m : Machine) (offset size : ℕ) → main_ask phase m ≡ asks.Write offset size → 0 < offset → phase ≡ phases.Answering
 is_answering phases.Answering m offset size e some = refl
-is_answering phases.WritingStatus m offset size e some = absurd (let z = same_offset 0 (length m.outgoing) offset size e in omega (arith, z, some))
-is_answering phases.WritingLastStatus m offset size e some = absurd (let z = same_offset 0 (length m.outgoing) offset size e in omega (arith, z, some))
-is_answering phases.Fetching m offset size e some = absurd (read_write _ _ offset size e)
-is_answering phases.ReadingTable m offset size e some = absurd (read_write _ _ offset size e)
-is_answering (phases.ReadingData wanted) m offset size e some = absurd (read_write _ _ offset size e)
-is_answering phases.ReadingNext m offset size e some = absurd (read_write _ _ offset size e)
-is_answering phases.Suspended m offset size e some = absurd (none_write offset size e)
-is_answering phases.Reset m offset size e some = absurd (none_write offset size e)
-is_answering phases.Dead m offset size e some = absurd (none_write offset size e)
+is_answering phases.WritingStatus m offset size e some = absurd (let z = same_at 0 (length m.outgoing) offset size e in omega (arith, z, some))
+is_answering phases.WritingLastStatus m offset size e some = absurd (let z = same_at 0 (length m.outgoing) offset size e in omega (arith, z, some))
+is_answering phases.Fetching m offset size e some = absurd (read_wrote _ _ offset size e)
+is_answering phases.ReadingTable m offset size e some = absurd (read_wrote _ _ offset size e)
+is_answering (phases.ReadingData wanted) m offset size e some = absurd (read_wrote _ _ offset size e)
+is_answering phases.ReadingNext m offset size e some = absurd (read_wrote _ _ offset size e)
+is_answering phases.Suspended m offset size e some = absurd (none_wrote offset size e)
+is_answering phases.Reset m offset size e some = absurd (none_wrote offset size e)
+is_answering phases.Dead m offset size e some = absurd (none_wrote offset size e)
 
 -- an agent whose present ORB ran good writes its answer
 unrun : (o : Option Outcome) → o ≡ None → is_good o ≡ true → ⊥
@@ -248,13 +242,9 @@ module _ (m : Machine) (place : ℕ) (plain : PlainDisk) (told : Option Told) (a
   ahead_ends (Ok bytes) = refl
   ahead_ends (Err cause) = refl
 
-  if_ends : (b : Bool) (x y : AgentStep × Machine) → x.0.ended ≡ None → y.0.ended ≡ None → (cond b x y).0.ended ≡ None
-  if_ends true x y h k = h
-  if_ends false x y h k = k
-
   pub ahead_endless : (reply_step m place plain told Ahead answer).0.ended ≡ None
   unfolding reply_step
-  ahead_endless = if_ends (is_ahead m.ahead) (ahead_step m answer) (quiet, m) (ahead_ends (payload_of answer 32)) refl
+  ahead_endless = none_if (is_ahead m.ahead) (ahead_step m answer) (quiet, m) (ahead_ends (payload_of answer 32)) refl
 
   pub ahead_nothing : (reply_step m place plain told Ahead answer).0.ask ≡ asks.Nothing
   unfolding reply_step
@@ -307,10 +297,6 @@ good_check : (outcome : Outcome) → is_good (Some outcome) ≡ true → check_i
 good_check (outcomes.Good len) g = refl
 good_check (outcomes.Check sense) g = absurd (let z : false ≡ true = g in cc)
 
-run_ended : (ran : Option Outcome) (answer : List ℕ) (p : Progress) → (run_by ran answer p).ended ≡ p.ended
-run_ended None answer p = refl
-run_ended (Some outcome) answer p = refl
-
 pub done_of : (a : Answer) → write_failure a ≡ None → a ≡ Done
 done_of Done e = refl
 done_of (Payload bytes) e = absurd (let z : Some causes.Grammar ≡ None = e in cc)
@@ -320,13 +306,13 @@ done_of NoLabel e = absurd (let z : Some causes.Label ≡ None = e in cc)
 
 module _ (past : List Moment) (i n : ℕ) (small_slots : (k : ℕ) → slot_at past i n k < 32) where
   not_zero : (len offset size : ℕ) → asks.Write 0 len ≡ asks.Write offset size → 0 < offset → ⊥
-  not_zero len offset size e some = let z = same_offset 0 len offset size e in omega (arith, z, some)
+  not_zero len offset size e some = let z = same_at 0 len offset size e in omega (arith, z, some)
 
   piece_by : (p : Progress) (phase : Phase) (m : Machine) → Knows (orbs past i n) p phase m → (phase ≡ phases.Answering → WasAsked (command_at past i n p.ended) (request_at past i n p.ended) (slot_at past i n p.ended)) → (phase ≡ phases.Answering → IsStored past i n p.ended) → (offset size : ℕ) → main_ask phase m ≡ asks.Write offset size → 0 < offset → IsPieceOf past i n p.ended m offset size
   piece_by p phases.Answering m k l there offset size e some =
       let a = l refl in
       let c = chunk_of m m.written (length m.answer) in
-      let at : c.offset ≡ offset = same_offset c.offset c.length offset size e in
+      let at : c.offset ≡ offset = same_at c.offset c.length offset size e in
       let long : c.length ≡ size = same_size c.offset c.length offset size e in
       record {
         below = k.told.turn.linked;
@@ -340,13 +326,13 @@ module _ (past : List Moment) (i n : ℕ) (small_slots : (k : ℕ) → slot_at p
       }
   piece_by p phases.WritingStatus m k l there offset size e some = absurd (not_zero (length m.outgoing) offset size e some)
   piece_by p phases.WritingLastStatus m k l there offset size e some = absurd (not_zero (length m.outgoing) offset size e some)
-  piece_by p phases.Fetching m k l there offset size e some = absurd (read_write _ _ offset size e)
-  piece_by p phases.ReadingTable m k l there offset size e some = absurd (read_write _ _ offset size e)
-  piece_by p (phases.ReadingData wanted) m k l there offset size e some = absurd (read_write _ _ offset size e)
-  piece_by p phases.ReadingNext m k l there offset size e some = absurd (read_write _ _ offset size e)
-  piece_by p phases.Suspended m k l there offset size e some = absurd (none_write offset size e)
-  piece_by p phases.Reset m k l there offset size e some = absurd (none_write offset size e)
-  piece_by p phases.Dead m k l there offset size e some = absurd (none_write offset size e)
+  piece_by p phases.Fetching m k l there offset size e some = absurd (read_wrote _ _ offset size e)
+  piece_by p phases.ReadingTable m k l there offset size e some = absurd (read_wrote _ _ offset size e)
+  piece_by p (phases.ReadingData wanted) m k l there offset size e some = absurd (read_wrote _ _ offset size e)
+  piece_by p phases.ReadingNext m k l there offset size e some = absurd (read_wrote _ _ offset size e)
+  piece_by p phases.Suspended m k l there offset size e some = absurd (none_wrote offset size e)
+  piece_by p phases.Reset m k l there offset size e some = absurd (none_wrote offset size e)
+  piece_by p phases.Dead m k l there offset size e some = absurd (none_wrote offset size e)
 
 -- a good end
 pub data IsGoodNow (ms : List Moment) (i n k got : ℕ) : Type 0 where
@@ -511,7 +497,7 @@ module _ (wild : ℕ → Bool) (past : List Moment) (w : WorldState) (r : Ready 
       by_which ran_before same answering Main g = by_failure ran_before same answering g (write_failure (answer_in p)) refl
       by_which ran_before same answering Ahead g =
           let nothing : step.0.ask ≡ asks.Nothing = ap (λ (y : Which). (reply_step M place (plain_in w.target.units disks login.unit) run y (answer_in p)).0.ask) g ∙ ahead_nothing M place (plain_in w.target.units disks login.unit) run (answer_in p) in
-          absurd (none_write offset size (sym nothing ∙ wrote))
+          absurd (none_wrote offset size (sym nothing ∙ wrote))
 
       by_run : (o : Option Outcome) → step.0.ran ≡ o → IsTurnNow ms w place O.n (ends ms i O.n) step is_for.serial
       by_run (Some outcome) ran =
@@ -694,10 +680,6 @@ module _ (wild : ℕ → Bool) (past : List Moment) (w : WorldState) (r : Ready 
             let zero_there = check_length step.1.orb.cdb (plan_of step.1) (plain_in w.target.units disks login.unit) place way none in
             absurd (let z = len ∙ zero_there in omega (arith, z, some))
 
-    cut_within : (left : ℕ) (found : Option Chunk) → (cut_to left found).length ≤ left
-    cut_within left None = omega arith
-    cut_within left (Some c) = let z : min left c.length ≤ left = grind (arith, nat_tests) in z
-
     -- it is behind what was written
     more_on : now_then ≡ before_now → (answering : M.phase ≡ phases.Answering) → step.1.answer ≡ M.answer → (y : Which) → which ≡ y → step.1.written < length step.1.answer
     more_on same answering kept Ahead g =
@@ -717,7 +699,7 @@ module _ (wild : ℕ → Bool) (past : List Moment) (w : WorldState) (r : Ready 
             let written : step.1.written ≡ M.written + answer_chunk M =
             told_then.done ∙ (ap (λ (x : Progress). x.carried) (same ∙ as_answered answering f_is g) ∙ ap (λ j. j + answer_chunk M) (sym had.done)) in
             let unlike = more_goes M place (plain_in w.target.units disks login.unit) run (answer_in p) answering f_is (ap (λ (y : Which). answers (reply_step M place (plain_in w.target.units disks login.unit) run y (answer_in p)).1.phase) (sym g) ∙ e_then) in
-            let within : answer_chunk M ≤ length M.answer - M.written = cut_within (length M.answer - M.written) (chunk_from M.segments M.written (limit_of M.orb)) in
+            let within : answer_chunk M ≤ length M.answer - M.written = chunk_few (length M.answer - M.written) (chunk_from M.segments M.written (limit_of M.orb)) in
             let before = (full (ap answers answering)).more in
             let other : M.written + answer_chunk M ≡ length M.answer → ⊥ = λ z. (let t : (M.written + answer_chunk M == length M.answer) ≡ true = grind (arith, nat_tests) in let c : false ≡ true = sym unlike ∙ t in cc) in
             let there : M.written + answer_chunk M < length M.answer = below_by (M.written + answer_chunk M) (length M.answer) (omega (arith, within, before)) other in

@@ -27,11 +27,9 @@ use Rattle.sbp_laws.specs.Lists.{orb, slot_at}
 use Rattle.sbp_world.specs.Lists.SlotsStay.{HasSlot}
 use Rattle.orb_layout.specs.declared.status.StatusKind.{StatusKind}
 use Rattle.orb_layout.specs.declared.status.StatusKind.TheVariants as kinds
+use Rattle.sbp_world.proofs.Common.{moments_joined}
 
 -- ---- a history grows
-assoc : (a b c : List Moment) → (a ++ b) ++ c ≡ a ++ (b ++ c)
-assoc [] b c = refl
-assoc (x ∷ a) b c = ap (λ ms. x ∷ ms) (assoc a b c)
 
 grown_note : (moment : Moment) (a b : List Moment) → Grown a b → Grown a (moment ∷ b)
 grown_note moment a b g = record { new = moment ∷ g.new; is = ap (λ ms. moment ∷ ms) g.is }
@@ -190,7 +188,7 @@ module _ (disks : List Disk) (i : ℕ) (past ms : List Moment) (note : Note) whe
             record {
               later = h.sends.grown.new ++ said note ∷ [];
               before = ms;
-              is = assoc h.sends.grown.new (said note ∷ []) ms ∙ h.sends.grown.is;
+              is = moments_joined h.sends.grown.new (said note ∷ []) ms ∙ h.sends.grown.is;
               list = p.list;
               machine = p.machine;
               size = p.size;

@@ -4,8 +4,9 @@ use Rattle.sbp_world.proofs.Lists.PlaceOwners.{walk_owns}
 use Rattle.sbp_world.proofs.Lists.OpenTurns.{listing_up}
 use Rattle.sbp_world.specs.Agents.Alike.{has_list}
 use Rattle.sbp_world.proofs.Lists.DataSteps.{answers_is}
-use Rattle.std.proofs.Common.{◌≡◌, ◌∙◌, refl, sym, ap, subst, ◌<◌, ℕ, zero, suc, Bool, true, false, List, [], length, Option, Some, None}
+use Rattle.std.proofs.Common.{◌≡◌, ◌∙◌, refl, sym, ap, subst, ◌<◌, ℕ, zero, suc, Bool, false, List, [], length, Option, Some, None}
 use Rattle.std.specs.Prelude.{slice_index_or, replicate}
+use Rattle.std.proofs.lemmas.Bool.{false≢true}
 use Rattle.rbc_disk.specs.Disk.{Disk}
 use Rattle.sbp_journal.specs.Run.{Moment}
 use Rattle.sbp_world.specs.Histories.{moments_behind}
@@ -20,7 +21,6 @@ use Rattle.sbp_target.specs.declared.desk.Desk.{Desk}
 use Rattle.sbp_target.specs.Desks.{new_desk}
 use Rattle.sbp_world.specs.Making.{new_world}
 use Rattle.sbp_world.specs.Agents.Alike.{answers}
-use Rattle.sbp_world.specs.Agents.Management.Terms.{DeliversMore}
 use Rattle.sbp_world.specs.Hosts.Orbs.{HoldsOrbs}
 use Rattle.sbp_world.specs.Hosts.Runs.{more_deliveries}
 use Rattle.sbp_world.specs.Lists.Closes.{Always, Under}
@@ -35,9 +35,7 @@ use Rattle.sbp_world.proofs.Lists.Sites.{named_prepared}
 use Rattle.sbp_world.proofs.Lists.StatusAnswers.{all_hold}
 use Rattle.sbp_world.proofs.Lists.Walks.{walked_after, walked_between}
 use Rattle.sbp_world.proofs.Lists.MachineTurns.{turn_full}
-
-no : false ≡ true → ⊥
-no e = cc
+use Rattle.sbp_world.proofs.Common.{delivers}
 
 -- ---- over a run, of the initiators that injected no packets
 -- the commands of lines fill their buffers
@@ -85,7 +83,7 @@ full_walk wild units ready has start past s later t step p q b own e =
 
 first_full : (wild : ℕ → Bool) (line : ℕ) (run : Run) → AllFull wild (moments_behind line run []) (beginning run).world
 unfolding new_world
-first_full wild line run q b own = subst (λ (d : Desk). IsFull d.agent) (sym (new_desks 8 q)) (λ e. absurd (no e))
+first_full wild line run q b own = subst (λ (d : Desk). IsFull d.agent) (sym (new_desks 8 q)) (λ e. absurd (false≢true e))
   where
     new_desks : (n p : ℕ) → slice_index_or (replicate n new_desk) p new_desk ≡ new_desk
     new_desks zero p = refl
@@ -94,10 +92,6 @@ first_full wild line run q b own = subst (λ (d : Desk). IsFull d.agent) (sym (n
 
 nothing : Under Nothing
 nothing = record { after_lines = λ line run r has small size so_far. tt; between = λ line run r has small size next most told m so_far. tt }
-
-delivers : (most : Option ℕ) → DeliversMore (more_deliveries most)
-delivers (Some count) = tt
-delivers None = tt
 
 pub whole_law : AnswersWholeLaw
 whole_law = record {

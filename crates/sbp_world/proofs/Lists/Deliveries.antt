@@ -1,6 +1,5 @@
 -- Each call of the target keeps what is known of its agents, and what it tells is in the order: a packet that it gets, and a time-out.
-use Rattle.std.proofs.Common.{◌≡◌, ◌∙◌, refl, sym, ap, subst, ◌<◌, ◌≤◌, ℕ, zero, suc, nat_lt, Bool, true, false, cond, List, [], ◌∷◌, length, Option, Some, None, Result, Ok, Err, arith}
-use Rattle.std.specs.Prelude.{slice_index_or}
+use Rattle.std.proofs.Common.{◌≡◌, ◌∙◌, refl, sym, ap, subst, ◌<◌, ◌≤◌, ℕ, nat_lt, Bool, true, false, cond, List, [], ◌∷◌, length, Option, Some, None, Result, Ok, Err, arith}
 use Rattle.std.proofs.lemmas.Bool.Decides.{nat_tests}
 use Rattle.async_packet.specs.Labels.{LabelParts}
 use Rattle.async_packet.specs.Packet.{Packet, header_in}
@@ -11,7 +10,6 @@ use Rattle.orb_layout.specs.Replies.{Expired}
 use Rattle.packet_store.specs.declared.sent.Sent.{Sent}
 use Rattle.rbc_disk.specs.Held.{Held}
 use Rattle.rbc_disk.specs.Runs.{Told}
-use Rattle.command_agent.specs.declared.phase.Phase.{Phase}
 use Rattle.command_agent.specs.declared.phase.Phase.TheVariants as phases
 use Rattle.command_agent.specs.declared.step.Which.{Which}
 use Rattle.command_agent.specs.declared.step.Which.TheVariants.{Main, Ahead}
@@ -44,7 +42,6 @@ use Rattle.sbp_world.specs.Telling.{holder, told_all}
 use Rattle.sbp_world.specs.Worlds.{WorldState}
 use Rattle.sbp_target.proofs.Histories.Calling.{not_eight}
 use Rattle.sbp_target.proofs.Histories.Settled.{reaches}
-use Rattle.sbp_target.proofs.Histories.Stepped.{is_bare}
 use Rattle.sbp_world.specs.Agents.Alike.{has_list}
 use Rattle.sbp_world.proofs.Agents.AskedLate.{ahead_of, main_of}
 use Rattle.sbp_world.specs.Lists.Needs.{IsFor, machine_at}
@@ -52,28 +49,17 @@ use Rattle.sbp_world.proofs.Lists.Cuts.{Cutting, answers, cut_alike, cuts_one, d
 use Rattle.sbp_world.proofs.Lists.Kept.{Kept, same}
 use Rattle.sbp_world.proofs.Lists.Looks.{Looks}
 use Rattle.sbp_world.proofs.Lists.Registers.{point_kept, ring_kept, start_cutting}
-use Rattle.sbp_world.proofs.Lists.Named.{no}
 use Rattle.sbp_world.proofs.Agents.Management.Still.{hist}
 use Rattle.sbp_world.specs.Lists.CutLists.{WasHad}
 use Rattle.sbp_world.proofs.Lists.Takings.{Takes}
 use Rattle.sbp_world.proofs.Lists.Turns.{First, Ready, acting, got_it, ignored_it, late_it, late_kept, reply_kept, sent_has, v}
+use Rattle.sbp_world.proofs.Lists.StatusCalls.{none_beyond}
+use Rattle.sbp_world.proofs.Lists.OpenTurns.{ahead_lists}
 
 -- the first note of a delivery
 pub first_of : (serial : ℕ) (judged : Judged) → First (judged_note serial judged)
 first_of serial judgements.Got = got_it serial
 first_of serial (judgements.Ignored cause) = ignored_it serial _
-
--- an agent whose read ahead is under way has a list open
-ahead_has : (phase : Phase) (x : Bool) → (is_bare phase ≡ true → x ≡ false) → x ≡ true → has_list phase ≡ true
-ahead_has phases.Reset x f e = absurd (no (sym (f refl) ∙ e))
-ahead_has phases.Dead x f e = absurd (no (sym (f refl) ∙ e))
-ahead_has _ x f e = refl
-
--- there are eight desks
-none_beyond : (desks : List Desk) (k : ℕ) → length desks ≤ k → slice_index_or desks k new_desk ≡ new_desk
-none_beyond [] k l = refl
-none_beyond (d ∷ desks) zero l = absurd (omega (arith, l))
-none_beyond (d ∷ desks) (suc k) l = none_beyond desks k (omega arith)
 
 module _ (wild : ℕ → Bool) (past : List Moment) (w : WorldState) (r : Ready wild past w) where
   abbrev K : WorldState → Scene → Type 0
@@ -101,7 +87,7 @@ module _ (wild : ℕ → Bool) (past : List Moment) (w : WorldState) (r : Ready 
       sent_has d.agent.phase (main_of (is_that d.main peer label) (is_sent d.agent.phase) (is_that d.ahead peer label) (is_ahead d.agent.ahead) e)
   waits_has place b peer label Ahead e =
       let d = desk_at w.target place in
-      ahead_has d.agent.phase (is_ahead d.agent.ahead) (r.good.mid.fits place b (not_eight place b)).agent.bare
+      ahead_lists d.agent.phase (is_ahead d.agent.ahead) (r.good.mid.fits place b (not_eight place b)).agent.bare
       (ahead_of (is_that d.main peer label) (is_sent d.agent.phase) (is_that d.ahead peer label) (is_ahead d.agent.ahead) e)
 
   -- ---- a packet that the target gets

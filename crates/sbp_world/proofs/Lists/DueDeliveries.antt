@@ -1,6 +1,7 @@
 -- The runs that a delivery tells are those that are due, in every run, whoever sent the packet.
-use Rattle.std.proofs.Common.{◌≡◌, ◌∙◌, refl, sym, ap, subst, ℕ, zero, suc, ◌<◌, nat_eq, not, is_some, Bool, true, false, cond, if◌then◌else◌, List, [], ◌∷◌, length, Option, Some, None, arith}
+use Rattle.std.proofs.Common.{◌≡◌, ◌∙◌, refl, sym, ap, subst, ℕ, zero, suc, ◌<◌, nat_eq, not, is_some, true, false, cond, if◌then◌else◌, List, [], ◌∷◌, length, Option, Some, None, arith}
 use Rattle.std.proofs.lemmas.Bool.Decides.{nat_tests}
+use Rattle.std.proofs.lemmas.Bool.{not-true}
 use Rattle.async_packet.specs.Labels.{LabelParts}
 use Rattle.async_packet.specs.Packet.{Packet, header_in}
 use Rattle.bus_transactions.specs.Judging.{AreJudged}
@@ -63,10 +64,6 @@ use Rattle.sbp_world.proofs.Lists.Runless.{AllPlain, IsRunBy, IsRunlessBy}
 none_reply : (kind : Option ReplyKind) → is_some kind ≡ false → kind ≡ None
 none_reply None k = refl
 none_reply (Some kind) k = absurd (let no : true ≡ false = k in cc)
-
-not_false : (b : Bool) → not b ≡ true → b ≡ false
-not_false true e = absurd (let no : false ≡ true = e in cc)
-not_false false e = refl
 
 some_same : {A : Type 0} {a b : A} → Some a ≡ Some b → a ≡ b
 some_same e = cc
@@ -170,7 +167,7 @@ module _ (units ready : ℕ) (has : 0 < units) (start : List Disk) {past : List 
     is_served : IsServed w.target place
     is_served =
         G.mid.served place small (not_eight place small)
-        (not_false _ (listing_up (desk_at w.target place).agent.phase (listed (desk_at w.target place).agent place plain run r.by.which (answer_in p) r.outcome r.by.ran)))
+        (not-true _ (listing_up (desk_at w.target place).agent.phase (listed (desk_at w.target place).agent place plain run r.by.which (answer_in p) r.outcome r.by.ran)))
 
     hold : IsHeld wire (length w.initiators) (target_at start ms) w.places place login
     hold = site.held.held place login there

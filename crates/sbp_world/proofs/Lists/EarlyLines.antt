@@ -7,7 +7,6 @@ use Rattle.sbp_journal.specs.Run.{Moment, asked, said}
 use Rattle.sbp_journal.specs.declared.event.Event.{Event}
 use Rattle.sbp_journal.specs.declared.event.Event.TheVariants as events
 use Rattle.sbp_bus.specs.Packets.{end_note}
-use Rattle.sbp_journal.specs.declared.note.Note.{Note}
 use Rattle.sbp_journal.specs.declared.note.Note.TheVariants as notes
 use Rattle.sbp_laws.specs.Targets.{Agent, target_at}
 use Rattle.sbp_world.specs.Settling.{delivered_at, delivered_next, lowest}
@@ -23,11 +22,7 @@ use Rattle.sbp_world.proofs.Lists.Early.{Early, IsRead, stays_early, turn, whole
 use Rattle.sbp_world.proofs.Lists.EarlyTurns.{Leaves, Stood, leaves_hosts, leaves_target, same_before}
 use Rattle.sbp_world.proofs.Lists.Sites.{waiting}
 use Rattle.sbp_world.proofs.Lists.Turned.{Delivers, Turned, by_other, by_target, delivers, nothing, turned}
-
--- the history of notes that go on behind some
-split : (a b : List Note) (past : List Moment) → map said (a ++ b) ++ past ≡ map said a ++ (map said b ++ past)
-split [] b past = refl
-split (n ∷ a) b past = ap (λ ms. said n ∷ ms) (split a b past)
+use Rattle.sbp_world.proofs.Common.{said_split}
 
 module _ (wild : ℕ → Bool) (units ready : ℕ) (has : 0 < units) (start : List Disk) where
   -- a turn keeps it, from a place between two turns to the next one
@@ -65,7 +60,7 @@ module _ (wild : ℕ → Bool) (units ready : ℕ) (has : 0 < units) (start : Li
     delivery_early : (w v : WorldState) → S w → S v → Delivers wild past w v → Early wild start (hist past w) → Early wild start (hist past v)
     delivery_early w v a b (nothing e) early = subst (λ (x : WorldState). Early wild start (hist past x)) (sym e) early
     delivery_early w v a b (delivers more note starts is t) early =
-        turn_early past lines w a past lines v b (map said more) (said note) (sym (split more (note ∷ w.fresh) past) ∙ ap (λ ns. map said ns ++ past) is) starts (leaves_turn past w v t) early
+        turn_early past lines w a past lines v b (map said more) (said note) (sym (said_split more (note ∷ w.fresh) past) ∙ ap (λ ns. map said ns ++ past) is) starts (leaves_turn past w v t) early
 
     next_by : (one : Option Told) (s : Scene) (o : Option ℕ) → S s.world → S (delivered_at o one s).world → Early wild start (hist past s.world) → Early wild start (hist past (delivered_at o one s).world)
     next_by one s None a b early = early

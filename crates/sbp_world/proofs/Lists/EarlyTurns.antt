@@ -2,6 +2,7 @@
 -- there before the turn.
 use Rattle.std.proofs.Common.{arith, ◌≡◌, ◌∙◌, sym, ap, subst, ◌<◌, ℕ, suc, Bool, true, false, List, ◌++◌, length, Option, Some, None}
 use Rattle.std.specs.Prelude.{slice_index_or}
+use Rattle.std.proofs.lemmas.Option.{same_Some}
 use Rattle.bus_memory.specs.declared.window.Window.{Window}
 use Rattle.bus_memory.specs.declared.window.Window.TheVariants as windows
 use Rattle.bus_memory.specs.Windows.{IfShare, window_at}
@@ -46,19 +47,10 @@ use Rattle.sbp_world.proofs.Lists.Told.{AgentAt}
 same_number : (i j : ℕ) → Some (suc i) ≡ Some (suc j) → i ≡ j
 same_number i j e = cc
 
-same_slot : (i j : ℕ) → Some i ≡ Some j → i ≡ j
-same_slot i j e = cc
-
-same_orb : (a b : Orb) → Some a ≡ Some b → a ≡ b
-same_orb a b e = cc
-
-same_access : (a b : Access) → Some a ≡ Some b → a ≡ b
-same_access a b e = cc
-
 slot_small : (offset slot : ℕ) (found : Option Window) → IfShare offset found → slot_in found ≡ Some slot → slot < 32
-slot_small offset slot (Some (windows.Orb k)) h e = let same = same_slot k slot e in let b = h.0 in omega arith
-slot_small offset slot (Some (windows.Table k)) h e = let same = same_slot k slot e in let b = h.0 in omega arith
-slot_small offset slot (Some (windows.Buffer k)) h e = let same = same_slot k slot e in let b = h.0 in omega arith
+slot_small offset slot (Some (windows.Orb k)) h e = let same = same_Some k slot e in let b = h.0 in omega arith
+slot_small offset slot (Some (windows.Table k)) h e = let same = same_Some k slot e in let b = h.0 in omega arith
+slot_small offset slot (Some (windows.Buffer k)) h e = let same = same_Some k slot e in let b = h.0 in omega arith
 slot_small offset slot (Some windows.Rom) h e = absurd (let no : None ≡ Some slot = e in cc)
 slot_small offset slot (Some (windows.Management k)) h e = absurd (let no : None ≡ Some slot = e in cc)
 slot_small offset slot (Some (windows.Response k)) h e = absurd (let no : None ≡ Some slot = e in cc)
@@ -118,7 +110,7 @@ module _ (wild : ℕ → Bool) (units ready : ℕ) (has : 0 < units) (start : Li
     -- ---- the target is as it was
     module _ (same_target : v.target ≡ w.target) (same_places : v.places ≡ w.places) (count : length v.initiators ≡ length w.initiators) (ends_are : (i n : ℕ) → ends now i n ≡ ends before i n) where
       access_is : r.access ≡ asked.access
-      access_is = same_access r.access asked.access (sym r.is ∙ asked.is)
+      access_is = same_Some r.access asked.access (sym r.is ∙ asked.is)
 
       reads : asked.access.is_write ≡ false
       reads = ap (λ (x : Access). x.is_write) (sym access_is) ∙ r.reads
@@ -147,10 +139,10 @@ module _ (wild : ℕ → Bool) (units ready : ℕ) (has : 0 < units) (start : Li
       slot_is =
           let filled : (cmd : Cmd) → command_at now j list number ≡ Some cmd → IsFilled (slot_at now j list number) cmd = λ cmd command. b.site.filled j asked.inside (slot_at now j list number) list number cmd prepared_now.small prepared_now.there command in
           let stood = stands now j list which goes_now.progress m asked.status fifo asked.access goes_now.along asked.asks reads some prepared_now.small filled in
-          same_slot slot (slot_at now j list number) (sym r.stands ∙ (ap (λ (x : Access). slot_in (window_at x.offset)) access_is ∙ stood))
+          same_Some slot (slot_at now j list number) (sym r.stands ∙ (ap (λ (x : Access). slot_in (window_at x.offset)) access_is ∙ stood))
 
       orb_is : orb list number ≡ orb n k
-      orb_is = same_orb (orb list number) (orb n k) (sym prepared_now.there ∙ (ap (prepared_in now j) (sym slot_is) ∙ there))
+      orb_is = same_Some (orb list number) (orb n k) (sym prepared_now.there ∙ (ap (prepared_in now j) (sym slot_is) ∙ there))
 
       -- before the turn
       goes_before : GoesAlong before j list m

@@ -1,5 +1,6 @@
 -- An end that the target tells of, but with the status failed, is of the ORB by whose name its response brought it, where agents have the ORBs prepared last in their slots.
 use Rattle.std.proofs.Common.{◌≡◌, ◌∙◌, refl, sym, ap, subst, ℕ, ◌<◌, Bool, true, false, List, [], ◌∷◌, ◌++◌, map, Option, Some, None, IsSomeAnd}
+use Rattle.std.proofs.lemmas.Option.{same_Some}
 use Rattle.bus_memory.specs.declared.window.Window.TheVariants as windows
 use Rattle.bus_memory.specs.Windows.{start as start_of}
 use Rattle.command_agent.specs.declared.step.AgentStep.{AgentStep}
@@ -61,14 +62,11 @@ module _ (given : Type 0) (wild : ℕ → Bool) (start : List Disk) where
   plain_named (notes.Ended i (Some n) (Some k) status) h past = by_status past i n k status (λ e. untrue (sym h ∙ e))
   plain_named note h past = tt
 
-same_number : (a b : ℕ) → Some a ≡ Some b → a ≡ b
-same_number a b e = cc
-
 pub same_list : (a b c d : ℕ) → Some (named_orb a b) ≡ Some (named_orb c d) → a ≡ c
-same_list a b c d e = same_number a c (ap named_list e)
+same_list a b c d e = same_Some a c (ap named_list e)
 
 pub same_orb : (a b c d : ℕ) → Some (named_orb a b) ≡ Some (named_orb c d) → b ≡ d
-same_orb a b c d e = same_number b d (ap named_number e)
+same_orb a b c d e = same_Some b d (ap named_number e)
 
 module _ (given : Type 0) (wild : ℕ → Bool) (start : List Disk) (past : List Moment) (s : Scene) (set : IsSet wild start past s) (names : given → HasNames start past s.world) (run : Option Told) (serial : ℕ) (early : List Note) (ended : Note) (r : IsEndBy s run serial early ended) where
   abbrev w : WorldState
@@ -182,8 +180,8 @@ module _ (given : Type 0) (wild : ℕ → Bool) (start : List Disk) (past : List
 
     by_name : (a j : ℕ) → list_in (ticket_at w p r.orb) ≡ Some a → orb_in (ticket_at w p r.orb) ≡ Some j → EndIsNamed start now i a j r.status
     by_name a j e f =
-        subst (λ y. EndIsNamed start now i y j r.status) (same_number n a (sym (list_is wild start past s set run serial early ended r own) ∙ e))
-        (subst (λ y. EndIsNamed start now i n y r.status) (same_number k j (sym (number wild start past s set run serial early ended r own) ∙ f)) end_named)
+        subst (λ y. EndIsNamed start now i y j r.status) (same_Some n a (sym (list_is wild start past s set run serial early ended r own) ∙ e))
+        (subst (λ y. EndIsNamed start now i n y r.status) (same_Some k j (sym (number wild start past s set run serial early ended r own) ∙ f)) end_named)
 
   pub ended_named : EndNamedAt given wild start (said ended) now
   ended_named =

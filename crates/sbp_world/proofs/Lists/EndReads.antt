@@ -1,6 +1,7 @@
 -- An end that the target tells of, but with the status failed, is of an ORB that a response brought of the place of its ORB: that of its append, or a dummy where it ends so.
 use Rattle.std.proofs.Common.{arith, ◌≡◌, ◌∙◌, refl, sym, ap, subst, ℕ, ◌<◌, ◌≤◌, ◌==◌, Bool, true, false, cond, List, [], ◌∷◌, ◌++◌, map, Option, Some, None, IfSome, IsSomeAnd, Result, Ok, Err}
 use Rattle.std.proofs.lemmas.Bool.Decides.{nat_tests}
+use Rattle.std.proofs.lemmas.Option.{same_Some}
 use Rattle.login_table.specs.declared.login.Login.{Login}
 use Rattle.login_table.proofs.Searching.{within}
 use Rattle.bus_memory.specs.declared.window.Window.TheVariants as windows
@@ -61,10 +62,9 @@ use Rattle.sbp_world.proofs.Lists.StatusLosses.{present_is}
 use Rattle.sbp_world.proofs.Lists.StatusSteps.{EndsSo, replied_leaves}
 use Rattle.sbp_world.proofs.Lists.Turns.{heard_ended}
 use Rattle.sbp_world.proofs.Lists.ManageTerms.{untrue}
+use Rattle.sbp_world.proofs.Common.{none_is}
 
 -- ---- an agent whose ORB ends has a list
-none_ends : {A : Type 0} (status : StatusKind) → None ≡ Some status → A
-none_ends status e = absurd (let no : None ≡ Some status = e in cc)
 
 unlisted_main : (place : ℕ) (plain : PlainDisk) (told : Told) (phase : Phase) (m : Machine) (answer : Answer) → has_list phase ≡ false → (served place plain told (advanced phase m answer).0 (advanced phase m answer).1).0.ended ≡ None
 unlisted_main place plain told phases.Reset m answer e = refl
@@ -78,7 +78,7 @@ unlisted_main place plain told phases.ReadingNext m answer e = untrue (sym e)
 unlisted_main place plain told phases.WritingLastStatus m answer e = untrue (sym e)
 unlisted_main place plain told phases.Suspended m answer e = untrue (sym e)
 
-none_if : (b : Bool) (x y : AgentStep × Machine) → x.0.ended ≡ None → y.0.ended ≡ None → (cond b x y).0.ended ≡ None
+pub none_if : (b : Bool) (x y : AgentStep × Machine) → x.0.ended ≡ None → y.0.ended ≡ None → (cond b x y).0.ended ≡ None
 none_if true x y h i = h
 none_if false x y h i = i
 
@@ -96,7 +96,7 @@ listed m place plain told which answer status e = by (has_list m.phase) refl
   where
     by : (b : Bool) → has_list m.phase ≡ b → b ≡ true
     by true f = refl
-    by false f = none_ends status (sym (unlisted_none m place plain told which answer f) ∙ e)
+    by false f = none_is status (sym (unlisted_none m place plain told which answer f) ∙ e)
 
 -- ---- the ORB, by its status
 run_ended : (ran : Option Outcome) (answer : List ℕ) (p : Progress) → (run_by ran answer p).ended ≡ p.ended
@@ -295,13 +295,10 @@ module _ (wild : ℕ → Bool) (start : List Disk) (past : List Moment) (s : Sce
           (matches (command_at ms i opened.n k) (request_at ms i opened.n k) (slot_at ms i opened.n k) asked_so list k step.1.orb (λ o. o) r.status r.by.read ends_so.read);
     }
 
-    same_number : (a b : ℕ) → Some a ≡ Some b → a ≡ b
-    same_number a b e = cc
-
     so : (n j : ℕ) → list_in (ticket_at w place r.orb) ≡ Some n → orb_in (ticket_at w place r.orb) ≡ Some j → EndIsRead start now i n j r.status
     so n j e f =
-        subst (λ a. EndIsRead start now i a j r.status) (same_number opened.n n (sym list_is ∙ e))
-        (subst (λ b. EndIsRead start now i opened.n b r.status) (same_number k j (sym number ∙ f)) end_read)
+        subst (λ a. EndIsRead start now i a j r.status) (same_Some opened.n n (sym list_is ∙ e))
+        (subst (λ b. EndIsRead start now i opened.n b r.status) (same_Some k j (sym number ∙ f)) end_read)
 
   pub ended_so : EndAt wild start (said ended) now
   ended_so =

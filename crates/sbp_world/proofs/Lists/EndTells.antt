@@ -63,6 +63,7 @@ use Rattle.sbp_world.proofs.Lists.OrbSteps.{ends_read}
 use Rattle.sbp_world.proofs.Lists.RunTells.{served_there}
 use Rattle.sbp_world.proofs.Lists.StatusPackets.{EndSide, one_end, or_before, told_end}
 use Rattle.sbp_world.proofs.Lists.StatusRests.{Resting, manages, starts}
+use Rattle.sbp_world.proofs.Lists.BusyCuts.{joined}
 
 -- ---- of no end but with the status failed
 abbrev pub IsMild : Side → Type 0
@@ -103,7 +104,7 @@ end_none : (side : Side) → one_end side ≡ None → IsMild side
 end_none (sides.Ended place orb status) e = some_end (record { place = place; orb = orb; kind = status }) e
 end_none side e = tt
 
-both_none : (x y : Option EndSide) → or_before x y ≡ None → (x ≡ None) × (y ≡ None)
+pub both_none : (x y : Option EndSide) → or_before x y ≡ None → (x ≡ None) × (y ≡ None)
 both_none None y e = (refl, e)
 both_none (Some x) y e = some_end x e
 
@@ -115,10 +116,6 @@ none_mild (side ∷ later) e = let b = both_none (told_end later) (one_end side)
 pub data TellsEnd (End : (place orb : ℕ) → StatusKind → Type 0) (told : List Side) : Type 0 where
   of_mild : AreMild told → TellsEnd End told
   of_end : (place orb : ℕ) (status : StatusKind) (early later : List Side) → End place orb status → AreLight early → AreMild later → early ++ sides.Ended place orb status ∷ later ≡ told → TellsEnd End told
-
-joined : (a b c : List Side) → (a ++ b) ++ c ≡ a ++ (b ++ c)
-joined [] b c = refl
-joined (m ∷ a) b c = ap (λ ns. m ∷ ns) (joined a b c)
 
 -- a transaction that is lost ends an ORB as failed alone
 loss_mild : (phase : Phase) (m : Machine) (cause : FailCause) → ends_read (main_lost phase m cause).0.ended ≡ false

@@ -62,6 +62,7 @@ use Rattle.sbp_world.proofs.Lists.RunTells.{AreRunless, IsRunless, TellsRun, all
 use Rattle.sbp_world.proofs.Lists.StatusRests.{Resting}
 use Rattle.sbp_world.proofs.Lists.StatusRests as target_rests
 use Rattle.sbp_world.proofs.Lists.Extends.{marked_fresh}
+use Rattle.sbp_world.proofs.Common.{notes_joined}
 
 -- ---- notes
 abbrev pub IsPlain : Note → Type 0
@@ -78,10 +79,6 @@ pub record Plainly (old new : List Note) : Type 0 where
   pub is : more ++ old ≡ new
   pub plain : AllPlain more
 
-joined : (a b c : List Note) → (a ++ b) ++ c ≡ a ++ (b ++ c)
-joined [] b c = refl
-joined (m ∷ a) b c = ap (λ ns. m ∷ ns) (joined a b c)
-
 both : (a b : List Note) → AllPlain a → AllPlain b → AllPlain (a ++ b)
 both [] b x y = y
 both (m ∷ a) b x y = (x.0, both a b x.1 y)
@@ -90,7 +87,7 @@ pub plain_none : (ns : List Note) → Plainly ns ns
 plain_none ns = record { more = []; is = refl; plain = tt }
 
 pub plain_then : (one two three : List Note) → Plainly one two → Plainly two three → Plainly one three
-plain_then one two three a b = record { more = b.more ++ a.more; is = joined b.more a.more one ∙ ap (λ ns. b.more ++ ns) a.is ∙ b.is; plain = both b.more a.more b.plain a.plain }
+plain_then one two three a b = record { more = b.more ++ a.more; is = notes_joined b.more a.more one ∙ ap (λ ns. b.more ++ ns) a.is ∙ b.is; plain = both b.more a.more b.plain a.plain }
 
 plain_one : (note : Note) (ns : List Note) → IsPlain note → Plainly ns (note ∷ ns)
 plain_one note ns q = record { more = note ∷ []; is = refl; plain = (q, tt) }
@@ -259,7 +256,7 @@ light_one : (note : Note) (v later : WorldState) → IsLightNote note → Lightl
 light_one note v later f l = record {
   notes_are = l.notes_are ++ note ∷ [];
   light = light_both l.notes_are (note ∷ []) l.light (f, tt);
-  is = l.is ∙ ap (λ ns. record v { fresh = ns }) (sym (joined l.notes_are (note ∷ []) v.fresh));
+  is = l.is ∙ ap (λ ns. record v { fresh = ns }) (sym (notes_joined l.notes_are (note ∷ []) v.fresh));
 }
 
 lights : (early : List Side) (v : WorldState) → AreLight early → Lightly v (told_all 0 early v)
@@ -281,7 +278,7 @@ lights (sides.Cleared a ∷ early) v h = absurd h.0
 lights (sides.Unsolicited a ∷ early) v h = absurd h.0
 lights (sides.Unsent a ∷ early) v h = absurd h.0
 
-told_both : (a b : List Side) (v : WorldState) → told_all 0 (a ++ b) v ≡ told_all 0 b (told_all 0 a v)
+pub told_both : (a b : List Side) (v : WorldState) → told_all 0 (a ++ b) v ≡ told_all 0 b (told_all 0 a v)
 unfolding told_all
 told_both [] b v = refl
 told_both (side ∷ a) b v = told_both a b (told 0 side v)

@@ -1,6 +1,7 @@
 -- In every run a command runs on the unit of a live login of its initiator; where lists were open as they should be before, the command of an ORB of an initiator that
 -- injected no packets has the outcome that the plain disk allows for its request; and with the laws of lists this is the execution law.
 use Rattle.std.proofs.Common.{arith, ◌≡◌, ◌∙◌, inl, inr, ◌⊎◌, refl, sym, ap, subst, ℕ, ◌+◌, ◌^◌, ◌<◌, ◌≤◌, Bool, true, false, List, [], ◌∷◌, ◌++◌, map, length, Option, Some, None}
+use Rattle.std.proofs.lemmas.Option.{same_Some}
 use Rattle.bus_transactions.specs.Judging.{AreJudged}
 use Rattle.bus_transactions.specs.May.{is_reset}
 use Rattle.rbc_disk.specs.Disk.{Disk}
@@ -77,7 +78,7 @@ use Rattle.sbp_world.specs.Lists.OrbNames.{AreLed}
 use Rattle.sbp_world.specs.Lists.FewLogins.{IsTameOrFew}
 use Rattle.sbp_world.specs.Lists.Closes.{ClosingLaw, OpenListsLaw}
 use Rattle.sbp_world.proofs.Lists.Courses.{EveryPlace, more_than_one}
-use Rattle.sbp_world.proofs.Lists.OpenProved.{opens_law}
+use Rattle.sbp_world.proofs.Lists.OpenProved.{opens_law, nobody_needs}
 use Rattle.sbp_world.proofs.Lists.OrbLines.{line_reads}
 use Rattle.sbp_world.proofs.Lists.OrbPlaces.{HasReads, has_reads}
 use Rattle.sbp_world.proofs.Lists.OrbWaits.{asked_everywhere, delivering_asks, repeating_asks}
@@ -94,6 +95,7 @@ use Rattle.sbp_world.proofs.Lists.Runs.{At, EarlyAfter, KeptAfter, as_front, at_
 use Rattle.sbp_world.proofs.Lists.Sites.{Site, named_prepared}
 use Rattle.sbp_world.proofs.Lists.Stays.{ready_now}
 use Rattle.sbp_world.proofs.Lists.Turns.{Ready}
+use Rattle.sbp_world.proofs.Common.{said_split}
 
 -- ---- the law at a moment
 -- where no initiator injected packets, or few logins were given, so that lists are open as they should be, and were so before
@@ -120,10 +122,6 @@ opens_before later past so = (so.0, so.1, tame_or_few_before later past so.2)
 abbrev Law : (ℕ → Bool) → List Disk → List Moment → Type 0
 Law wild start past = EachMoment (RunAt wild start) past
 
-split : (a b : List Note) (past : List Moment) → map said (a ++ b) ++ past ≡ map said a ++ (map said b ++ past)
-split [] b past = refl
-split (n ∷ a) b past = ap (λ ms. said n ∷ ms) (split a b past)
-
 module _ (wild : ℕ → Bool) (start : List Disk) where
   plain_at : (note : Note) → IsPlain note → (past : List Moment) → RunAt wild start (said note) past
   plain_at (notes.Ran i n k unit cdb bytes check) h past = absurd h
@@ -136,7 +134,7 @@ module _ (wild : ℕ → Bool) (start : List Disk) where
   -- notes of no run
   plainly_law : (past : List Moment) (old new : List Note) → Plainly old new → Law wild start (map said old ++ past) → Law wild start (map said new ++ past)
   plainly_law past old new q l =
-      subst (λ ns. Law wild start (map said ns ++ past)) q.is (subst (Law wild start) (sym (split q.more old past)) (plain_law q.more q.plain (map said old ++ past) l))
+      subst (λ ns. Law wild start (map said ns ++ past)) q.is (subst (Law wild start) (sym (said_split q.more old past)) (plain_law q.more q.plain (map said old ++ past) l))
 
   passed : (more : List Note) (past : List Moment) → PassLaw wild (map said more ++ past) → PassLaw wild past
   passed [] past p = p
@@ -152,7 +150,7 @@ module _ (wild : ℕ → Bool) (start : List Disk) where
   delivers_law past None_ran Ran old new f (no_run serial judged none q) passes l = plainly_law past (judged_note serial judged ∷ old) new q (judged_at serial judged (map said old ++ past), l)
   delivers_law past None_ran Ran old new f (one_run serial ran r q) passes l =
       let front = ran ∷ notes.Got serial ∷ old in
-      let before : PassLaw wild (map said front ++ past) = passed q.more (map said front ++ past) (subst (PassLaw wild) (split q.more front past) (subst (λ ns. PassLaw wild (map said ns ++ past)) (sym q.is) passes)) in
+      let before : PassLaw wild (map said front ++ past) = passed q.more (map said front ++ past) (subst (PassLaw wild) (said_split q.more front past) (subst (λ ns. PassLaw wild (map said ns ++ past)) (sym q.is) passes)) in
       plainly_law past front new q (f serial ran r before, ((tt, (tt, (tt, (tt, tt)))), l))
 
   one_law : (past : List Moment) (None_ran : ℕ → Judged → Type 0) (Ran : ℕ → Note → Type 0) (old new : List Note) → ((serial : ℕ) (ran : Note) → Ran serial ran → (let now = said (notes.Got serial) ∷ (map said old ++ past) in PassLaw wild (said ran ∷ now) → RunAt wild start (said ran) now)) → Plainly old new ⊎ Delivers None_ran Ran old new → PassLaw wild (map said new ++ past) → Law wild start (map said old ++ past) → Law wild start (map said new ++ past)
@@ -193,7 +191,7 @@ module _ (wild : ℕ → Bool) (start : List Disk) where
   mild_law (note ∷ more) h past l = (plain_end note h.0 (map said more ++ past), mild_law more h.1 past l)
 
   mildly_law : (past : List Moment) (old new : List Note) → endless.Plainly old new → E (map said old ++ past) → E (map said new ++ past)
-  mildly_law past old new q l = subst (λ ns. E (map said ns ++ past)) q.is (subst E (sym (split q.more old past)) (mild_law q.more q.plain (map said old ++ past) l))
+  mildly_law past old new q l = subst (λ ns. E (map said ns ++ past)) q.is (subst E (sym (said_split q.more old past)) (mild_law q.more q.plain (map said old ++ past) l))
 
   early_law : (early : List Note) → endless.AllLight early → (past : List Moment) → E past → E (map said early ++ past)
   early_law [] h past l = l
@@ -205,8 +203,8 @@ module _ (wild : ℕ → Bool) (start : List Disk) where
       let got = said (notes.Got serial) ∷ (map said old ++ past) in
       let is = f serial early ended x in
       mildly_law past (ended ∷ (early ++ notes.Got serial ∷ old)) new q (
-        subst (λ ms. EndSo wild start (said ended) ms) (sym (split early (notes.Got serial ∷ old) past)) is.0,
-        subst E (sym (split early (notes.Got serial ∷ old) past)) (early_law early is.1 got ((tt, tt), l)),
+        subst (λ ms. EndSo wild start (said ended) ms) (sym (said_split early (notes.Got serial ∷ old) past)) is.0,
+        subst E (sym (said_split early (notes.Got serial ∷ old) past)) (early_law early is.1 got ((tt, tt), l)),
       )
 
   end_told : (past : List Moment) (s : Scene) → IsSet wild start past s → (OpensBeside (hist past s.world) → HasNames start past s.world) → (run : Option Told) (serial : ℕ) (early : List Note) (ended : Note) → IsEndBy s run serial early ended → (let now = map said early ++ said (notes.Got serial) ∷ hist past s.world in EndSo wild start (said ended) now × endless.AllLight early)
@@ -239,15 +237,12 @@ module _ (wild : ℕ → Bool) (start : List Disk) where
         let i = (are_held units logins has start w h q).held place login e in
         subst (λ (x : Holder). IsFoundBy start (hist past w) x place login) (sym (ap or_nobody i.there)) (record { unit_is = i.unit_is; found = (i.live live).place_is })
 
-    some_same : (a b : ℕ) → Some a ≡ Some b → a ≡ b
-    some_same a b e = cc
-
     pub asked_of : Site start past w → ((i : ℕ) → wild i ≡ false → OpenLists (hist past w) w) → ((i : ℕ) → wild i ≡ false → IsCalm (hist past w) i) → ((i : ℕ) → i < length w.initiators → HoldsOrbs (hist past w) i (initiator_at w i)) → AreAsked wild (hist past w) w
     asked_of s lists calm orbs place b is_open own n list number from below =
         let ms = hist past w in
         let i = (holder w place).initiator in
         let o = (lists i own).listed place b is_open (calm i own) in
-        let same : o.n ≡ n = some_same o.n n (sym o.list ∙ list) in
+        let same : o.n ≡ n = same_Some o.n n (sym o.list ∙ list) in
         let named : (j : ℕ) → ends ms i n ≤ j → j < linked ms i n → IsNamed ms w place n j = subst (λ x. (j : ℕ) → ends ms i x ≤ j → j < linked ms i x → IsNamed ms w place x j) same o.named in
         let slot = slot_at ms i n number in
         let prepared = named_prepared units logins has start w h s place n number o.inside (named number from below) in
@@ -654,18 +649,15 @@ module _ (wild : ℕ → Bool) (start : List Disk) where
   execution_of [] l r o = tt
   execution_of (m ∷ past) l r o = (execution_at m past l.0 r.0 o.0, execution_of past l.1 r.1 o.1)
 
-nobody : (A : Type 0) → true ≡ false → A
-nobody A e = absurd (let no : true ≡ false = e in cc)
-
 pub logins_run_law : LoginsRunLaw
 logins_run_law = record {
   after_lines = λ line run r has small size.
       let wild : ℕ → Bool = λ i. true in
-      logins_part wild run.start.disks (history_of line run) (lines_law line run r has small size wild (λ i f. nobody (OpenBefore line run run.entries) f) (λ i f. nobody (IsCalm (history_of line run) i) f)).0;
+      logins_part wild run.start.disks (history_of line run) (lines_law line run r has small size wild (λ i f. nobody_needs (OpenBefore line run run.entries) f) (λ i f. nobody_needs (IsCalm (history_of line run) i) f)).0;
   between = λ line run r has small size next event d told m.
       let wild : ℕ → Bool = λ i. true in
       let now = map said (after_all told (begun (after (beginning run) run.entries))).world.fresh ++ asked next event ∷ history_of line run in
-      logins_part wild run.start.disks now (between_law line run r has small size wild next event d told m (λ i f. nobody (OpenBetween line run next event told) f) (λ i f. nobody (IsCalm now i) f)).0;
+      logins_part wild run.start.disks now (between_law line run r has small size wild next event d told m (λ i f. nobody_needs (OpenBetween line run next event told) f) (λ i f. nobody_needs (IsCalm now i) f)).0;
 }
 
 pub outcomes_run_law : OutcomesRunLaw
@@ -716,11 +708,11 @@ pub due_runs_law : DueRunsLaw
 due_runs_law = record {
   after_lines = λ line run r has small size others.
       let wild : ℕ → Bool = λ i. true in
-      where_due others run.start.disks (history_of line run) (lines_law line run r has small size wild (λ i f. nobody (OpenBefore line run run.entries) f) (λ i f. nobody (IsCalm (history_of line run) i) f)).1.1;
+      where_due others run.start.disks (history_of line run) (lines_law line run r has small size wild (λ i f. nobody_needs (OpenBefore line run run.entries) f) (λ i f. nobody_needs (IsCalm (history_of line run) i) f)).1.1;
   between = λ line run r has small size next event d told m others.
       let wild : ℕ → Bool = λ i. true in
       let now = map said (after_all told (begun (after (beginning run) run.entries))).world.fresh ++ asked next event ∷ history_of line run in
-      where_due others run.start.disks now (between_law line run r has small size wild next event d told m (λ i f. nobody (OpenBetween line run next event told) f) (λ i f. nobody (IsCalm now i) f)).1.1;
+      where_due others run.start.disks now (between_law line run r has small size wild next event d told m (λ i f. nobody_needs (OpenBetween line run next event told) f) (λ i f. nobody_needs (IsCalm now i) f)).1.1;
 }
 
 pub runs_fed_law : RunsFedLaw

@@ -18,6 +18,7 @@ use Rattle.sbp_world.specs.Handing.{handed_out}
 use Rattle.sbp_world.specs.Sending.{asked, posted, sent, sent_all, sent_to}
 use Rattle.sbp_world.specs.Telling.{told, told_all}
 use Rattle.sbp_world.specs.Worlds.{Scene, WorldState, with_note}
+use Rattle.sbp_world.proofs.Common.{notes_joined}
 
 pub record Extends (old new : List Note) : Type 0 where
   pub more : List Note
@@ -26,12 +27,8 @@ pub record Extends (old new : List Note) : Type 0 where
 pub extends_none : (ns : List Note) → Extends ns ns
 extends_none ns = record { more = []; is = refl }
 
-joined : (a b c : List Note) → (a ++ b) ++ c ≡ a ++ (b ++ c)
-joined [] b c = refl
-joined (m ∷ a) b c = ap (λ ns. m ∷ ns) (joined a b c)
-
 pub extends_then : (one two three : List Note) → Extends one two → Extends two three → Extends one three
-extends_then one two three a b = record { more = b.more ++ a.more; is = joined b.more a.more one ∙ ap (λ ns. b.more ++ ns) a.is ∙ b.is }
+extends_then one two three a b = record { more = b.more ++ a.more; is = notes_joined b.more a.more one ∙ ap (λ ns. b.more ++ ns) a.is ∙ b.is }
 
 extends_one : (note : Note) (ns : List Note) → Extends ns (note ∷ ns)
 extends_one note ns = record { more = note ∷ []; is = refl }

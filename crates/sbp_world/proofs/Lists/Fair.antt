@@ -3,7 +3,7 @@ use Rattle.std.proofs.Common.{◌≡◌, refl, subst, ℕ, zero, suc, false, Lis
 use Rattle.sbp_world.proofs.Agents.Management.Holding.{past_terms}
 use Rattle.bus_transactions.specs.Packets.{SerialsCount}
 use Rattle.rbc_disk.specs.Disk.{Disk}
-use Rattle.sbp_journal.specs.Run.{Moment, asked, said}
+use Rattle.sbp_journal.specs.Run.{Moment}
 use Rattle.sbp_journal.specs.Wire.{Terms, terms}
 use Rattle.sbp_journal.specs.declared.note.Note.TheVariants as notes
 use Rattle.sbp_laws.specs.Turns.{EachMoment}
@@ -15,6 +15,7 @@ use Rattle.sbp_world.proofs.Lists.AnswerGots.{answers_at}
 use Rattle.sbp_world.proofs.Lists.Calm.{injects_before}
 use Rattle.sbp_world.proofs.Lists.Courses.{EveryPlace, Keeps, at_between, at_lines}
 use Rattle.sbp_world.proofs.Lists.Judging.{counts_at}
+use Rattle.sbp_world.proofs.Hosts.Remaining.{serials_behind}
 
 -- ---- of a history: its serials count, responses answer what waits for them, and no node injected packets
 pub record IsFair (past : List Moment) : Type 0 where
@@ -22,13 +23,8 @@ pub record IsFair (past : List Moment) : Type 0 where
   pub answers : EachMoment AnswersAt past
   pub fair : (node : ℕ) → (terms past).injects node ≡ false
 
-counts_before : (m : Moment) (past : List Moment) → SerialsCount (m ∷ past) → SerialsCount past
-counts_before (asked line event) past c = c
-counts_before (said (notes.Sent s generation from to bytes)) past c = c.1
-counts_before (said note) past c = c
-
 pub fair_before : (m : Moment) (past : List Moment) → IsFair (m ∷ past) → IsFair past
-fair_before m past f = record { counts = counts_before m past f.counts; answers = f.answers.1; fair = λ node. injects_before m past node (f.fair node) }
+fair_before m past f = record { counts = serials_behind m past f.counts; answers = f.answers.1; fair = λ node. injects_before m past node (f.fair node) }
 
 -- ---- at each place of a run
 -- and the target injected no packets
@@ -38,7 +34,7 @@ pub record Told (past : List Moment) : Type 0 where
   pub fair : (terms past).injects 0 ≡ false
 
 pub told_before : (m : Moment) (past : List Moment) → Told (m ∷ past) → Told past
-told_before m past t = record { counts = counts_before m past t.counts; answers = t.answers.1; fair = injects_before m past 0 t.fair }
+told_before m past t = record { counts = serials_behind m past t.counts; answers = t.answers.1; fair = injects_before m past 0 t.fair }
 
 pub told_of : (past : List Moment) → IsFair past → Told past
 told_of past f = record { counts = f.counts; answers = f.answers; fair = f.fair 0 }

@@ -41,6 +41,7 @@ use Rattle.sbp_world.proofs.Lists.Heard.{awaited_to}
 use Rattle.sbp_world.proofs.Lists.ManageTerms.{same_some}
 use Rattle.sbp_world.proofs.Lists.ReadSlots.{is_in}
 use Rattle.sbp_world.proofs.Lists.Sites.{IsPrepared, Site, Waiting, waiting as agent_waiting}
+use Rattle.sbp_world.proofs.Common.{equal}
 
 -- a read ahead reads
 ahead_reads : (ahead : ReadAhead) (next : OrbPointer) (is_status : Bool) (fifo : ℕ) (access : Access) → IsAccessFor (ahead_ask ahead next) is_status fifo access → access.is_write ≡ false
@@ -142,9 +143,6 @@ module _ (units ready : ℕ) (has : 0 < units) (start : List Disk) {past : List 
   abbrev Case : ℕ → ℕ → ℕ → ℕ → ℕ → Which → Type 0
   Case place serial own other slot which = answered_at t serial ≡ Some own → purpose_of T own ≡ for_agent other which → IsOwnOrOther start ms (initiator_in w place) place slot serial
 
-  same_place : (a b : ℕ) → (a == b) ≡ true → a ≡ b
-  same_place a b e = grind (arith, nat_tests, e)
-
   module _ (place : ℕ) (b : place < 8) (is_open : is_open_at w place ≡ true) (calm : IsCalm ms (initiator_in w place)) (serial own other slot : ℕ) where
     main_case : Case place serial own other slot Main
     main_case closed purpose = by (other == place) refl
@@ -152,7 +150,7 @@ module _ (units ready : ℕ) (has : 0 < units) (start : List Disk) {past : List 
         by : (x : Bool) → (other == place) ≡ x → IsOwnOrOther start ms (initiator_in w place) place slot serial
         by false e = others place b is_open calm serial own other slot Main closed purpose e e
         by true e =
-            inl (reads_all place b is_open calm serial own other slot Main closed purpose (same_place other place e)
+            inl (reads_all place b is_open calm serial own other slot Main closed purpose (equal other place e)
             ∙ sym (main_is place b is_open calm serial own other slot Main closed purpose ∙ ap (λ x. cond (is_serial (receiver_in (t.sent serial)) 0) (cond x (moved_by (access_at t own) (payload_at t serial)) []) []) e))
 
     module _ (closed : answered_at t serial ≡ Some own) (purpose : purpose_of T own ≡ for_agent other Ahead) (quiet : IsCalm ms (initiator_in w other)) where
@@ -198,7 +196,7 @@ module _ (units ready : ℕ) (has : 0 < units) (start : List Disk) {past : List 
         by false e = others place b is_open calm serial own other slot Ahead closed purpose e refl
         by true e = inr (
           main_is place b is_open calm serial own other slot Ahead closed purpose ∙ either_none place b is_open calm serial own other slot Ahead closed purpose (is_serial (receiver_in (t.sent serial)) 0),
-          subst (AllElsewhere slot) (sym (reads_all place b is_open calm serial own other slot Ahead closed purpose (same_place other place e))) (elsewhere closed purpose (subst (λ p. IsCalm ms (initiator_in w p)) (sym (same_place other place e)) calm) (is_serial (receiver_in (t.sent serial)) 0)),
+          subst (AllElsewhere slot) (sym (reads_all place b is_open calm serial own other slot Ahead closed purpose (equal other place e))) (elsewhere closed purpose (subst (λ p. IsCalm ms (initiator_in w p)) (sym (equal other place e)) calm) (is_serial (receiver_in (t.sent serial)) 0)),
         )
 
   pub are_own_gots : AreOwnGots start ms w

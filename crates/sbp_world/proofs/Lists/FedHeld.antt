@@ -4,19 +4,21 @@ use Rattle.std.proofs.Common.{arith, ◌≡◌, ◌∙◌, refl, sym, ap, inl, i
 use Rattle.std.proofs.lemmas.Bool.Decides.{nat_tests}
 use Rattle.bus_transactions.specs.Packets.{SerialsCount}
 use Rattle.async_packet.specs.Fields.{rcode_of}
-use Rattle.sbp_base.specs.Update.{upd}
 use Rattle.sbp_journal.specs.Run.{Moment, asked, said}
 use Rattle.sbp_journal.specs.Transactions.{Kind, Part, Sending, Transaction, asked_by, at, begun_by, between, is_same, is_same_kind, is_to, no_packet, part_of, request, response}
-use Rattle.sbp_journal.specs.Wire.{Held, Owed, Terms, arrives, asked_in, begins, begun_in, closes, closes_if, free, gets, gets_as, gives, ignores, ignores_that, is_news, is_served, judges, judges_if, kind_in, noted, opened, pays, puts, rests, sends, terms, times_out, waits}
+use Rattle.sbp_journal.specs.Wire.{Held, Owed, Terms, arrives, asked_in, begins, begun_in, closes, closes_if, free, gets, gets_as, ignores, ignores_that, is_news, is_served, judges_if, kind_in, noted, pays, puts, rests, sends, terms, times_out, waits}
 use Rattle.sbp_journal.specs.declared.cause.Cause.{Cause}
 use Rattle.sbp_journal.specs.declared.cause.Cause.TheVariants as causes
-use Rattle.sbp_journal.specs.declared.event.Event.{Event}
 use Rattle.sbp_journal.specs.declared.event.Event.TheVariants as events
 use Rattle.sbp_journal.specs.declared.note.Note.{Note}
 use Rattle.sbp_journal.specs.declared.note.Note.TheVariants as notes
 use Rattle.sbp_laws.specs.Packets.{closed_by}
 use Rattle.sbp_world.proofs.Hosts.Remaining.{remains}
 use Rattle.sbp_world.proofs.Hosts.SentMoments.{sent_below, serials_from}
+use Rattle.sbp_world.proofs.Hosts.Held.{sends_sent, gives_held}
+use Rattle.sbp_world.proofs.Pointers.Ages.{serial_is}
+use Rattle.sbp_world.proofs.Agents.Management.Still.{judges_held}
+use Rattle.sbp_world.proofs.Lists.LastReads.{opened_held}
 
 pub same_self : (u : Transaction) → is_same u u ≡ true
 unfolding is_same
@@ -43,23 +45,17 @@ module _ (v : Transaction) (k : Kind) (s : ℕ) where
   rests_not e = cc
 
   -- ---- a packet is sent
-  gives_held : (u : Option Transaction) (rcode : ℕ) (t : Terms) → (gives u rcode t).held ≡ t.held
-  gives_held None rcode t = refl
-  gives_held (Some u) rcode t = refl
 
   pub pays_held : (owed : Option Owed) (sent : ℕ → Option Sending) (serial : ℕ) (q : Sending) (t : Terms) → (pays owed sent serial q t).held ≡ t.held
   pays_held None sent serial q t = refl
   pays_held (Some owed) sent serial q t = gives_held (asked_in (sent owed.serial)) (rcode_of q.bytes) t
-
-  waits_serial : (a b : Kind) (x y : ℕ) → waits a x ≡ waits b y → y ≡ x
-  waits_serial a b x y e = cc
 
   begins_waits : (u : Option Transaction) (serial : ℕ) (q : Sending) (t : Terms) → (begins u serial q t).held v ≡ waits k s → (t.held v ≡ waits k s) ⊎ (s ≡ serial)
   begins_waits None serial q t e = inl e
   begins_waits (Some u) serial q t e = by (is_same v u) e
     where
       by : (b : Bool) → cond b (waits (kind_in (part_of q.bytes)) serial) (t.held v) ≡ waits k s → (t.held v ≡ waits k s) ⊎ (s ≡ serial)
-      by true f = inr (waits_serial (kind_in (part_of q.bytes)) k serial s f)
+      by true f = inr (serial_is (kind_in (part_of q.bytes)) k serial s f)
       by false f = inl f
 
   sends_waits : (serial : ℕ) (q : Sending) (t : Terms) → (sends serial q t).held v ≡ waits k s → (t.held v ≡ waits k s) ⊎ (s ≡ serial)
@@ -67,9 +63,6 @@ module _ (v : Transaction) (k : Kind) (s : ℕ) where
       begins_waits (begun_by q) serial q (puts (begun_by q) serial q t) (sym (ap (λ (f : Transaction → Held). f v) (pays_held t.owes t.sent serial q (begins (begun_by q) serial q (puts (begun_by q) serial q t)))) ∙ e)
 
   -- ---- a packet is got
-  judges_held : (u : Option Transaction) (cause : Option Cause) (serial : ℕ) (q : Sending) (t : Terms) → (judges u cause serial q t).held ≡ t.held
-  judges_held None cause serial q t = refl
-  judges_held (Some u) cause serial q t = refl
 
   closes_waits : (h : Held) (u : Transaction) (kind : Kind) (rcode : ℕ) (t : Terms) → (closes h u kind rcode t).held v ≡ waits k s → t.held v ≡ waits k s
   closes_waits free u kind rcode t e = e
@@ -110,11 +103,6 @@ module _ (v : Transaction) (k : Kind) (s : ℕ) where
   late_waits None t e = e
   late_waits (Some u) t e = set_waits t.held u rests rests_not e
 
-  opened_held : (event : Event) (t : Terms) → (opened event t).held ≡ t.held
-  opened_held (events.Reset physical) t = refl
-  opened_held (events.Repeat serial) t = refl
-  opened_held event t = refl
-
   -- ---- each moment
   abbrev pub IsSent : Moment → ℕ → Type 0
   IsSent (said (notes.Sent serial generation from to bytes)) own = own ≡ serial
@@ -136,20 +124,6 @@ pub record IsNewer (before past : List Moment) (s : ℕ) : Type 0 where
   pub above : (terms before).count < s
   pub packet : Sending
   pub sent : (terms past).sent s ≡ Some packet
-
-sends_sent : (serial : ℕ) (q : Sending) (t : Terms) → (sends serial q t).sent ≡ upd t.sent serial (Some q)
-sends_sent serial q t = by_owed t.owes (begun_by q)
-  where
-    by_given : (u v : Option Transaction) (rcode : ℕ) → (gives u rcode (begins v serial q (puts (begun_by q) serial q t))).sent ≡ upd t.sent serial (Some q)
-    by_given None None rcode = refl
-    by_given None (Some v) rcode = refl
-    by_given (Some u) None rcode = refl
-    by_given (Some u) (Some v) rcode = refl
-
-    by_owed : (owed : Option Owed) (v : Option Transaction) → (pays owed t.sent serial q (begins v serial q (puts (begun_by q) serial q t))).sent ≡ upd t.sent serial (Some q)
-    by_owed None None = refl
-    by_owed None (Some v) = refl
-    by_owed (Some owed) v = by_given (asked_in (t.sent owed.serial)) v (rcode_of q.bytes)
 
 -- one that was sent now
 sent_now : (m : Moment) (past : List Moment) (s : ℕ) (v : Transaction) (k : Kind) → SerialsCount (m ∷ past) → IsSent v k s m s → (s ≡ (terms past).count + 1) × ((packet : Sending) × ((terms (m ∷ past)).sent s ≡ Some packet))

@@ -27,6 +27,7 @@ use Rattle.sbp_world.proofs.Lists.ManageTerms.{same_some}
 use Rattle.sbp_world.proofs.Lists.BegunBy.{IsHeld, begun_of, held_by, transaction_of}
 use Rattle.sbp_world.proofs.Lists.Calm.{injects_before}
 use Rattle.sbp_world.proofs.Lists.FedHeld.{IsNewer, got_frees, waits_since}
+use Rattle.sbp_world.proofs.Lists.BufferGets.{fair_back}
 
 -- ---- a response that is got is awaited
 row_awaited : (current for_node awaited repeated : Bool) → may_get (row_of (record { is_current = current; is_for_node = for_node; is_response = true; is_awaited = awaited; is_repeated = repeated })) ≡ true → awaited ≡ true
@@ -78,10 +79,6 @@ told_from : (later earlier : List Moment) → Told (later ++ earlier) → Told e
 told_from [] earlier f = f
 told_from (m ∷ later) earlier f = told_from later earlier (told_before m (later ++ earlier) f)
 
-injects_from : (later earlier : List Moment) (node : ℕ) → (terms (later ++ earlier)).injects node ≡ false → (terms earlier).injects node ≡ false
-injects_from [] earlier node e = e
-injects_from (m ∷ later) earlier node e = injects_from later earlier node (injects_before m (later ++ earlier) node e)
-
 module _ (earlier : List Moment) (r own : ℕ) (asking : Sending) (closed : answered_at (terms earlier) r ≡ Some own) (own_sent : (terms earlier).sent own ≡ Some asking) where
   abbrev E : List Moment
   E = said (notes.Got r) ∷ earlier
@@ -107,7 +104,7 @@ module _ (earlier : List Moment) (r own : ℕ) (asking : Sending) (closed : answ
   are_before m past f = record { requester = injects_before m past u.requester f.requester; responder = injects_before m past u.responder f.responder }
 
   are_from : (later past : List Moment) → AreFair (later ++ past) → AreFair past
-  are_from later past f = record { requester = injects_from later past u.requester f.requester; responder = injects_from later past u.responder f.responder }
+  are_from later past f = record { requester = fair_back later past u.requester f.requester; responder = fair_back later past u.responder f.responder }
 
   -- a response that answers the request which its label waits for
   answered_by : (past : List Moment) (serial : ℕ) → Told (said (notes.Got serial) ∷ past) → AreFair past → (kind : Kind) (asked_for : ℕ) → (terms past).held u ≡ waits kind asked_for → answered_at (terms past) serial ≡ Some asked_for → (terms past).answers serial ≡ Some asked_for

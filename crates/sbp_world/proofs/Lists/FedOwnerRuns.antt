@@ -18,13 +18,10 @@ use Rattle.sbp_world.specs.Lists.OwnReads.{AreOwnGots, AreOwnReads, OwnGotsLaw, 
 use Rattle.sbp_world.proofs.Lists.Courses.{more_than_one}
 use Rattle.sbp_world.proofs.Lists.FedGots.{are_own_gots}
 use Rattle.sbp_world.proofs.Lists.FedOwners.{are_own_reads}
-use Rattle.sbp_world.proofs.Lists.OpenProved.{opens_law}
+use Rattle.sbp_world.proofs.Lists.OpenProved.{opens_law, nobody_needs}
 use Rattle.sbp_world.proofs.Lists.RunLaws.{along_law}
 use Rattle.sbp_world.proofs.Lists.RunSites.{site_after, site_between}
 use Rattle.sbp_world.proofs.Lists.Runs.{KeptAfter, holds_at, kept_after}
-
-nobody : (A : Type 0) → true ≡ false → A
-nobody A e = absurd (let no : true ≡ false = e in cc)
 
 abbrev wilds : ℕ → Bool
 wilds = λ i. true
@@ -37,7 +34,7 @@ module _ (line : ℕ) (run : Run) (r : IsRun run) (has : 0 < run.units) (small :
   last = after (beginning run) run.entries
 
   kept : KeptAfter wilds opened line run r.few has small size run.entries last.world
-  kept = kept_after wilds opened line run r.few has small size run.entries r.short r.entries r.lines (λ i f. nobody (OpenBefore line run run.entries) f) (λ i f. nobody (IsCalm (history_of line run) i) f)
+  kept = kept_after wilds opened line run r.few has small size run.entries r.short r.entries r.lines (λ i f. nobody_needs (OpenBefore line run run.entries) f) (λ i f. nobody_needs (IsCalm (history_of line run) i) f)
 
   abbrev logins : ℕ
   logins = ready_logins run.initiators run.ready

@@ -8,6 +8,7 @@ use Rattle.page_table.specs.declared.segment.Chunk.{Chunk}
 use Rattle.page_table.specs.Buffer.{AreSegments, before, chunk_from, chunks, taken_from}
 use Rattle.page_table.proofs.Chunks.{chunks_in_turn}
 use Rattle.sbp_laws.specs.CarriedBytes.{Moved, begins_one, joined}
+use Rattle.sbp_world.proofs.Common.{no_bytes}
 
 -- the bytes that were moved, joined
 abbrev pub all_bytes : List Moved → List ℕ
@@ -53,10 +54,6 @@ more_fits piece pieces one (inr e) = inr e
 all_more_fit : (piece : Chunk) (pieces : List Chunk) (moved : List Moved) → AllFit pieces moved → AllFit (piece ∷ pieces) moved
 all_more_fit piece pieces [] h = tt
 all_more_fit piece pieces (one ∷ moved) h = (more_fits piece pieces one h.0, all_more_fit piece pieces moved h.1)
-
-no_bytes : (xs : List ℕ) → length xs ≡ 0 → xs ≡ []
-no_bytes [] e = refl
-no_bytes (x ∷ xs) e = absurd (omega (arith, e))
 
 -- where no bytes are left
 cut_none : (o : Option Chunk) → (cut_to 0 o).length ≡ 0

@@ -3,6 +3,7 @@ use Rattle.std.proofs.Common.{arith, ◌≡◌, ◌∙◌, refl, sym, ap, subst,
 use Rattle.std.specs.List.{filter, flat_map}
 use Rattle.std.proofs.lemmas.Bool.Decides.{nat_tests}
 use Rattle.std.proofs.lemmas.Nat.{pow_pos}
+use Rattle.std.proofs.lemmas.Option.{same_Some}
 use Rattle.bus_memory.specs.declared.window.Window.TheVariants as windows
 use Rattle.bus_memory.specs.Windows.{start as start_of}
 use Rattle.command_agent.specs.declared.step.AgentStep.{AgentStep}
@@ -54,18 +55,15 @@ use Rattle.sbp_world.proofs.Lists.RunFits.{WasAsked}
 use Rattle.sbp_world.proofs.Lists.Runless.{IsRunBy}
 use Rattle.sbp_world.proofs.Lists.RunOutcomes.{IsSet, asked_so, goes, is_open, list_is, opened, orb_is, request_is, runs, small}
 use Rattle.sbp_world.proofs.Lists.RunReads.{present_is}
-use Rattle.sbp_world.proofs.Lists.ManageTerms.{untrue}
+use Rattle.sbp_world.proofs.Common.{and_first}
 
 -- ---- an ORB, its buffer and its data, as reads brought them
 module _ (command : Option Cmd) (request : Option Request) (slot : ℕ) (a : WasAsked command request slot) (orb : CommandOrb) (o : IsOrbOf command slot orb) (segments : List Segment) (laid : IsBufferOf command slot segments) (tables pieces : List Moved) where
   abbrev cmd : Cmd
   cmd = o.cmd
 
-  same_command : (one other : Cmd) → Some one ≡ Some other → one ≡ other
-  same_command one other e = cc
-
   cmd_is : cmd ≡ a.cmd
-  cmd_is = same_command cmd a.cmd (sym o.command ∙ a.command_is)
+  cmd_is = same_Some cmd a.cmd (sym o.command ∙ a.command_is)
 
   laid_is : segments ≡ laid_out slot cmd cmd.segments
   laid_is = subst (λ x. IsBufferOf x slot segments) o.command laid
@@ -81,13 +79,9 @@ module _ (command : Option Cmd) (request : Option Request) (slot : ℕ) (a : Was
   plain_buffer true e f g = absurd (no_empty_table cmd.segments orb.has_table orb.data_size (ap (λ (x : CommandOrb). x.has_table) o.orb) (ap (λ (x : CommandOrb). x.data_size) o.orb) e f)
   plain_buffer false e f g = ap (λ b. single orb.descriptor (cond b 0 orb.data_size)) (sym e) ∙ sym g
 
-  has_both : (x y : Bool) → x && y ≡ true → x ≡ true
-  has_both true y e = refl
-  has_both false y e = untrue e
-
   buffer_by : (b : Bool) → reads_table orb ≡ b → TableBy b orb segments tables → buffer_in orb (tables ++ pieces) ≡ segments
   buffer_by true e t =
-      let has : orb.has_table ≡ true = has_both orb.has_table (not (orb.data_size == 0)) e in
+      let has : orb.has_table ≡ true = and_first orb.has_table (not (orb.data_size == 0)) e in
       let own : Moved = record { offset = orb.descriptor; bytes = t.bytes } in
       let at : (orb.descriptor == orb.descriptor) ≡ true = grind (arith, nat_tests) in
       ap (λ b. cond b (elements_of (read_at orb.descriptor (tables ++ pieces))) (single orb.descriptor orb.data_size)) has

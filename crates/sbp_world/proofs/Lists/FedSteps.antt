@@ -37,10 +37,8 @@ use Rattle.rbc_disk.specs.Runs.{Told, need_of}
 use Rattle.rbc_disk.specs.Units.{PlainDisk}
 use Rattle.sbp_laws.specs.CarriedBytes.{Moved}
 use Rattle.sbp_world.proofs.Lists.FedPieces.{InTurn, all_bytes}
-use Rattle.sbp_world.proofs.Lists.OrbSteps.{Names, ReadAheadOf, has_read}
-
-no : {A : Type 0} → false ≡ true → A
-no e = absurd (let x : false ≡ true = e in cc)
+use Rattle.sbp_world.proofs.Lists.OrbSteps.{Names, ReadAheadOf, has_read, yes}
+use Rattle.sbp_world.proofs.Common.{untrue}
 
 -- ---- what is known of an agent
 
@@ -83,9 +81,9 @@ module _ (Turned : ℕ → CommandOrb → List Moved → Type 0) where
 
   pub none_awaits : (m : Machine) → awaits_run m.phase ≡ false → Feeds m
   none_awaits m f = record {
-    fetching = λ e. no (sym f ∙ ap awaits_run e);
-    tabling = λ e. no (sym f ∙ ap awaits_run e);
-    filling = λ wanted e. no (sym f ∙ ap awaits_run e);
+    fetching = λ e. untrue (sym f ∙ ap awaits_run e);
+    tabling = λ e. untrue (sym f ∙ ap awaits_run e);
+    filling = λ wanted e. untrue (sym f ∙ ap awaits_run e);
   }
 
   fetching_feeds : (m : Machine) → m.phase ≡ phases.Fetching → m.payload ≡ [] → Feeds m
@@ -128,9 +126,6 @@ module _ (Read : ℕ → CommandOrb → Type 0) (Turned : ℕ → CommandOrb →
     pub stepped : FedStep s
     pub alive : s.0.dead ≡ None → has_read s.1.phase ≡ true
 
-  yes : {A : Type 0} → true ≡ false → A
-  yes e = no (sym e)
-
   null_idle : (next : OrbPointer) (ahead : ReadAhead) → next ≡ Null → ReadAheadOf Read next ahead → ahead ≡ aheads.Idle
   null_idle next aheads.Idle e h = refl
   null_idle next (aheads.UnderWay rung) e h = absurd (let x : Null ≡ At h.offset = sym e ∙ h.is in cc)
@@ -140,30 +135,30 @@ module _ (Read : ℕ → CommandOrb → Type 0) (Turned : ℕ → CommandOrb →
   idle_ahead next ahead e = subst (ReadAheadOf Read next) (sym e) tt
 
   stands : (step : AgentStep) (m : Machine) → step.ran ≡ None → IsFed m → FedStep (step, m)
-  stands step m e r = record { fed = r; ran = λ x. no (ap is_some (sym e) ∙ x) }
+  stands step m e r = record { fed = r; ran = λ x. untrue (ap is_some (sym e) ∙ x) }
 
   -- ---- an ORB ends
   ends : (m : Machine) (kind : StatusKind) (dead : Option FailCause) → ReadAheadOf Read m.orb.next m.ahead → Alive (end_step m kind dead)
   ends m kind None a = record {
-    stepped = record { fed = record { main = none_awaits Turned _ refl; ahead = a; idle = λ e. yes e }; ran = λ e. no e };
+    stepped = record { fed = record { main = none_awaits Turned _ refl; ahead = a; idle = λ e. yes e }; ran = λ e. untrue e };
     alive = λ e. refl;
   }
   ends m kind (Some cause) a = record {
-    stepped = record { fed = record { main = none_awaits Turned _ refl; ahead = tt; idle = λ e. refl }; ran = λ e. no e };
+    stepped = record { fed = record { main = none_awaits Turned _ refl; ahead = tt; idle = λ e. refl }; ran = λ e. untrue e };
     alive = λ e. absurd (let x : Some cause ≡ None = e in cc);
   }
 
   fails : (m : Machine) (cause : FailCause) → FedStep (fail_step m cause)
-  fails m cause = record { fed = record { main = none_awaits Turned _ refl; ahead = tt; idle = λ e. refl }; ran = λ e. no e }
+  fails m cause = record { fed = record { main = none_awaits Turned _ refl; ahead = tt; idle = λ e. refl }; ran = λ e. untrue e }
 
   dies : (m : Machine) (cause : FailCause) → FedStep (dead_step m cause)
-  dies m cause = record { fed = record { main = none_awaits Turned _ refl; ahead = tt; idle = λ e. refl }; ran = λ e. no e }
+  dies m cause = record { fed = record { main = none_awaits Turned _ refl; ahead = tt; idle = λ e. refl }; ran = λ e. untrue e }
 
   fetches : (m : Machine) (next : ℕ) → FedStep (fetch_step m next)
-  fetches m next = record { fed = record { main = fetching_feeds Turned _ refl refl; ahead = tt; idle = λ e. refl }; ran = λ e. no e }
+  fetches m next = record { fed = record { main = fetching_feeds Turned _ refl refl; ahead = tt; idle = λ e. refl }; ran = λ e. untrue e }
 
   rereads : (m : Machine) → m.ahead ≡ aheads.Idle → FedStep (reread_step m)
-  rereads m e = record { fed = record { main = none_awaits Turned _ refl; ahead = idle_ahead m.orb.next m.ahead e; idle = λ x. e }; ran = λ x. no x }
+  rereads m e = record { fed = record { main = none_awaits Turned _ refl; ahead = idle_ahead m.orb.next m.ahead e; idle = λ x. e }; ran = λ x. untrue x }
 
   pick : (b : Bool) (x y : AgentStep × Machine) → FedStep x → FedStep y → FedStep (cond b x y)
   pick true x y h k = h
@@ -176,13 +171,13 @@ module _ (Read : ℕ → CommandOrb → Type 0) (Turned : ℕ → CommandOrb →
   -- ---- what an ORB that was read asks for
   fills : (m : Machine) (wanted : ℕ) → Feeding Turned m.present m.orb m.segments m.payload wanted → ReadAheadOf Read m.orb.next m.ahead → Alive (data_step m wanted)
   fills m wanted d a = record {
-    stepped = record { fed = record { main = filling_feeds Turned _ wanted refl d; ahead = a; idle = λ e. yes e }; ran = λ e. no e };
+    stepped = record { fed = record { main = filling_feeds Turned _ wanted refl d; ahead = a; idle = λ e. yes e }; ran = λ e. untrue e };
     alive = λ e. refl;
   }
 
   answers : (m : Machine) → ReadAheadOf Read m.orb.next m.ahead → Alive (answer_step m)
   answers m a = record {
-    stepped = record { fed = record { main = none_awaits Turned _ refl; ahead = a; idle = λ e. yes e }; ran = λ e. no e };
+    stepped = record { fed = record { main = none_awaits Turned _ refl; ahead = a; idle = λ e. yes e }; ran = λ e. untrue e };
     alive = λ e. refl;
   }
 
@@ -295,7 +290,7 @@ module _ (Read : ℕ → CommandOrb → Type 0) (Turned : ℕ → CommandOrb →
   module _ (comes : (at : ℕ) (orb : CommandOrb) → Read at orb → Turned at orb []) where
     turns : (m : Machine) (next : ℕ) (ahead : ReadAhead) → m.orb.next ≡ At next → ReadAheadOf Read m.orb.next ahead → Goes (turn_step m next ahead)
     turns m next aheads.Idle e h = fetches m next
-    turns m next (aheads.UnderWay rung) e h = record { fed = record { main = fetching_feeds Turned _ refl refl; ahead = tt; idle = λ x. refl }; ran = λ x. no x }
+    turns m next (aheads.UnderWay rung) e h = record { fed = record { main = fetching_feeds Turned _ refl refl; ahead = tt; idle = λ x. refl }; ran = λ x. untrue x }
     turns m next (aheads.Kept orb) e h =
         let same : h.offset ≡ next = (let x : At h.offset ≡ At next = sym h.is ∙ e in cc) in
         record { turned = comes (aligned next) orb (subst (λ n. Read (aligned n) orb) same h.read); empty = refl; ahead = tt }
@@ -303,7 +298,7 @@ module _ (Read : ℕ → CommandOrb → Type 0) (Turned : ℕ → CommandOrb →
     waits : (m : Machine) → m.ahead ≡ aheads.Idle → FedStep (wait_step m)
     waits m e =
         pick m.doorbell (reread_step m) (quiet, record m { phase = phases.Suspended }) (rereads m e)
-        (record { fed = record { main = none_awaits Turned _ refl; ahead = idle_ahead m.orb.next m.ahead e; idle = λ x. e }; ran = λ x. no x })
+        (record { fed = record { main = none_awaits Turned _ refl; ahead = idle_ahead m.orb.next m.ahead e; idle = λ x. e }; ran = λ x. untrue x })
 
     goes_on : (m : Machine) (next : OrbPointer) → m.orb.next ≡ next → ReadAheadOf Read m.orb.next m.ahead → Goes (follow_step m next)
     goes_on m (At next) e h = turns m next m.ahead e h
@@ -395,12 +390,12 @@ module _ (Read : ℕ → CommandOrb → Type 0) (Turned : ℕ → CommandOrb →
 
     -- ---- the read ahead
     keeps_ahead : (next : OrbPointer) (ahead : ReadAhead) → is_ahead ahead ≡ true → ReadAheadOf Read next ahead → Names Read next
-    keeps_ahead next aheads.Idle e h = no e
+    keeps_ahead next aheads.Idle e h = untrue e
     keeps_ahead next (aheads.UnderWay rung) e h = h
-    keeps_ahead next (aheads.Kept orb) e h = no e
+    keeps_ahead next (aheads.Kept orb) e h = untrue e
 
     not_idle : (ahead : ReadAhead) → is_ahead ahead ≡ true → ahead ≡ aheads.Idle → ⊥
-    not_idle ahead e f = no (sym (ap is_ahead f) ∙ e)
+    not_idle ahead e f = untrue (sym (ap is_ahead f) ∙ e)
 
     same_main : (m n : Machine) → m.phase ≡ n.phase → m.present ≡ n.present → m.orb ≡ n.orb → m.segments ≡ n.segments → m.payload ≡ n.payload → Feeds Turned m → Feeds Turned n
     same_main m n e p o s y h = record {
@@ -413,7 +408,7 @@ module _ (Read : ℕ → CommandOrb → Type 0) (Turned : ℕ → CommandOrb →
     }
 
     forgets : (m : Machine) (cause : FailCause) → IsFed m → FedStep (ahead_lost m cause)
-    forgets m cause h = record { fed = record { main = same_main m _ refl refl refl refl refl h.main; ahead = tt; idle = λ x. refl }; ran = λ x. no x }
+    forgets m cause h = record { fed = record { main = same_main m _ refl refl refl refl refl h.main; ahead = tt; idle = λ x. refl }; ran = λ x. untrue x }
 
     ahead_goes : (m : Machine) (r : Result (List ℕ) FailCause) → is_ahead m.ahead ≡ true → IsFed m → ((offset : ℕ) → m.orb.next ≡ At offset → (bytes : List ℕ) → r ≡ Ok bytes → Read (aligned offset) (command_orb bytes)) → FedStep (ahead_read m r)
     ahead_goes m (Err cause) e h brings = forgets m cause h
@@ -425,7 +420,7 @@ module _ (Read : ℕ → CommandOrb → Type 0) (Turned : ℕ → CommandOrb →
             ahead = record { offset = n.offset; is = n.is; read = brings n.offset n.is bytes refl };
             idle = λ x. absurd (not_idle m.ahead e (h.idle x));
           };
-          ran = λ x. no x;
+          ran = λ x. untrue x;
         }
 
     pub main_steps : (m : Machine) (place : ℕ) (plain : PlainDisk) (told : Option Told) (answer : Answer) → Hears m answer → FedStep (reply_step m place plain told Main answer)
@@ -535,4 +530,4 @@ module _ (Read : ℕ → CommandOrb → Type 0) (Turned : ℕ → CommandOrb →
 
     pub unheard_feeds : (place : ℕ) (plain : PlainDisk) (told : Option Told) (which : Which) (answer : Answer) → FedStep (reply_step new_machine place plain told which answer)
     unheard_feeds place plain told Main answer = main_steps new_machine place plain told answer (new_hears answer)
-    unheard_feeds place plain told Ahead answer = ahead_steps new_machine place plain told answer new_feeds (λ e offset f bytes g. no e)
+    unheard_feeds place plain told Ahead answer = ahead_steps new_machine place plain told answer new_feeds (λ e offset f bytes g. untrue e)

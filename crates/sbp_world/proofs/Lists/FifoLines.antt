@@ -4,6 +4,7 @@ use Rattle.std.proofs.Common.{arith, ◌≡◌, refl, sym, subst, ℕ, suc, ◌+
 use Rattle.std.specs.Prelude.{if◌then◌else◌, slice_set}
 use Rattle.std.specs.List.{AllByRecursion}
 use Rattle.std.proofs.lemmas.Bool.Decides.{nat_tests}
+use Rattle.std.proofs.lemmas.Bool.{false≢true}
 use Rattle.async_packet.specs.Labels.{LabelParts}
 use Rattle.sbp_world.specs.Hosts.Handing.{AreOthers, history}
 use Rattle.sbp_world.proofs.Hosts.ActLeft.{act_left}
@@ -57,16 +58,13 @@ use Rattle.sbp_world.specs.declared.parts.delivering.Arrival.{Arrival}
 use Rattle.sbp_world.specs.Delivering.{arrived, at_target, delivered, delivered_by, initiator_received, initiators_received, marked, received_by, received_step, target_received, whole_of, with_initiators}
 use Rattle.sbp_world.proofs.Wire.Comes.{own_inside, own_outside, received_is, to_own, to_zero}
 
-no : false ≡ true → ⊥
-no e = cc
-
 -- a note is of no packet that is sent
 abbrev pub is_plain : Note → Bool
 is_plain (notes.Sent serial generation from to bytes) = false
 is_plain _ = true
 
 tame_plain : (note : Note) → is_tame note ≡ true → is_plain note ≡ true
-tame_plain (notes.Sent serial generation from to bytes) e = absurd (no e)
+tame_plain (notes.Sent serial generation from to bytes) e = absurd (false≢true e)
 tame_plain _ e = refl
 
 -- ---- what is watched of a packet: that it writes a block that names a management ORB, and, where that is given, that it writes into a response buffer
@@ -118,7 +116,7 @@ abbrev pub S : Type 0 → List Disk → ℕ → List Moment → WorldState → T
 S given start o past w = EachMoment (WriteSo given start o) (history w past)
 
 pub plain_on : (given : Type 0) (start : List Disk) (o : ℕ) (note : Note) (ms : List Moment) → is_plain note ≡ true → EachMoment (WriteSo given start o) ms → EachMoment (WriteSo given start o) (said note ∷ ms)
-plain_on given start o (notes.Sent serial generation from to bytes) ms e h = absurd (no e)
+plain_on given start o (notes.Sent serial generation from to bytes) ms e h = absurd (false≢true e)
 plain_on given start o _ ms e h = (tt, h)
 
 sent_on : (given : Type 0) (start : List Disk) (o serial generation from to : ℕ) (bytes : List ℕ) (ms : List Moment) → (from ≡ 0 → (kind : Option ℕ) → IsWatched given bytes kind → ⊥) → WriteSo given start o (said (notes.Sent serial generation from to bytes)) ms

@@ -3,6 +3,7 @@
 use Rattle.std.proofs.Common.{◌≡◌, ◌∙◌, ◌⊎◌, inl, inr, refl, sym, ap, subst, ◌<◌, ◌+◌, ◌^◌, ◌&&◌, not, nat_eq, nat_le, ℕ, suc, Bool, true, false, cond, List, [], ◌∷◌, length, Option, Some, None, Ok}
 use Rattle.std.proofs.Common.{arith}
 use Rattle.std.proofs.lemmas.Bool.Decides.{nat_tests}
+use Rattle.std.proofs.lemmas.Option.{same_Some}
 use Rattle.async_packet.specs.Fields.{largest}
 use Rattle.bus_memory.specs.declared.window.Window.TheVariants as windows
 use Rattle.bus_memory.specs.Windows.{start as start_of, window_at}
@@ -69,12 +70,6 @@ use Rattle.sbp_world.proofs.Sessions.Buffers.{untrue}
 none_body : {A : Type 0} (body : Body) → None ≡ Some body → A
 none_body body e = absurd (let no : None ≡ Some body = e in cc)
 
-same_access : (a b : Access) → Some a ≡ Some b → a ≡ b
-same_access a b e = cc
-
-same_place : (x y : ℕ) → Some x ≡ Some y → x ≡ y
-same_place x y e = cc
-
 -- ---- something is asked for
 asks_some : (ask : Ask) (out : List ℕ) (body : Body) → manager_body ask out ≡ Some body → is_nothing ask ≡ false
 asks_some asks.Nothing out body e = none_body body e
@@ -126,7 +121,7 @@ written_where false at out body e = none_body body e
 written_to : (ask : Ask) (at len : ℕ) (out : List ℕ) (body : Body) → ask ≡ asks.Write at len → manager_body ask out ≡ Some body → (access_for body).offset ≡ at
 written_to ask at len out body e f = written_where (nat_le (length out) largest) at out body (sym (ap (λ a. manager_body a out) e) ∙ f)
 
-orb_status : phases.Orb ≡ phases.Status → ⊥
+pub orb_status : phases.Orb ≡ phases.Status → ⊥
 orb_status e = cc
 
 high_status : (orb : ManagementOrb) → phases.HighEui orb ≡ phases.Status → ⊥
@@ -268,7 +263,7 @@ module _ (given : Type 0) (start : List Disk) (past : List Moment) (i : ℕ) (no
     -- a write is the status block
     module _ (place : ℕ) (x : IsPlaceWrite l.asked.bytes place) where
       access_is : x.access ≡ access_for l.body
-      access_is = same_access x.access (access_for l.body) (sym x.is ∙ reads)
+      access_is = same_Some x.access (access_for l.body) (sym x.is ∙ reads)
 
       writes : writes_body l.body ≡ true
       writes = access_writes l.body (ap (λ (a : Access). a.is_write) (sym access_is) ∙ x.writes)
@@ -295,7 +290,7 @@ module _ (given : Type 0) (start : List Disk) (past : List Moment) (i : ℕ) (no
     -- and one into a response buffer is the response
     module _ (x : IsBufferWrite l.asked.bytes) where
       buffer_access : x.access ≡ access_for l.body
-      buffer_access = same_access x.access (access_for l.body) (sym x.is ∙ reads)
+      buffer_access = same_Some x.access (access_for l.body) (sym x.is ∙ reads)
 
       abbrev asked_buffer : (at : ℕ) × ((len : ℕ) × (t.manager_asks ≡ asks.Write at len))
       asked_buffer = ask_write t.manager_asks (sym (ap (λ b. wants t.manager_asks b) (access_writes l.body (ap (λ (a : Access). a.is_write) (sym buffer_access) ∙ x.writes))) ∙ wanted)

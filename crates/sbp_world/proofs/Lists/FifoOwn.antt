@@ -1,5 +1,6 @@
 -- A reply to the target's management is delivered: the blocks that it writes to the FIFOs of an initiator, in the name of a place of management, are of its operation.
 use Rattle.std.proofs.Common.{arith, ◌≡◌, ◌∙◌, refl, sym, ap, subst, ℕ, suc, ◌^◌, ◌<◌, is_some, Bool, true, List, [], ◌∷◌, Option, Some, Ok}
+use Rattle.std.proofs.lemmas.Option.{same_Some}
 use Rattle.async_packet.specs.Labels.{LabelParts}
 use Rattle.async_packet.specs.Packet.{Packet, header_in}
 use Rattle.async_packet.specs.Reading.{reading}
@@ -61,9 +62,6 @@ use Rattle.sbp_world.proofs.Lists.ContentDelivery.{marked_generations, ready_on}
 use Rattle.sbp_world.proofs.Lists.FifoManages.{F, IsOwn, managing_so}
 use Rattle.sbp_world.proofs.Lists.FifoReplies.{IsFifoFrom, fifo_from, reply_unread}
 use Rattle.sbp_world.proofs.Lists.ManageReplies.{reply_goes}
-
-same_source : (x y : ℕ) → Some x ≡ Some y → x ≡ y
-same_source x y e = cc
 
 module _ (given : Type 0) {past : List Moment} (start : List Disk) (w : WorldState) (h : Stands past w) (g : Good w.target) (law : TransactionLaw w.target) (at : IsManagementAt start (hist past w) w.target) (serial : ℕ) (again : Bool) (sent : Sent) (found : found_sent serial w.store.kept ≡ Some sent) (zero_to : sent.to ≡ 0) where
   abbrev t : Terms
@@ -133,7 +131,7 @@ module _ (given : Type 0) {past : List Moment} (start : List Disk) (w : WorldSta
     owned : (those : Type 0) (source : ℕ) → source ≡ (header_in p).source → ((op : Operation) → w.target.manager.operation ≡ Some op → op.orb < 2 ^ 48) → Aside those → (op : Operation) → own_step.1.0.operation ≡ Some op → IsOwn those source (stepped rested (answer_in p) own_step) op
     owned those source source_is small aside op is =
         let k = reply_goes w.target.manager w.target.logins w.target.keys (answer_in p) op is in
-        let from : k.was.source ≡ (header_in p).source = same_source k.was.source (header_in p).source (sym (ap (λ (o : Option Operation). management.source_in o) k.is) ∙ of_source) in
+        let from : k.was.source ≡ (header_in p).source = same_Some k.was.source (header_in p).source (sym (ap (λ (o : Option Operation). management.source_in o) k.is) ∙ of_source) in
         let low = small k.was k.is in
         let orb = k.orb in
         record {

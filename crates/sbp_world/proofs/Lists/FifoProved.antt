@@ -1,10 +1,9 @@
 -- At each place of a run before which lists were open as they should be: what the target wrote to the FIFOs of an initiator that injected no packets, in the name of a place of
 -- management, is of its operation; and so is what it wrote into the response buffers of it, where no login for its node has its FIFO there. Each turn keeps it, together with
 -- that the address of the operation's ORB has 48 bits.
-use Rattle.std.proofs.Common.{◌≡◌, ◌∙◌, refl, sym, ap, subst, ◌<◌, ◌≤◌, ℕ, zero, suc, Bool, false, List, [], ◌∷◌, ◌++◌, map, length, Option, Some, None}
+use Rattle.std.proofs.Common.{◌≡◌, ◌∙◌, sym, ap, subst, ◌<◌, ◌≤◌, ℕ, zero, suc, Bool, false, List, [], ◌∷◌, ◌++◌, map, length, Option, Some, None}
 use Rattle.rbc_disk.specs.Disk.{Disk}
 use Rattle.rbc_disk.specs.Runs.{Told}
-use Rattle.mgmt_agent.specs.declared.operation.Operation.{Operation}
 use Rattle.sbp_journal.specs.Run.{Moment, asked, said}
 use Rattle.sbp_journal.specs.declared.event.Event.{Event}
 use Rattle.sbp_bus.specs.Packets.{end_note}
@@ -46,15 +45,12 @@ use Rattle.sbp_world.proofs.Lists.StatusAnswers.{AllHold, all_hold}
 use Rattle.sbp_world.proofs.Lists.StatusBytes.{same_address}
 use Rattle.sbp_world.proofs.Lists.Walks.{Step, Turn, Walks, by_delivery, by_end, by_line, by_start, walk_after, walk_at}
 use Rattle.sbp_world.proofs.Agents.AskedAgents.{fifo_fits}
+use Rattle.sbp_world.proofs.Common.{said_split, delivers, none_is}
 
 -- ---- what is known of every run at a place
 pub record Ground (ms : List Moment) (w : WorldState) : Type 0 where
   pub opened : AreOpened ms w
   pub orbs : AllHold ms w
-
-delivers : (most : Option ℕ) → DeliversMore (more_deliveries most)
-delivers (Some count) = tt
-delivers None = tt
 
 ground_law : Always Ground
 ground_law = record {
@@ -69,13 +65,6 @@ AllPlaced given Cond wild start ms w = (i : ℕ) → i < length w.initiators →
 
 abbrev pub IsClosed : (ℕ → ℕ → List Moment → Type 0) → Type 0
 IsClosed Cond = (n i : ℕ) (later past : List Moment) → Cond n i (later ++ past) → Cond n i past
-
-none_short : {A : Type 0} (op : Operation) → None ≡ Some op → A
-none_short op e = cc
-
-said_split : (later fresh : List Note) (past : List Moment) → map said (later ++ fresh) ++ past ≡ map said later ++ (map said fresh ++ past)
-said_split [] fresh past = refl
-said_split (note ∷ later) fresh past = ap (λ ms. said note ∷ ms) (said_split later fresh past)
 
 -- a delivery
 next_by : (one : Option Told) (s : Scene) (so : Option ℕ) → settling.MayAt so one s → Extends s.world.fresh (delivered_at so one s).world.fresh
@@ -178,7 +167,7 @@ module _ (given : Type 0) (CondOf : List Disk → ℕ → ℕ → List Moment �
 
     first : (wild : ℕ → Bool) → All wild (moments_behind line run []) (beginning run).world
     unfolding new_world
-    first wild i b own c = ((tt, (tt, tt)), (λ op e. none_short op e))
+    first wild i b own c = ((tt, (tt, tt)), (λ op e. none_is op e))
 
     abbrev own_walks : (wild : ℕ → Bool) → Walks wild run.units (ready_logins run.initiators run.ready) start Ground (Over start) (All wild)
     own_walks wild = walks wild run.units (ready_logins run.initiators run.ready) has start

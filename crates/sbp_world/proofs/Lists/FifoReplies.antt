@@ -29,15 +29,10 @@ use Rattle.sbp_laws.specs.Targets.{Decided}
 use Rattle.sbp_world.specs.Agents.Management.Offices.{Office, by_managed, by_note, by_side, by_sides, placed, placed_by}
 use Rattle.sbp_world.specs.Lists.Responding.{is_responding}
 use Rattle.sbp_world.proofs.Lists.StatusManaged.{Small, Unread, decide_small, response_unread}
+use Rattle.sbp_world.proofs.Lists.StatusSteps.{none_wrote, read_wrote}
 
 none_op : (op : Operation) → None ≡ Some op → ⊥
 none_op op e = cc
-
-none_write : (at len : ℕ) → asks.Nothing ≡ asks.Write at len → ⊥
-none_write at len e = cc
-
-read_write : (from size at len : ℕ) → asks.Read from size ≡ asks.Write at len → ⊥
-read_write from size at len e = cc
 
 -- ---- a reply to an operation: what it writes, but for its status block, reads as no status block
 module _ (m : Machine) (t : Table) (keys : List (List ℕ)) (answer : Answer) (most : t.last ≤ 65535) (size : length t.places ≡ 8) (own : Operation) where
@@ -51,7 +46,7 @@ module _ (m : Machine) (t : Table) (keys : List (List ℕ)) (answer : Answer) (m
   over ask out op e f at len g = absurd (none_op op e)
 
   reads : (operation : Option Operation) (from count : ℕ) (out : List ℕ) → Quiet operation (asks.Read from count) out
-  reads operation from count out op e f at len g = absurd (read_write from count at len g)
+  reads operation from count out op e f at len g = absurd (read_wrote from count at len g)
 
   tells : (ask : Ask) (out : List ℕ) → Quiet (Some (record own { phase = phases.Status })) ask out
   tells ask out op e f at len g =
@@ -117,7 +112,7 @@ pub data IsFifoFrom (own : Operation) (answer : Answer) (at : ℕ) : Type 0 wher
 response_ends : (fifo : ℕ) → phases.Response fifo ≡ phases.Status → ⊥
 response_ends fifo e = cc
 
-same_at : (fifo size at len : ℕ) → asks.Write fifo size ≡ asks.Write at len → fifo ≡ at
+pub same_at : (fifo size at len : ℕ) → asks.Write fifo size ≡ asks.Write at len → fifo ≡ at
 same_at fifo size at len e = cc
 
 module _ (m : Machine) (t : Table) (keys : List (List ℕ)) (answer : Answer) (own : Operation) where
@@ -131,7 +126,7 @@ module _ (m : Machine) (t : Table) (keys : List (List ℕ)) (answer : Answer) (o
   none_from ask op e f at len g = absurd (none_op op e)
 
   read_from : (operation : Option Operation) (from count : ℕ) → From operation (asks.Read from count)
-  read_from operation from count op e f at len g = absurd (read_write from count at len g)
+  read_from operation from count op e f at len g = absurd (read_wrote from count at len g)
 
   told_from : (operation : Option Operation) (fifo : ℕ) → ((at : ℕ) → fifo ≡ at → IsFifoFrom own answer at) → From operation (asks.Write fifo 8)
   told_from operation fifo k op e f at len g = k at (same_at fifo 8 at len g)

@@ -1,6 +1,7 @@
 -- A delivery to the target, and a time-out of its own: each block that it writes then to a FIFO of an initiator that injected no packets, in the name of a place of management, is
 -- of its operation. An agent that makes a step writes none, for the ORB that ended is in a slot.
 use Rattle.std.proofs.Common.{◌≡◌, ◌∙◌, refl, sym, ap, subst, ◌<◌, ◌+◌, ℕ, suc, nat_lt, Bool, true, false, cond, List, [], ◌∷◌, ◌++◌, map, length, Option, Some, None, Ok}
+use Rattle.std.proofs.lemmas.Bool.{false≢true}
 use Rattle.async_packet.specs.Labels.{LabelParts}
 use Rattle.async_packet.specs.Packet.{Packet, header_in}
 use Rattle.bus_memory.specs.declared.window.Window.TheVariants as windows
@@ -77,12 +78,7 @@ use Rattle.sbp_world.proofs.Lists.StatusPackets.{AllFed, AllNamed, AllRead, EndS
 use Rattle.sbp_world.proofs.Lists.StatusTold.{law_before, told_due}
 use Rattle.sbp_world.proofs.Lists.StatusTurn.{Behind, IsFirst, got_first, ignored_first, judged_first, late_first}
 use Rattle.sbp_world.proofs.Lists.Turns.{Ready}
-
-no : false ≡ true → ⊥
-no e = cc
-
-nothing_wrote : (offset size : ℕ) → asks.Nothing ≡ asks.Write offset size → ⊥
-nothing_wrote offset size e = cc
+use Rattle.sbp_world.proofs.Lists.StatusSteps.{none_wrote}
 
 none_list : (n : ℕ) → list_in None ≡ Some n → ⊥
 none_list n e = cc
@@ -280,8 +276,8 @@ module _ (given : Type 0) (wild : ℕ → Bool) (i : ℕ) (own : wild i ≡ fals
 
   -- ---- a transaction of it times out
   late_apart : (q : ℕ) (which : Which) → (lost_step (machine_at w q) which causes.Timeout).0.ended ≡ None → (offset size : ℕ) → (lost_step (machine_at w q) which causes.Timeout).0.ask ≡ asks.Write offset size → ⊥
-  late_apart q Main none offset size e = nothing_wrote offset size (sym (lost_asks (machine_at w q) causes.Timeout none) ∙ e)
-  late_apart q Ahead none offset size e = nothing_wrote offset size (sym (ap (λ (step : AgentStep). step.ask) (quiet_ahead (machine_at w q) causes.Timeout)) ∙ e)
+  late_apart q Main none offset size e = none_wrote offset size (sym (lost_asks (machine_at w q) causes.Timeout none) ∙ e)
+  late_apart q Ahead none offset size e = none_wrote offset size (sym (ap (λ (step : AgentStep). step.ask) (quiet_ahead (machine_at w q) causes.Timeout)) ∙ e)
 
   module _ (layer : Layer Purpose) (peer : ℕ) (label : LabelParts) (serial : ℕ) where
     abbrev y : Option Purpose → Scene

@@ -1,6 +1,7 @@
 -- Whose place an agent has that acts: where the login is live, and packets to its node are an initiator's, it is a place of that initiator. And the address of an operation's ORB
 -- has 48 bits, for it was read off the bytes of a packet.
 use Rattle.std.proofs.Common.{arith, ◌≡◌, ◌∙◌, ◌⊎◌, inl, inr, sym, ap, subst, ◌<◌, ◌+◌, ◌^◌, ℕ, suc, true, false, List, length, Some}
+use Rattle.std.proofs.lemmas.Option.{same_Some}
 use Rattle.async_packet.specs.Packet.{Packet}
 use Rattle.bus_transactions.proofs.FitJudged.{bytes_of, spelled}
 use Rattle.bus_transactions.proofs.Reaches.{goes_on}
@@ -43,9 +44,6 @@ use Rattle.sbp_world.specs.Lists.Opens.{AreOpened}
 use Rattle.sbp_world.proofs.Lists.LiveTurns.{TargetCall, TurnOf, by_clearing, by_own, by_sight, by_target, delivers, still}
 use Rattle.sbp_world.proofs.Lists.OpenTurns.{listing_up, up_state}
 
-same_login : (x y : Login) → Some x ≡ Some y → x ≡ y
-same_login x y e = cc
-
 -- ---- a place whose login is live
 -- what goes to the node of its login, and to the initiator, is of its place, and the login is live
 abbrev pub IsMine : ℕ → WorldState → ℕ → Type 0
@@ -87,7 +85,7 @@ module _ (i : ℕ) (start : List Disk) (past : List Moment) (w : WorldState) (in
         holder_is ∙ (let z : j ≡ i = omega (arith, same) in z)
 
     of_live : IsMine i w q
-    of_live other f n = let same = same_login other login (sym f ∙ e) in (mine (subst (λ (x : Login). node_of w.generations 0 x.node ≡ Some (suc i)) same n), ap is_live same ∙ live)
+    of_live other f n = let same = same_Some other login (sym f ∙ e) in (mine (subst (λ (x : Login). node_of w.generations 0 x.node ≡ Some (suc i)) same n), ap is_live same ∙ live)
 
   -- of an agent that has a list
   pub open_mine : AreOpened (hist past w) w → (q : ℕ) → q < 8 → has_list (machine_at w q).phase ≡ true → IsMine i w q

@@ -1,5 +1,6 @@
 -- A packet that points an agent to an ORB is the write for a list of its initiator, with the address of the first ORB.
 use Rattle.std.proofs.Common.{arith, ◌≡◌, ◌∙◌, refl, sym, ap, subst, ℕ, ◌<◌, ◌==◌, Bool, true, false, cond, List, ◌∷◌, ◌++◌, length, map, Option, Some, None}
+use Rattle.std.proofs.lemmas.Option.{same_Some}
 use Rattle.async_packet.specs.declared.packet.Header.{Header}
 use Rattle.async_packet.specs.Packet.{Packet, lock, lock_response, read_block, read_block_response, read_quadlet, read_quadlet_response, write_block, write_quadlet, write_response}
 use Rattle.bus_memory.specs.declared.window.Window.TheVariants as windows
@@ -8,7 +9,6 @@ use Rattle.command_agent.specs.Machine.{aligned, named}
 use Rattle.orb_layout.specs.declared.pointer.OrbPointer.{OrbPointer}
 use Rattle.orb_layout.specs.declared.pointer.OrbPointer.TheVariants.{At}
 use Rattle.orb_layout.specs.Pointers.{offset_at, pointer_at}
-use Rattle.rbc_disk.specs.Runs.{Told}
 use Rattle.sbp_journal.specs.Addresses.{Access, access_of, management_address}
 use Rattle.sbp_journal.specs.Run.{Moment, asked, said}
 use Rattle.sbp_journal.specs.Transactions.{Sending}
@@ -27,7 +27,6 @@ use Rattle.target_base.specs.declared.address.Demand.TheVariants as demands
 use Rattle.target_base.specs.declared.address.Register.{Register}
 use Rattle.target_base.specs.declared.address.Register.TheVariants as registers
 use Rattle.target_base.specs.Addresses.{Row, accessed, accessed_at, by_address, by_register, by_rom, by_type, demand_by, demand_of, managed, management_start, offset_in, or_nowhere, reached, register_at, row_of, served, served_by}
-use Rattle.sbp_world.specs.Hosts.Answering.{IsDelivering}
 use Rattle.sbp_world.specs.Hosts.Carrying.{NoneInjected}
 use Rattle.sbp_world.specs.Hosts.Runs.{more_deliveries}
 use Rattle.sbp_world.proofs.Hosts.Carrying.{carries_law}
@@ -42,6 +41,7 @@ use Rattle.sbp_world.specs.Lists.Places.{IsFirst}
 use Rattle.sbp_world.specs.Lists.Roms.{WritesManaged}
 use Rattle.sbp_world.proofs.Lists.RomHeld.{rom_law}
 use Rattle.sbp_world.proofs.Hosts.ActLeft.{untrue}
+use Rattle.sbp_world.proofs.Lists.UnderwayRuns.{delivering}
 
 -- ---- what points an agent to an ORB: a write of a block, that is not to MANAGEMENT_AGENT
 
@@ -204,15 +204,6 @@ block_of (lock_response header code extended payload) pointer h e = absurd h
 
 -- ---- a write of an initiator that injected none
 
-some_access : (a b : Access) → Some a ≡ Some b → a ≡ b
-some_access a b e = cc
-
-some_number : (a b : ℕ) → Some a ≡ Some b → a ≡ b
-some_number a b e = cc
-
-some_sending : (a b : Sending) → Some a ≡ Some b → a ≡ b
-some_sending a b e = cc
-
 aligned_start : (slot : ℕ) → aligned (start (windows.Orb slot)) ≡ start (windows.Orb slot)
 aligned_start slot = omega arith
 
@@ -242,11 +233,11 @@ module _ (past : List Moment) (i : ℕ) (calm : IsCalm past i) (pointers : Point
     first_of n is =
         let k = pointers.each n serial is in
         let at : ℕ = start (windows.Orb (slot_at past i n 0)) in
-        let same : k.packet ≡ sent = some_sending k.packet sent (sym k.sent ∙ there) in
-        let write : pointer_write k.base at ≡ b.access = some_access (pointer_write k.base at) b.access (sym k.spelled ∙ ap (λ (q : Sending). access_in_bytes q.bytes) same ∙ spelled) in
+        let same : k.packet ≡ sent = same_Some k.packet sent (sym k.sent ∙ there) in
+        let write : pointer_write k.base at ≡ b.access = same_Some (pointer_write k.base at) b.access (sym k.spelled ∙ ap (λ (q : Sending). access_in_bytes q.bytes) same ∙ spelled) in
         let pointer : At at ≡ p.pointer = sym k.points ∙ ap (λ (a : Access). pointer_at a.payload 0) write ∙ b.points in
         let names : Some (aligned at) ≡ Some address = ap named pointer ∙ p.address_is in
-        record { list = n; pointed = is; address_is = sym (some_number (aligned at) address names) ∙ aligned_start (slot_at past i n 0) }
+        record { list = n; pointed = is; address_is = sym (same_Some (aligned at) address names) ∙ aligned_start (slot_at past i n 0) }
 
     by_write : IsWrite past i serial b.access → IsFirst past i serial address
     by_write (of_pointer n is) = first_of n is
@@ -260,10 +251,6 @@ module _ (past : List Moment) (i : ℕ) (calm : IsCalm past i) (pointers : Point
 
 -- ---- a run
 
-delivering_by : (told : List (Option Told)) (o : Option ℕ) → IsDelivering (more_deliveries o) told
-delivering_by told (Some count) = tt
-delivering_by told None = tt
-
 pub first_law : FirstLaw
 first_law = record {
   after_lines = λ line run r has few size i b calm.
@@ -274,5 +261,5 @@ first_law = record {
       let inside : i < run.initiators = subst (λ n. i < n) (count_after run run.entries) (subst (λ n. i < n) (count_between told s) b) in
       is_first (map said (after_all told (begun s)).world.fresh ++ asked next (more_deliveries most) ∷ history_of line run) i calm
       (pointers_law.between line run r next most told m i inside) (rom_law.between line run r has few size next most told m i inside).writes
-      (carries_law.none_injected_between line run r next (more_deliveries most) told (delivering_by told most) m i inside);
+      (carries_law.none_injected_between line run r next (more_deliveries most) told (delivering told most) m i inside);
 }

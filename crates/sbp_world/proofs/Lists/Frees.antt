@@ -2,6 +2,7 @@
 -- taken back was not live.
 use Rattle.std.proofs.Common.{arith, ◌≡◌, ◌∙◌, refl, sym, subst, ℕ, ◌+◌, ◌*◌, ◌^◌, ◌==◌, ◌&&◌, not, nat_eq, Bool, true, false, cond, List, set, Option, Some, None, Result, Ok, Err}
 use Rattle.std.proofs.lemmas.Bool.Decides.{nat_tests}
+use Rattle.std.proofs.lemmas.Bool.{false≢true}
 use Rattle.sbp_base.specs.Quadlets.{quad}
 use Rattle.login_table.specs.declared.login.Entered.{Entered}
 use Rattle.login_table.specs.declared.login.Login.{Login}
@@ -29,6 +30,7 @@ use Rattle.mgmt_agent.specs.declared.status.Status.TheVariants as statuses
 use Rattle.mgmt_agent.specs.Decisions.{asked_by, back_decided, decide, decide_function, effect_of, key_at, lacks_key, left_decided, live_login, login_decided, on_login, reads_eui, unit_exists, with_status}
 use Rattle.mgmt_agent.specs.Machine.{Machine, beside, decide_step, decided_as, eui_step, high_eui_at, high_got, low_got, orb_got, reply_in, reply_step, reply_to, response_written, status_written}
 use Rattle.mgmt_agent.specs.Statuses.{function_of, number_of}
+use Rattle.sbp_world.proofs.Sessions.Decisions.{of_id}
 
 -- a login with this ID stands in a place
 pub record HasId (places : List (Option Login)) (place id : ℕ) : Type 0 where
@@ -48,24 +50,13 @@ Frees (effects.Left place) subject places = HasId places place subject
 Frees (effects.Back place) subject places = HasHeld places place subject
 Frees effect subject places = Unit {0}
 
-no : false ≡ true → ⊥
-no e = cc
-
 held_parts : (id : ℕ) (login : Login) → is_held id login ≡ true → (is_live login ≡ false) × (login.login ≡ id)
 held_parts id login e = by (is_live login) (nat_eq login.login id) refl refl e
   where
     by : (a b : Bool) → is_live login ≡ a → nat_eq login.login id ≡ b → (not a && b) ≡ true → (is_live login ≡ false) × (login.login ≡ id)
     by false true p q f = (p, grind (arith, nat_tests))
-    by false false p q f = absurd (no f)
-    by true b p q f = absurd (no f)
-
-live_id : (id node : ℕ) (login : Login) → is_live_of id node login ≡ true → login.login ≡ id
-live_id id node login e = by (is_live login) (nat_eq login.login id) (nat_eq login.node node) refl e
-  where
-    by : (a b c : Bool) → nat_eq login.login id ≡ b → (a && b && c) ≡ true → login.login ≡ id
-    by true true c q f = grind (arith, nat_tests)
-    by true false c q f = absurd (no f)
-    by false b c q f = absurd (no f)
+    by false false p q f = absurd (false≢true f)
+    by true b p q f = absurd (false≢true f)
 
 module _ (orb : ManagementOrb) (source eui : ℕ) (t : Table) (keys : List (List ℕ)) where
   abbrev Now : Outcome × Table → Type 0
@@ -113,7 +104,7 @@ module _ (orb : ManagementOrb) (source eui : ℕ) (t : Table) (keys : List (List
   leaves_at None e = tt
   leaves_at (Some k) e =
       let f = found (is_live_of orb.subject source) t.places k e in
-      record { login = f.login; is = f.stands; id_is = live_id orb.subject source f.login f.passes }
+      record { login = f.login; is = f.stands; id_is = of_id orb.subject source f.login f.passes }
 
   leaves : (let r = leave_step t orb.subject source in Now (left_decided r.0, r.1))
   unfolding leave_step

@@ -1,5 +1,6 @@
 -- An agent that writes an answer has written fewer bytes than this has, and it has as many as the buffer of its present ORB: so it stays by each call but a reply by which a command runs.
 use Rattle.std.proofs.Common.{◌≡◌, ◌<◌, ℕ, Bool, true, false, cond, length}
+use Rattle.std.proofs.lemmas.Bool.{false≢true}
 use Rattle.command_agent.specs.declared.phase.Phase.{Phase}
 use Rattle.command_agent.specs.declared.phase.Phase.TheVariants as phases
 use Rattle.command_agent.specs.declared.step.AgentState.{AgentState}
@@ -15,9 +16,6 @@ use Rattle.orb_layout.specs.declared.pointer.OrbPointer.TheVariants.{At, Null}
 use Rattle.page_table.specs.Buffer.{bytes_of}
 use Rattle.sbp_world.specs.Agents.Alike.{answers}
 
-no : false ≡ true → ⊥
-no e = cc
-
 pub record IsPart (written whole buffer : ℕ) : Type 0 where
   pub more : written < whole
   pub fills : whole ≡ buffer
@@ -26,24 +24,24 @@ abbrev pub IsFull : Machine → Type 0
 IsFull m = answers m.phase ≡ true → IsPart m.written (length m.answer) (bytes_of m.segments)
 
 pub new_full : IsFull new_machine
-new_full e = absurd (no e)
+new_full e = absurd (false≢true e)
 
 pub reset_full : (m : Machine) → IsFull (reset_step m)
 unfolding reset_step
-reset_full m e = absurd (no e)
+reset_full m e = absurd (false≢true e)
 
 pub abort_full : (m : Machine) (orb : ℕ) → IsFull m → IsFull (abort_step m orb)
 unfolding abort_step
 abort_full m orb h = h
 
 main_full : (phase : Phase) (m : Machine) (cause : FailCause) → IsFull m → IsFull (main_lost phase m cause).1
-main_full phases.Fetching m cause h = λ e. absurd (no e)
-main_full phases.ReadingTable m cause h = λ e. absurd (no e)
-main_full (phases.ReadingData wanted) m cause h = λ e. absurd (no e)
-main_full phases.Answering m cause h = λ e. absurd (no e)
-main_full phases.WritingStatus m cause h = λ e. absurd (no e)
-main_full phases.ReadingNext m cause h = λ e. absurd (no e)
-main_full phases.WritingLastStatus m cause h = λ e. absurd (no e)
+main_full phases.Fetching m cause h = λ e. absurd (false≢true e)
+main_full phases.ReadingTable m cause h = λ e. absurd (false≢true e)
+main_full (phases.ReadingData wanted) m cause h = λ e. absurd (false≢true e)
+main_full phases.Answering m cause h = λ e. absurd (false≢true e)
+main_full phases.WritingStatus m cause h = λ e. absurd (false≢true e)
+main_full phases.ReadingNext m cause h = λ e. absurd (false≢true e)
+main_full phases.WritingLastStatus m cause h = λ e. absurd (false≢true e)
 main_full phases.Reset m cause h = h
 main_full phases.Suspended m cause h = h
 main_full phases.Dead m cause h = h
@@ -59,7 +57,7 @@ lost_full m Ahead cause h = pick (is_ahead m.ahead) (ahead_lost m cause) (quiet,
 
 bell_in : (state : AgentState) (m : Machine) → IsFull m → IsFull (doorbell_in state m).1
 bell_in states.Active m h = h
-bell_in states.Suspended m h = λ e. absurd (no e)
+bell_in states.Suspended m h = λ e. absurd (false≢true e)
 bell_in states.Reset m h = h
 bell_in states.Dead m h = h
 
@@ -69,7 +67,7 @@ bell_full m h = bell_in (state_in m.phase) m h
 
 pointed_full : (m : Machine) (pointer : OrbPointer) → IsFull m → IsFull (pointed m pointer).1
 pointed_full m Null h = h
-pointed_full m (At next) h = λ e. absurd (no e)
+pointed_full m (At next) h = λ e. absurd (false≢true e)
 
 point_at : (state : AgentState) (m : Machine) (pointer : OrbPointer) → IsFull m → IsFull (point_in state m pointer).1
 point_at states.Reset m pointer h = pointed_full m pointer h

@@ -1,6 +1,8 @@
 -- At each place of a run in which no initiator injected packets, and before which lists were open as they should be, each good end of an ORB whose data go to its initiator, and whose buffer has bytes, comes as the write of the last
 -- chunk of the answer is answered.
 use Rattle.std.proofs.Common.{arith, ◌≡◌, ◌∙◌, refl, sym, ap, subst, ◌<◌, ℕ, Bool, true, false, List, [], ◌∷◌, ◌++◌, map, length, Option, Some, None}
+use Rattle.std.proofs.lemmas.Bool.{false≢true}
+use Rattle.std.proofs.lemmas.Option.{same_Some}
 use Rattle.login_table.proofs.Searching.{within}
 use Rattle.orb_layout.specs.declared.status.StatusKind.{StatusKind}
 use Rattle.orb_layout.specs.declared.status.StatusKind.TheVariants as kinds
@@ -24,7 +26,6 @@ use Rattle.sbp_world.specs.Telling.{holder, ticket_at}
 use Rattle.sbp_world.specs.Wire.Lines.{IsLine}
 use Rattle.sbp_world.specs.Worlds.{Scene, WorldState, begun, without_notes}
 use Rattle.sbp_world.proofs.Agents.Management.Still.{hist}
-use Rattle.sbp_world.specs.Agents.Management.Terms.{DeliversMore}
 use Rattle.sbp_world.specs.Hosts.Runs.{more_deliveries}
 use Rattle.sbp_world.specs.Lists.Closes.{Always, Under}
 use Rattle.sbp_world.specs.Lists.EndsWell.{AreInward, EndedWell, GoodEnds, GoodEndsLaw, IsWrittenWell, well_behind, well_fresh}
@@ -60,13 +61,7 @@ use Rattle.command_agent.specs.Steps.{reply_step}
 use Rattle.sbp_target.specs.Receiving.{answer_in}
 use Rattle.sbp_target.specs.Replies.{plain_in}
 use Rattle.sbp_world.proofs.Lists.Full.{IsFull}
-
-no : false ≡ true → ⊥
-no e = cc
-
-split : (a b : List Note) (past : List Moment) → map said a ++ (map said b ++ past) ≡ map said (a ++ b) ++ past
-split [] b past = refl
-split (n ∷ a) b past = ap (λ ms. said n ∷ ms) (split a b past)
+use Rattle.sbp_world.proofs.Common.{delivers, said_joined}
 
 -- ---- an end
 module _ (i : ℕ) where
@@ -74,7 +69,7 @@ module _ (i : ℕ) where
   E past = EachMoment (GoodEnds i) past
 
   plain_end : (note : Note) → IsPlain note → (past : List Moment) → GoodEnds i (said note) past
-  plain_end (notes.Ended j (Some n) (Some k) kinds.Good) p past = absurd (no (sym p))
+  plain_end (notes.Ended j (Some n) (Some k) kinds.Good) p past = absurd (false≢true (sym p))
   plain_end _ p past = tt
 
   all_plain : (more : List Note) → AllPlain more → (past : List Moment) → E past → E (map said more ++ past)
@@ -82,7 +77,7 @@ module _ (i : ℕ) where
   all_plain (note ∷ more) p past e = (plain_end note p.0 (map said more ++ past), all_plain more p.1 past e)
 
   plainly_ends : (past : List Moment) (old new : List Note) → Plainly old new → E (map said old ++ past) → E (map said new ++ past)
-  plainly_ends past old new q e = subst (λ ns. E (map said ns ++ past)) q.is (subst E (split q.more old past) (all_plain q.more q.plain (map said old ++ past) e))
+  plainly_ends past old new q e = subst (λ ns. E (map said ns ++ past)) q.is (subst E (said_joined q.more old past) (all_plain q.more q.plain (map said old ++ past) e))
 
   early_ends : (early : List Note) → AllLight early → (past : List Moment) → E past → E (map said early ++ past)
   early_ends [] l past e = e
@@ -94,8 +89,8 @@ module _ (i : ℕ) where
       let got = said (notes.Got serial) ∷ (map said old ++ past) in
       let is = f serial early ended x in
       plainly_ends past (ended ∷ (early ++ notes.Got serial ∷ old)) new q (
-        subst (λ ms. GoodEnds i (said ended) ms) (split early (notes.Got serial ∷ old) past) is.0,
-        subst E (split early (notes.Got serial ∷ old) past) (early_ends early is.1 got (tt, e)),
+        subst (λ ms. GoodEnds i (said ended) ms) (said_joined early (notes.Got serial ∷ old) past) is.0,
+        subst E (said_joined early (notes.Got serial ∷ old) past) (early_ends early is.1 got (tt, e)),
       )
 
   by_names : (past : List Moment) (j : ℕ) (x y : Option ℕ) (status : StatusKind) → ((n k : ℕ) → x ≡ Some n → y ≡ Some k → j ≡ i → status ≡ kinds.Good → EndedWell past i n k) → GoodEnds i (said (notes.Ended j x y status)) past
@@ -110,9 +105,6 @@ pub record Known (wild : ℕ → Bool) (past : List Moment) (w : WorldState) : T
   pub full : (q : ℕ) → q < 8 → wild (initiator_in w q) ≡ false → IsFull (machine_at w q)
   pub ways : (q : ℕ) → q < 8 → wild (initiator_in w q) ≡ false → IsWay (machine_at w q)
   pub fills : (j n k : ℕ) (cmd : Cmd) → command_at (hist past w) j n k ≡ Some cmd → FillsBuffer cmd
-
-same_number : (a b : ℕ) → Some a ≡ Some b → a ≡ b
-same_number a b e = cc
 
 module _ (wild : ℕ → Bool) (i : ℕ) (own : wild i ≡ false) (past : List Moment) (s : Scene) (known : Known wild past s.world) (run : Option Told) (serial : ℕ) (early : List Note) (ended : Note) (r : IsEndBy s run serial early ended) where
   abbrev w : WorldState
@@ -192,7 +184,7 @@ module _ (wild : ℕ → Bool) (i : ℕ) (own : wild i ≡ false) (past : List M
     so : (m k : ℕ) → list_in (ticket_at w r.place r.orb) ≡ Some m → orb_in (ticket_at w r.place r.orb) ≡ Some k → EndedWell now i m k
     so m k e f =
         let x = names in
-        subst (λ y. EndedWell now i y k) (same_number n m (sym x.0 ∙ e)) (written_at (holder w r.place).initiator k mine (same_number k (ends ms (holder w r.place).initiator n) (sym f ∙ x.1)) it)
+        subst (λ y. EndedWell now i y k) (same_Some n m (sym x.0 ∙ e)) (written_at (holder w r.place).initiator k mine (same_Some k (ends ms (holder w r.place).initiator n) (sym f ∙ x.1)) it)
 
   pub end_told : GoodEnds i (said ended) now
   end_told =
@@ -302,10 +294,6 @@ ends_walk wild units ready has start past s later t step p i b own =
 
 first_ends : (wild : ℕ → Bool) (line : ℕ) (run : Run) → AllEnds wild (moments_behind line run []) (beginning run).world
 first_ends wild line run = λ i b own. (tt, (tt, tt))
-
-delivers : (most : Option ℕ) → DeliversMore (more_deliveries most)
-delivers (Some count) = tt
-delivers None = tt
 
 both_known : Always Ground → Always Grounds
 both_known ground = record {

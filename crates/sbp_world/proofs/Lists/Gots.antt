@@ -15,6 +15,7 @@ use Rattle.sbp_world.proofs.Agents.Management.Still.{hist}
 use Rattle.sbp_world.proofs.Lists.Quiet.{AllQuiet, Comes, IsQuiet, Quietly, acts, comes, delivery_comes, injects, keys, late, loses, nothing, one_comes, quiet_none, resets, sights, ticks}
 use Rattle.sbp_world.proofs.Lists.Turned.{IsOne}
 use Rattle.sbp_world.proofs.Lists.Walks.{Turn, by_delivery, by_end, by_line, by_start}
+use Rattle.sbp_world.proofs.Lists.TurnReads.{none_behind}
 
 -- ---- a history goes on over a turn
 pub data Next (before now : List Moment) : Type 0 where
@@ -25,10 +26,6 @@ pub data Next (before now : List Moment) : Type 0 where
 pub split : (a b : List Note) (past : List Moment) → map said (a ++ b) ++ past ≡ map said a ++ (map said b ++ past)
 split [] b past = refl
 split (n ∷ a) b past = ap (λ ms. said n ∷ ms) (split a b past)
-
-none_behind : (a : List Note) → a ++ [] ≡ a
-none_behind [] = refl
-none_behind (n ∷ a) = ap (λ ns. n ∷ ns) (none_behind a)
 
 of_comes : (past : List Moment) (old new : List Note) → Comes old new → Next (map said old ++ past) (map said new ++ past)
 of_comes past old new (nothing e) = same_still (ap (λ ns. map said ns ++ past) e)

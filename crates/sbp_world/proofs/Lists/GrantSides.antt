@@ -50,7 +50,7 @@ use Rattle.sbp_target.proofs.Histories.Calling.{Good}
 use Rattle.sbp_target.proofs.Histories.Found.{IsFound, found}
 use Rattle.sbp_target.proofs.Histories.Primitives.{Known, closing_known, expiring_known, live_on}
 use Rattle.sbp_target.proofs.Histories.Seats.{Lives}
-use Rattle.sbp_world.proofs.Agents.Management.Calls.{forgets_if}
+use Rattle.sbp_world.proofs.Agents.Management.Calls.{forgets_if, from_self}
 use Rattle.sbp_world.proofs.Agents.Management.Calm as calm
 use Rattle.sbp_world.proofs.Agents.Management.Calm.{Calm, From}
 use Rattle.sbp_world.proofs.Agents.Lists.{AreNoEntries, IsNoEntry, entries_more, quiet_entries}
@@ -147,8 +147,6 @@ module _ (old : Lives) (node : NodeState) (f : From old node.layer) where
       omega (arith, none, all)
 
 module _ (node : NodeState) (g : Good node) where
-  from_self : (layer : Layer Purpose) (lives : Lives) → Known layer lives → From lives layer
-  from_self layer lives k = record { lives = lives; known = k; before = λ p l kind e. e }
 
   managed_grants : (source : ℕ) (layer : Layer Purpose) (lives : Lives) → From lives layer → (r : ManagerStep × (management.Machine × Table)) → grants (managed_with source (scene (record node { layer = layer }) empty_outbox) r).outbox.sides ≡ decision_grants r.0.decided
   managed_grants source layer lives f (step, (m, t)) =

@@ -1,5 +1,6 @@
 -- A response to a transaction of an agent is the one to the request that the agent waits for, by the history, and tells the laws what it tells the target.
 use Rattle.std.proofs.Common.{arith, ◌≡◌, ◌∙◌, refl, sym, ap, subst, ◌<◌, ℕ, is_some, Bool, true, false, cond, List, Option, Some, None}
+use Rattle.std.proofs.lemmas.Option.{same_Some}
 use Rattle.async_packet.specs.Labels.{LabelParts}
 use Rattle.async_packet.specs.Packet.{Packet, header_in}
 use Rattle.bus_transactions.specs.Answers.{AnswerLaw, AnswersWaiting}
@@ -83,9 +84,6 @@ pub record Owned (serial : ℕ) (kept : List Kept) (sent : Sent) : Type 0 where
 pub stored_by : (serial : ℕ) (kept : List Kept) (sent : Sent) (so : Option Kept) → found_kept serial kept ≡ so → sent_of so ≡ Some sent → Owned serial kept sent
 stored_by serial kept sent None e f = absurd (let no : None ≡ Some sent = f in cc)
 stored_by serial kept sent (Some one) e f = record { one = one; found = e; is = (let z : Some one.sent ≡ Some sent = f in cc) }
-
-which_same : (one other : Which) → Some one ≡ Some other → one ≡ other
-which_same one other e = cc
 
 -- the node that a transaction is with is the one that its request goes to
 to_if : (b : Bool) (packet : Sending) (label : ℕ) (u : Transaction) → begun_if b (Some (between packet packet.from packet.to label)) ≡ Some u → packet.to ≡ u.responder
@@ -214,13 +212,13 @@ module _ (units ready : ℕ) (has : 0 < units) (start : List Disk) {past : List 
 
     pub waits_so : (which : Which) → which_in (desk_at w.target place) source label ≡ Some which → serial_of which (agent_at T place) ≡ Some asked_by_it
     waits_so which f =
-        let same : for_it.which ≡ which = which_same for_it.which which (sym serving_it.which_is ∙ f) in
+        let same : for_it.which ≡ which = same_Some for_it.which which (sym serving_it.which_is ∙ f) in
         subst (λ (x : Which). serial_of x (agent_at T place) ≡ Some asked_by_it) same (asked.handed asked_by_it place for_it.which for_it.is).1
 
     -- it is for that transaction of the agent, by the terms
     pub purpose_so : (which : Which) → which_in (desk_at w.target place) source label ≡ Some which → purpose_of T asked_by_it ≡ for_agent place which
     purpose_so which f =
-        let same : for_it.which ≡ which = which_same for_it.which which (sym serving_it.which_is ∙ f) in
+        let same : for_it.which ≡ which = same_Some for_it.which which (sym serving_it.which_is ∙ f) in
         subst (λ (x : Which). purpose_of T asked_by_it ≡ for_agent place x) same for_it.is
 
     -- ---- what it answers, by the history

@@ -115,7 +115,7 @@ behind_so : (note : Note) (past : List Moment) (wire : Terms) (t : Target) → I
 behind_so note past wire t h e = ap (λ (o : Office). o.table.last) (note_changes note past wire t h) ∙ by_last note (office_of t) e
 
 -- that of the start is none but for the logins of those that are ready
-first_last : (ready : Bool) (initiators : ℕ) → (first_table ready initiators).last ≡ ready_logins initiators ready
+pub first_last : (ready : Bool) (initiators : ℕ) → (first_table ready initiators).last ≡ ready_logins initiators ready
 first_last true initiators = refl
 first_last false initiators = refl
 

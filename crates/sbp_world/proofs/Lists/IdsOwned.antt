@@ -36,6 +36,7 @@ use Rattle.sbp_world.proofs.Lists.IdsRuns.{AreFewIds, few_before, few_ids_everyw
 use Rattle.sbp_world.proofs.Lists.Judging.{goes_next}
 use Rattle.sbp_world.proofs.Lists.LiveRuns.{goes_size}
 use Rattle.sbp_world.proofs.Lists.Quiet.{AllQuiet, Hears, IsQuiet, delivery_hears, hears, unheard}
+use Rattle.sbp_world.proofs.Common.{said_split}
 
 -- ---- moments
 not_begins : (note : Note) → IsQuiet note → BeginsTurn (said note) → ⊥
@@ -46,10 +47,6 @@ not_begins note q b = b
 judged_begins : (serial : ℕ) (judged : Judged) → BeginsTurn (said (judged_note serial judged))
 judged_begins serial judgements.Got = tt
 judged_begins serial (judgements.Ignored cause) = tt
-
-split : (a b : List Note) (past : List Moment) → map said (a ++ b) ++ past ≡ map said a ++ (map said b ++ past)
-split [] b past = refl
-split (n ∷ a) b past = ap (λ ms. said n ∷ ms) (split a b past)
 
 ids_same : (event : Event) (t : Terms) → t.generation 0 ≤ t.bus → (k : ℕ) → id_for (opened event t) 0 k ≡ id_for t 0 k
 ids_same (events.Reset physical) t aged k =
@@ -128,7 +125,7 @@ module _ (start : List Disk) (i id : ℕ) where
   heard_on past old new (hears serial judged q) h =
       let note = judged_note serial judged in
       let had : Had (map said q.more ++ (said note ∷ (map said old ++ past))) = had_later (map said q.more) (said note ∷ (map said old ++ past)) (begun_had (said note) (map said old ++ past) (judged_begins serial judged) h) in
-      inr (subst (λ ns. Had (map said ns ++ past)) q.is (subst Had (sym (split q.more (note ∷ old) past)) had))
+      inr (subst (λ ns. Had (map said ns ++ past)) q.is (subst Had (sym (said_split q.more (note ∷ old) past)) had))
 
   lowest_on : (past : List Moment) (s : Scene) (one : Option Told) (o : Option ℕ) → MayAt o one s → Own (hist past s.world) → Own (hist past (delivered_at o one s).world)
   lowest_on past s one None m h = absurd m

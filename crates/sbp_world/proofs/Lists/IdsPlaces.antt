@@ -19,14 +19,11 @@ use Rattle.sbp_world.proofs.Lists.ManageTerms.{untrue}
 use Rattle.sbp_world.proofs.Lists.OrbsShort.{event_short, login_small, orb_short}
 use Rattle.rbc_disk.specs.Disk.{Disk}
 use Rattle.sbp_world.specs.Lists.Owners.{HasOwn, OwnBy}
-use Rattle.sbp_world.proofs.Lists.OwnPlaces.{and_first, own_manages}
+use Rattle.sbp_world.proofs.Lists.OwnPlaces.{and_first, own_manages, function_back}
 
 -- ---- as it is read back
 subject_back : (o : ManagementOrb) → o.subject < 2 ^ 16 → (management_orb (management_bytes o)).subject ≡ o.subject
 subject_back o small = omega arith
-
-function_back : (o : ManagementOrb) → o.subject < 2 ^ 16 → o.function < 2 ^ 4 → (management_orb (management_bytes o)).function ≡ o.function
-function_back o subject small = omega arith
 
 -- ---- in a history
 module _ (start : List Disk) (final : List Moment) (i : ℕ) where

@@ -18,12 +18,7 @@ use Rattle.mgmt_agent.specs.Decisions.{asked_by, decide, decide_function, decide
 use Rattle.mgmt_agent.specs.Statuses.{function_of}
 use Rattle.orb_layout.specs.declared.management.ManagementOrb.{ManagementOrb}
 use Rattle.sbp_world.specs.Lists.FewLogins.{AreRising}
-
-none_one : {A : Type 0} (login : Login) → None ≡ Some login → A
-none_one login e = absurd (differ e)
-  where
-    differ : None ≡ Some login → ⊥
-    differ e = cc
+use Rattle.sbp_world.proofs.Common.{none_is}
 
 -- ---- a login that stays
 pub record Came (places : List (Option Login)) (place : ℕ) (now : Login) : Type 0 where
@@ -67,7 +62,7 @@ same_stay t now e = subst (IsStill t) (sym e) (all_stay t)
 
 -- ---- calls that decide nothing
 held_came : (places : List (Option Login)) (place : ℕ) (x : Option Login) → place_at places place ≡ x → (login : Login) → held x ≡ Some login → Came places place login
-held_came places place None e login f = none_one login f
+held_came places place None e login f = none_is login f
 held_came places place (Some own) e login f =
     let is : record own { remaining = Some (held_for own.remaining own.hold) } ≡ login = cc in
     record { before = own; there = e; login = sym (ap (λ (l : Login). l.login) is); fifo = sym (ap (λ (l : Login). l.fifo) is) }
@@ -76,11 +71,11 @@ pub held_stay : (t : Table) → IsStill t (record t { places = map held t.places
 held_stay t = record { last = refl; came = λ place login e. held_came t.places place (place_at t.places place) refl login (sym (get_or-map held t.places place None) ∙ e) }
 
 ticked_came : (places : List (Option Login)) (place : ℕ) (x : Option Login) → place_at places place ≡ x → (login : Login) → ticked x ≡ Some login → Came places place login
-ticked_came places place None e login f = none_one login f
+ticked_came places place None e login f = none_is login f
 ticked_came places place (Some own) e login f = by (is_last own.remaining) f
   where
     by : (b : Bool) → cond b None (Some (record own { remaining = one_less own.remaining })) ≡ Some login → Came places place login
-    by true g = none_one login g
+    by true g = none_is login g
     by false g =
         let is : record own { remaining = one_less own.remaining } ≡ login = cc in
         record { before = own; there = e; login = sym (ap (λ (l : Login). l.login) is); fifo = sym (ap (λ (l : Login). l.fifo) is) }
@@ -129,11 +124,11 @@ enter_by (Some k) table replaced asked =
 
 leave_stay : (found : Option ℕ) (table : Table) → IsStill table (leave_at found table).1
 leave_stay None table = all_stay table
-leave_stay (Some place) table = record { last = refl; came = set_come table.places place None (Came table.places) (λ k login same f. none_one login f) (stays table.places) }
+leave_stay (Some place) table = record { last = refl; came = set_come table.places place None (Came table.places) (λ k login same f. none_is login f) (stays table.places) }
 
 leave_stood : (found : Option ℕ) (table : Table) → LivesStood table (leave_at found table).1
 leave_stood None table = same_stood table table refl
-leave_stood (Some place) table = λ k login e live. set_come table.places place None (λ p x. place_at table.places p ≡ Some x) (λ p x same f. none_one x f) (λ p x f. f) k login e
+leave_stood (Some place) table = λ k login e live. set_come table.places place None (λ p x. place_at table.places p ≡ Some x) (λ p x same f. none_is x f) (λ p x f. f) k login e
 
 module _ (orb : ManagementOrb) (source eui : ℕ) (table : Table) (keys : List (List ℕ)) where
   abbrev Makes : Table → Type 0

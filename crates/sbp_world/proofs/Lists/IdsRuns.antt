@@ -26,7 +26,7 @@ use Rattle.sbp_world.specs.Runs.{Run, beginning}
 use Rattle.sbp_world.specs.Worlds.{Scene, WorldState}
 use Rattle.sbp_world.specs.Lists.FewLogins.{AreRising, FewLogins, HasFewIds, entries}
 use Rattle.sbp_world.proofs.Lists.Courses.{EveryPlace, Goes, Keeps, at_between, at_lines}
-use Rattle.sbp_world.proofs.Lists.IdsNoted.{all_last, last_at, more_entries}
+use Rattle.sbp_world.proofs.Lists.IdsNoted.{all_last, last_at, more_entries, first_last}
 use Rattle.sbp_world.proofs.Lists.IdsRise.{Decides, IsStill, LivesStood, Rises, decide_makes, decided_more, same_stay, same_stood, still_more}
 use Rattle.sbp_world.proofs.Lists.Judging.{Grown, goes_next, grown}
 use Rattle.sbp_world.proofs.Lists.LiveCalls.{HasLogins, answered, delivery_logins, untouched}
@@ -177,10 +177,6 @@ from_below last i (suc n) k l (suc place) login e = from_below last (i + 1) n k 
 first_few : (ready : Bool) (n : ℕ) → AreRising (first_table ready n)
 first_few false n place login e = none_below 0 8 place login e
 first_few true n place login e = from_below n 0 n (8 - n) (omega arith) place login e
-
-first_last : (ready : Bool) (n : ℕ) → (first_table ready n).last ≡ ready_logins n ready
-first_last false n = refl
-first_last true n = refl
 
 pub first_ids : (line : ℕ) (run : Run) → run.initiators ≤ 4 → run.units ≤ 4 → length run.start.disks ≡ run.units → AreFewIds (moments_behind line run []) (beginning run).world
 unfolding new_world

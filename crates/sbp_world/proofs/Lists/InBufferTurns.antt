@@ -1,5 +1,5 @@
 -- Each turn keeps it that the response of a login which its initiator got stands in the buffer of its place, while the target waits for the answer.
-use Rattle.std.proofs.Common.{arith, ◌≡◌, ◌∙◌, ◌⊎◌, inl, inr, refl, sym, ap, subst, ℕ, suc, ◌^◌, ◌<◌, ◌≤◌, nat_le, Bool, true, false, List, [], ◌∷◌, ◌++◌, map, length, slice_index_or, Option, Some, None, append_assoc}
+use Rattle.std.proofs.Common.{arith, ◌≡◌, ◌∙◌, ◌⊎◌, inl, inr, refl, sym, ap, subst, ℕ, suc, ◌<◌, ◌≤◌, nat_le, Bool, true, false, List, [], ◌∷◌, ◌++◌, map, length, slice_index_or, Option, Some, None, append_assoc}
 use Rattle.std.proofs.lemmas.Bool.Decides.{nat_tests}
 use Rattle.bus_memory.specs.declared.window.Window.TheVariants as windows
 use Rattle.bus_memory.specs.Windows.{start as start_of}
@@ -12,8 +12,7 @@ use Rattle.sbp_world.specs.Hosts.Sources.{AllOfTarget}
 use Rattle.mgmt_agent.specs.declared.operation.Phase.{Phase}
 use Rattle.mgmt_agent.specs.declared.operation.Phase.TheVariants as phases
 use Rattle.mgmt_agent.specs.Machine.{Machine}
-use Rattle.orb_layout.specs.declared.management.ManagementOrb.{ManagementOrb}
-use Rattle.orb_layout.specs.ManagementOrbs.{management_bytes, management_orb}
+use Rattle.orb_layout.specs.ManagementOrbs.{management_orb}
 use Rattle.rbc_disk.specs.Disk.{Disk}
 use Rattle.sbp_initiator.specs.declared.purpose.Running.{Running}
 use Rattle.sbp_journal.specs.declared.event.Action.{Action}
@@ -66,6 +65,7 @@ use Rattle.sbp_world.proofs.Lists.Rises.{Rises, rises}
 use Rattle.sbp_world.proofs.Lists.ServedTerms.{opened_served, quiet_served, served_most}
 use Rattle.sbp_world.proofs.Lists.SlotShut.{AllApart, apart_there}
 use Rattle.sbp_world.proofs.Lists.StoredMoments.{HasOp, In, one_note, quiet_in, stays_in}
+use Rattle.sbp_world.proofs.Lists.OwnPlaces.{second_back}
 
 -- ---- the ORB of a login names the buffer of its place
 second_of : (action : Action) (past : List Moment) (i : ℕ) (host : Host) (place : ℕ) → operation_of action ≡ Some operations.Login → (management_orb_of action past i host place).second ≡ start_of (windows.Response place)
@@ -74,9 +74,6 @@ second_of (actions.Query unit) past i host place e = absurd (let no : Some opera
 second_of actions.Reconnect past i host place e = absurd (let no : Some operations.Reconnect ≡ Some operations.Login = e in cc)
 second_of actions.Logout past i host place e = absurd (let no : Some operations.Logout ≡ Some operations.Login = e in cc)
 second_of action past i host place e = cc
-
-second_back : (o : ManagementOrb) → o.second < 2 ^ 48 → (management_orb (management_bytes o)).second ≡ o.second
-second_back o small = omega arith
 
 pub second_is : (past : List Moment) (i : ℕ) (underway : Underway) → IsUnderway past i underway → underway.operation ≡ operations.Login → (orb_in_place past i underway.place).second ≡ start_of (windows.Response underway.place)
 second_is past i underway u login =
@@ -101,7 +98,7 @@ served_behind : (ns : List Note) (base : List Moment) → AllQuiet ns → (terms
 served_behind [] base q = refl
 served_behind (n ∷ ns) base q = quiet_served n (map said ns ++ base) q.0 ∙ served_behind ns base q.1
 
-response_status : {A : Type 0} (phase : Phase) (fifo : ℕ) → phase ≡ phases.Response fifo → phase ≡ phases.Status → A
+pub response_status : {A : Type 0} (phase : Phase) (fifo : ℕ) → phase ≡ phases.Response fifo → phase ≡ phases.Status → A
 response_status phase fifo e f = absurd (differ (sym e ∙ f))
   where
     differ : phases.Response fifo ≡ phases.Status → ⊥

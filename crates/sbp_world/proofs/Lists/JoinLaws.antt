@@ -1,5 +1,6 @@
 -- An initiator begins its lists in generations that the target has seen: after every line of every run, and behind each delivery of a line that follows.
-use Rattle.std.proofs.Common.{arith, ◌≡◌, ◌∙◌, refl, ap, subst, ℕ, suc, ◌+◌, ◌^◌, ◌<◌, ◌≤◌, true, false, List, [], ◌∷◌, ◌++◌, map, length, Option}
+use Rattle.std.proofs.Common.{arith, ◌≡◌, ◌∙◌, refl, ap, subst, ℕ, suc, ◌+◌, ◌^◌, ◌<◌, ◌≤◌, true, List, [], ◌∷◌, ◌++◌, map, length, Option}
+use Rattle.std.proofs.lemmas.Bool.{false≢true}
 use Rattle.rbc_disk.specs.Runs.{Told}
 use Rattle.sbp_initiator.specs.Refusals.{is_in_live}
 use Rattle.sbp_initiator.specs.States.{session_of}
@@ -27,26 +28,23 @@ use Rattle.sbp_world.specs.Sessions.Joined.{JoinedLaw, is_joined}
 use Rattle.sbp_world.proofs.Lists.Joins.{Begins, Joins, Starts, first_joins, joins_carried}
 use Rattle.sbp_world.proofs.Lists.Rises.{Rises, rises}
 
-no : false ≡ true → ⊥
-no e = cc
-
 live_joined : (seat : Seat) → is_in_live (session_of seat) ≡ true → is_joined (session_in seat) ≡ true
-live_joined (seats.Out out) e = absurd (no e)
-live_joined (seats.Entering entering) e = absurd (no e)
+live_joined (seats.Out out) e = absurd (false≢true e)
+live_joined (seats.Entering entering) e = absurd (false≢true e)
 live_joined (seats.Live x) e = refl
-live_joined (seats.Held response) e = absurd (no e)
-live_joined (seats.Returning response) e = absurd (no e)
-live_joined (seats.Leaving response) e = absurd (no e)
-live_joined (seats.Stuck origin) e = absurd (no e)
+live_joined (seats.Held response) e = absurd (false≢true e)
+live_joined (seats.Returning response) e = absurd (false≢true e)
+live_joined (seats.Leaving response) e = absurd (false≢true e)
+live_joined (seats.Stuck origin) e = absurd (false≢true e)
 
 stand_rise : (past ms : List Moment) (w : WorldState) → Stands past w → map said w.fresh ++ past ≡ ms → Rises ms
 stand_rise past ms w h e = subst Rises (h.is.past_is ∙ e) (rises h.wire h.reached)
 
-moments_same : (line : ℕ) (run : Run) (every entries : List Entry) → moments_behind line (record run { entries = every }) entries ≡ moments_behind line run entries
+pub moments_same : (line : ℕ) (run : Run) (every entries : List Entry) → moments_behind line (record run { entries = every }) entries ≡ moments_behind line run entries
 moments_same line run every [] = refl
 moments_same line run every (e ∷ before) = ap (λ ms. map said e.notes ++ asked e.line e.event ∷ ms) (moments_same line run every before)
 
-lines_same : (run : Run) (every entries : List Entry) → AreLines run entries → AreLines (record run { entries = every }) entries
+pub lines_same : (run : Run) (every entries : List Entry) → AreLines run entries → AreLines (record run { entries = every }) entries
 lines_same run every [] l = tt
 lines_same run every (e ∷ before) l = (l.0, lines_same run every before l.1)
 

@@ -2,6 +2,7 @@
 -- latest list.
 use Rattle.std.proofs.Common.{arith, ◌≡◌, ◌∙◌, refl, sym, ap, subst, ℕ, suc, ◌<◌, ◌≤◌, ◌==◌, nat_eq, nat_lt, Bool, true, false, cond, List, [], ◌∷◌, Some}
 use Rattle.std.proofs.lemmas.Bool.Decides.{nat_tests}
+use Rattle.std.proofs.lemmas.Bool.{false≢true}
 use Rattle.sbp_journal.specs.Run.{Moment, asked, said}
 use Rattle.sbp_journal.specs.Transactions.{Sending}
 use Rattle.sbp_journal.specs.Wire.{terms}
@@ -14,9 +15,6 @@ use Rattle.sbp_world.specs.Lists.Needs.{IsCalm}
 use Rattle.sbp_world.proofs.Lists.Generations.{not_lower}
 use Rattle.sbp_world.proofs.Lists.Joins.{Begins}
 use Rattle.sbp_world.proofs.Lists.Rises.{Rises}
-
-no : false ≡ true → ⊥
-no e = cc
 
 module _ (i m : ℕ) where
   at_both : (b : Bool) (f g : ℕ → ℕ → ℕ) → (cond b f g) i m ≡ cond b (f i m) (g i m)
@@ -31,7 +29,7 @@ module _ (i m : ℕ) where
         let a = may (let y : nat_eq j i ≡ true = grind (arith, nat_tests) in y) in
         let is : n ≡ lists past i = (a.first (grind (arith, nat_tests))).1 in
         let own : lists past j ≡ lists past i = ap (lists past) (sym same) in
-        let other : m ≡ n → ⊥ = λ f. no (sym e ∙ (let y : nat_eq m n ≡ true = grind (arith, nat_tests) in y)) in
+        let other : m ≡ n → ⊥ = λ f. false≢true (sym e ∙ (let y : nat_eq m n ≡ true = grind (arith, nat_tests) in y)) in
         ih (grind arith)
 
     by_append : (b : Bool) → nat_eq k 0 ≡ b → (c : Bool) → nat_eq i j ≡ c → m < cond c (cond b (suc (lists past j)) (lists past j)) (lists past i) → cond b (cond c (cond (nat_eq m n) ((terms past).generation (suc j)) (begun_in past i m)) (begun_in past i m)) (begun_in past i m) ≤ top

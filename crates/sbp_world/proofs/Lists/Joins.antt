@@ -1,6 +1,7 @@
 -- In every run an initiator begins a list in a generation that the target has seen: it does so in a live session alone.
 use Rattle.std.proofs.Common.{arith, ◌≡◌, ◌∙◌, refl, sym, ap, subst, inl, inr, ◌⊎◌, ℕ, zero, suc, ◌≤◌, ◌==◌, not, nat_eq, Bool, true, false, List, [], ◌∷◌, ◌++◌, Option, Some, None}
 use Rattle.std.proofs.lemmas.Bool.Decides.{nat_tests}
+use Rattle.std.proofs.lemmas.Bool.{not-false}
 use Rattle.sbp_bus.specs.Packets.{judged_note}
 use Rattle.sbp_initiator.specs.Acting.{act_step, facts_with, judged_as}
 use Rattle.sbp_initiator.specs.Effects.{Turn}
@@ -85,13 +86,10 @@ judged_begins serial i judgements.Got past y = (tt, y)
 judged_begins serial i (judgements.Ignored cause) past y = (tt, y)
 
 -- ---- an ORB is prepared in a live session alone
-not_not : (b : Bool) → not b ≡ false → b ≡ true
-not_not true e = refl
-not_not false e = absurd (no (sym e))
 
-prepared : (action : Action) (s : InitiatorState) → prepares action ≡ true → Goes action s → is_in_live (session_of s.seat) ≡ true
-prepared (actions.Put cmd) s p g = not_not (is_in_live (session_of s.seat)) g.rows.wrong_state
-prepared (actions.Append cmd) s p g = not_not (is_in_live (session_of s.seat)) g.rows.wrong_state
+pub prepared : (action : Action) (s : InitiatorState) → prepares action ≡ true → Goes action s → is_in_live (session_of s.seat) ≡ true
+prepared (actions.Put cmd) s p g = not-false (is_in_live (session_of s.seat)) g.rows.wrong_state
+prepared (actions.Append cmd) s p g = not-false (is_in_live (session_of s.seat)) g.rows.wrong_state
 prepared _ s p g = absurd (no p)
 
 goes_by : (action : Action) (s : InitiatorState) (r : Option ℕ) → refusal action (facts_with true s action) ≡ r → (judged_as r action empty_outbox s).0 ≡ None → Goes action s

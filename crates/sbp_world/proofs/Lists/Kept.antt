@@ -1,6 +1,7 @@
 -- What is kept of the agents of all places, and of the order law, by what the target tells beside its agents, and by the packets that leave.
 use Rattle.std.proofs.Common.{◌≡◌, ◌∙◌, refl, sym, ap, subst, inl, inr, ◌⊎◌, ◌<◌, ◌==◌, ℕ, zero, suc, ◌+◌, Bool, true, false, cond, List, [], ◌∷◌, Option, Some, None}
 use Rattle.std.specs.Prelude.{position, slice_index_or, slice_set}
+use Rattle.std.proofs.lemmas.Option.{none-some}
 use Rattle.async_packet.specs.Labels.{LabelParts}
 use Rattle.command_agent.specs.Machine.{Machine}
 use Rattle.command_agent.specs.Steps.{abort_step}
@@ -55,14 +56,11 @@ set_either (y ∷ ys) (suc k) (suc p) x d = set_either ys k p x d
 abbrev pub Unlisted : List (Option Holder) → List (Option Holder) → Type 0
 Unlisted old new = (p n : ℕ) → (holder_at new p).list ≡ Some n → holder_at new p ≡ holder_at old p
 
-none_some : (n : ℕ) → None ≡ Some n → ⊥
-none_some n e = cc
-
 set_unlisted : (places : List (Option Holder)) (k : ℕ) (x : Option Holder) → (or_nobody x).list ≡ None → Unlisted places (slice_set places k x)
 set_unlisted places k x e p n f = by (set_either places k p x None)
   where
     by : (slice_index_or (slice_set places k x) p None ≡ x) ⊎ (slice_index_or (slice_set places k x) p None ≡ slice_index_or places p None) → holder_at (slice_set places k x) p ≡ holder_at places p
-    by (inl g) = absurd (none_some n (sym e ∙ (sym (ap (λ o. (or_nobody o).list) g) ∙ f)))
+    by (inl g) = absurd (none-some n (sym e ∙ (sym (ap (λ o. (or_nobody o).list) g) ∙ f)))
     by (inr g) = ap or_nobody g
 
 put_unlisted : (at : Option ℕ) (places : List (Option Holder)) (x : Option Holder) → (or_nobody x).list ≡ None → Unlisted places (put_at at x places)

@@ -1,6 +1,7 @@
 -- At each turn the target keeps the management ORB of the operation that an initiator has under way.
 use Rattle.std.proofs.Common.{arith, ◌≡◌, ◌∙◌, refl, sym, ap, subst, ℕ, suc, ◌<◌, ◌≤◌, nat_le, Bool, true, false, List, [], length, Option, Some, None}
 use Rattle.std.proofs.lemmas.Bool.Decides.{nat_tests}
+use Rattle.std.proofs.lemmas.Option.{same_Some}
 use Rattle.async_packet.specs.Labels.{LabelParts}
 use Rattle.async_packet.specs.Packet.{Packet}
 use Rattle.bus_memory.specs.declared.window.Window.TheVariants as windows
@@ -50,9 +51,6 @@ use Rattle.sbp_world.proofs.Lists.LiveSteps.{id_in, own_of, zero_of}
 use Rattle.sbp_world.proofs.Lists.LiveTaken.{handled}
 use Rattle.sbp_world.proofs.Lists.LiveTurns.{SameBus, TargetCall, TurnOf, by_clearing, by_own, by_sight, by_target, delivers, good, keeps, still}
 use Rattle.sbp_world.proofs.Lists.OrbsHeard.{asked_by_it, is_answered, manages_is}
-
-same_some : {A : Type 0} (x y : A) → Some x ≡ Some y → x ≡ y
-same_some x y e = cc
 
 -- in a phase that writes or reads the ORB nothing is to be shown
 module _ (past : List Moment) (i : ℕ) where
@@ -142,7 +140,7 @@ module _ (units ready : ℕ) (more_units : 0 < units) (start : List Disk) (past 
     judged : 0 < (terms new_past).news underway.first
     judged =
         let own = handled start new_past i managed (λ (up : HasGivenUp new_past i). no_more (sym manages ∙ up.none underway has)) underway.place op handling unwritten in
-        let same = same_some own.taken.underway underway (sym own.taken.is ∙ has) in
+        let same = same_Some own.taken.underway underway (sym own.taken.is ∙ has) in
         subst (λ (x : Underway). 0 < (terms new_past).news x.first) same own.taken.judged
       where
         no_more : true ≡ false → ⊥

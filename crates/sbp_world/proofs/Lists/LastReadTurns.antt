@@ -1,5 +1,6 @@
 -- Each turn keeps it that, while a response of the operation under way is on its way, the management ORB that the target read last is the one in the place of that operation.
 use Rattle.std.proofs.Common.{◌≡◌, ◌∙◌, refl, sym, ap, subst, ℕ, suc, ◌<◌, true, false, List, [], ◌∷◌, ◌++◌, map, length, Option, Some, None}
+use Rattle.std.proofs.lemmas.Option.{same_Some}
 use Rattle.async_packet.specs.Labels.{LabelParts}
 use Rattle.async_packet.specs.Packet.{Packet}
 use Rattle.bus_memory.specs.declared.window.Window.TheVariants as windows
@@ -21,7 +22,6 @@ use Rattle.rbc_disk.specs.Runs.{Told}
 use Rattle.sbp_bus.specs.Packets.{judged_note}
 use Rattle.sbp_journal.specs.declared.cause.Judged.{Judged}
 use Rattle.sbp_journal.specs.declared.cause.Judged.TheVariants as judgements
-use Rattle.sbp_journal.specs.declared.note.Note.{Note}
 use Rattle.sbp_journal.specs.declared.note.Note.TheVariants as notes
 use Rattle.sbp_journal.specs.Outgoings.{empty_outbox}
 use Rattle.sbp_journal.specs.Run.{Moment, said}
@@ -61,22 +61,14 @@ use Rattle.sbp_world.proofs.Lists.LiveTold.{TargetTold}
 use Rattle.sbp_world.proofs.Lists.LiveTurns.{SameBus, TargetCall, TurnOf, by_clearing, by_own, by_sight, by_target, delivers, good, keeps, still}
 use Rattle.sbp_world.proofs.Lists.OrbsCarried.{carried_orbs_law}
 use Rattle.sbp_world.proofs.Lists.OrbsHeard.{read_then}
-
-same_some : {A : Type 0} (x y : A) → Some x ≡ Some y → x ≡ y
-same_some x y e = cc
+use Rattle.sbp_world.proofs.Common.{said_split}
+use Rattle.sbp_world.proofs.Lists.InBufferTurns.{response_status}
 
 written_no : {A : Type 0} (phase : Phase) (fifo : ℕ) → phase ≡ phases.Response fifo → is_written phase ≡ false → A
 written_no phase fifo e f = absurd (let no : true ≡ false = sym (ap is_written e) ∙ f in cc)
 
-response_status : {A : Type 0} (phase : Phase) (fifo : ℕ) → phase ≡ phases.Response fifo → phase ≡ phases.Status → A
-response_status phase fifo e f = absurd (let no : phases.Response fifo ≡ phases.Status = sym e ∙ f in cc)
-
 response_orb : {A : Type 0} (phase : Phase) (fifo : ℕ) → phase ≡ phases.Response fifo → phase ≡ phases.Orb → A
 response_orb phase fifo e f = absurd (let no : phases.Response fifo ≡ phases.Orb = sym e ∙ f in cc)
-
-split : (a b : List Note) (past : List Moment) → map said (a ++ b) ++ past ≡ map said a ++ (map said b ++ past)
-split [] b past = refl
-split (n ∷ a) b past = ap (λ ms. said n ∷ ms) (split a b past)
 
 -- an answer to the management is got
 got_judged : (told : Option Told) (generation : ℕ) (bytes : List ℕ) (w : Whole) (p : Packet) (label : LabelParts) → (judging_step w.node.layer generation bytes).0 ≡ of_response p label (Some purposes.Management) → (received told generation bytes w).0 ≡ judgements.Got
@@ -96,9 +88,9 @@ module _ (start : List Disk) (past : List Moment) (s : Scene) (later : List Mome
   told_got told first =
       let base = base_of g in
       ap (λ ns. last_read start (map said ns ++ later)) told.is
-      ∙ (ap (last_read start) (split told.sends (told.told ++ (told.first ++ base)) later)
+      ∙ (ap (last_read start) (said_split told.sends (told.told ++ (told.first ++ base)) later)
       ∙ (all_own_last start told.sends (map said (told.told ++ (told.first ++ base)) ++ later) told.are_sent
-      ∙ (ap (last_read start) (split told.told (told.first ++ base) later)
+      ∙ (ap (last_read start) (said_split told.told (told.first ++ base) later)
       ∙ (all_behind_last start told.told (map said (told.first ++ base) ++ later) told.are_told
       ∙ (ap (λ ns. last_read start (map said (ns ++ base) ++ later)) first
       ∙ base_got start serial past s later t g)))))
@@ -130,7 +122,7 @@ module _ (units ready : ℕ) (more_units : 0 < units) (start : List Disk) (past 
     judged : 0 < (terms new_past).news underway.first
     judged =
         let own = handled_going start new_past i managed (λ (up : HasGivenUp new_past i). no_more (sym manages ∙ up.none underway has)) underway.place op handling (λ e. response_status op.phase fifo phase e) in
-        let same = same_some own.taken.underway underway (sym own.taken.is ∙ has) in
+        let same = same_Some own.taken.underway underway (sym own.taken.is ∙ has) in
         subst (λ (x : Underway). 0 < (terms new_past).news x.first) same own.taken.judged
       where
         no_more : true ≡ false → ⊥

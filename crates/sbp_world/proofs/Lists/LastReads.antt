@@ -23,6 +23,7 @@ use Rattle.sbp_world.proofs.Lists.LiveLeads.{line_manager}
 use Rattle.sbp_world.proofs.Lists.LiveTold.{is_behind, is_own_packet}
 use Rattle.sbp_world.proofs.Lists.Quiet.{AllQuiet, IsQuiet}
 use Rattle.sbp_world.proofs.Sessions.Buffers.{untrue}
+use Rattle.sbp_world.proofs.Sessions.BlockNotes.{opened_sent}
 
 -- the phase reads no ORB
 abbrev pub ReadsNone : Operation → Type 0
@@ -38,12 +39,8 @@ by_keeps true None manages op answer orb f = refl
 by_keeps false own manages op answer orb f = refl
 
 -- ---- as a line begins
-opened_sent : (event : Event) (t : Terms) → (opened event t).sent ≡ t.sent
-opened_sent (events.Reset physical) t = refl
-opened_sent (events.Repeat s) t = refl
-opened_sent _ t = refl
 
-opened_held : (event : Event) (t : Terms) → (opened event t).held ≡ t.held
+pub opened_held : (event : Event) (t : Terms) → (opened event t).held ≡ t.held
 opened_held (events.Reset physical) t = refl
 opened_held (events.Repeat s) t = refl
 opened_held _ t = refl

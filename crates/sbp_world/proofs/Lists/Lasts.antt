@@ -11,7 +11,6 @@ use Rattle.sbp_world.specs.Histories.{history_of}
 use Rattle.sbp_world.specs.Runs.{Run, after, beginning}
 use Rattle.sbp_world.specs.Settling.{MayAll, after_all}
 use Rattle.sbp_world.specs.Worlds.{Scene, WorldState, begun}
-use Rattle.sbp_world.specs.Agents.Management.Terms.{DeliversMore}
 use Rattle.sbp_world.specs.Hosts.Runs.{IsRun, more_deliveries}
 use Rattle.sbp_world.proofs.Hosts.Lasting.{lasting_law}
 use Rattle.sbp_world.proofs.Hosts.Runs.{count_after, count_between}
@@ -24,6 +23,7 @@ use Rattle.sbp_world.specs.Lists.Places.{ArePlaced, AreWaiting, IsPlaced, IsStan
 use Rattle.sbp_world.proofs.Lists.JoinLaws.{begins_after, begins_between, rises_after, rises_between}
 use Rattle.sbp_world.proofs.Lists.JoinRuns.{waits_latest}
 use Rattle.sbp_world.proofs.Lists.Naming.{names_law}
+use Rattle.sbp_world.proofs.Common.{delivers}
 
 module _ (past : List Moment) (w : WorldState) (names : AreNamed past w) (within : (i n : ℕ) → i < length w.initiators → linked past i n ≤ appends past i n) (waits : (i : ℕ) → i < length w.initiators → IsCalm past i → (serial n : ℕ) (sent : Sending) → (terms past).sent serial ≡ Some sent → pointed_list past serial i ≡ Some n → sent.generation ≡ (terms past).generation 0 → (terms past).news serial ≡ 0 → suc n ≡ lists past i) where
   stands : (i n : ℕ) → i < length w.initiators → ((m k : ℕ) → ends past i m ≤ k → taken_at past i m k ≡ None) → suc n ≡ lists past i → IsStanding past i n
@@ -54,9 +54,6 @@ module _ (past : List Moment) (w : WorldState) (names : AreNamed past w) (within
       (placed, waiting)
 
 -- ---- runs
-delivers : (most : Option ℕ) → DeliversMore (more_deliveries most)
-delivers (Some count) = tt
-delivers None = tt
 
 module _ (pointers : PointersLaw) (moments : MomentsLaw) (joined : JoinedLaw) (line : ℕ) (run : Run) (r : IsRun run) (has : 0 < run.units) (small : run.units ≤ 4) (size : length run.start.disks ≡ run.units) where
   abbrev last : Scene

@@ -1,5 +1,6 @@
 -- At each place of a run an agent that reads an ORB of an initiator that injected no packets reads the one that was prepared last in its slot, of the latest list of this initiator.
 use Rattle.std.proofs.Common.{arith, ◌≡◌, ◌∙◌, inl, inr, refl, sym, ap, subst, ◌<◌, ◌≤◌, ℕ, suc, true, false, List, Some}
+use Rattle.std.proofs.lemmas.Option.{same_Some}
 use Rattle.agent_laws.specs.Along.Steps.{IsOfList, number_behind}
 use Rattle.agent_laws.specs.Along.Requests.{ahead_under, main_ask, main_under}
 use Rattle.agent_laws.proofs.Along.Writes.{keeps_along}
@@ -39,9 +40,6 @@ use Rattle.sbp_world.proofs.Lists.Sites.{IsPrepared, Site, Waiting, waiting as a
 same_read : (a b : ℕ) → Read a 32 ≡ Read b 32 → a ≡ b
 same_read a b e = cc
 
-same_node : (a b : ℕ) → Some a ≡ Some b → a ≡ b
-same_node a b e = cc
-
 least_behind : (phase : Phase) (ended : ℕ) → ended ≤ number_behind phase ended
 least_behind phases.WritingStatus ended = omega arith
 least_behind phases.Reset ended = omega arith
@@ -78,7 +76,7 @@ module _ (units ready : ℕ) (has : 0 < units) (start : List Disk) {past : List 
     fifo = fifo_in (term_login T place)
 
     initiator_is : j ≡ i
-    initiator_is = let e = same_node (suc j) (suc i) (sym to ∙ asked.to) in omega (arith, e)
+    initiator_is = let e = same_Some (suc j) (suc i) (sym to ∙ asked.to) in omega (arith, e)
 
     calm : IsCalm ms i
     calm = subst (IsCalm ms) initiator_is quiet

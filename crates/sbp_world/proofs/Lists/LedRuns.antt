@@ -46,7 +46,7 @@ use Rattle.sbp_world.proofs.Lists.Judging.{goes_next}
 use Rattle.sbp_world.proofs.Lists.LedReads.{are_led}
 use Rattle.sbp_world.proofs.Lists.LiveRuns.{goes_tame_or_few}
 use Rattle.sbp_world.proofs.Lists.ManageSends.{opened_terms}
-use Rattle.sbp_world.proofs.Lists.OpenProved.{opens_law}
+use Rattle.sbp_world.proofs.Lists.OpenProved.{opens_law, nobody_needs}
 use Rattle.sbp_world.proofs.Lists.OrbFolds.{Brings}
 use Rattle.sbp_world.proofs.Lists.OrbNotes.{GotBrings}
 use Rattle.sbp_world.proofs.Lists.OrbReading.{under_way}
@@ -60,9 +60,6 @@ use Rattle.sbp_world.proofs.Lists.Runs.{KeptAfter, holds_at, kept_after}
 abbrev pub Led : List Disk → List Moment → WorldState → Type 0
 Led start past w = IsTameOrFew past → AreLed start past
 
-nobody : (A : Type 0) → true ≡ false → A
-nobody A e = absurd (let no : true ≡ false = e in cc)
-
 abbrev wilds : ℕ → Bool
 wilds = λ i. true
 
@@ -74,7 +71,7 @@ module _ (line : ℕ) (run : Run) (r : IsRun run) (has : 0 < run.units) (small :
   last = after (beginning run) run.entries
 
   kept : KeptAfter wilds opened line run r.few has small size run.entries last.world
-  kept = kept_after wilds opened line run r.few has small size run.entries r.short r.entries r.lines (λ i f. nobody (OpenBefore line run run.entries) f) (λ i f. nobody (IsCalm (history_of line run) i) f)
+  kept = kept_after wilds opened line run r.few has small size run.entries r.short r.entries r.lines (λ i f. nobody_needs (OpenBefore line run run.entries) f) (λ i f. nobody_needs (IsCalm (history_of line run) i) f)
 
   abbrev logins : ℕ
   logins = ready_logins run.initiators run.ready

@@ -1,6 +1,7 @@
 -- What an action of an initiator, and the sight of a generation, make of its session and of its operation under way: an operation begins while none is, and one that
 -- moves the session does so; each other action leaves both. A later generation that is seen leaves none under way and no session in.
 use Rattle.std.proofs.Common.{◌≡◌, ◌∙◌, refl, sym, ap, ℕ, ◌==◌, Bool, true, false, cond, Option, Some, None}
+use Rattle.std.proofs.lemmas.Bool.{false≢true}
 use Rattle.sbp_world.proofs.Hosts.Acts.{Goes, goes_layer, goes_on}
 use Rattle.label_table.specs.declared.judgement.Asked.{Asked}
 use Rattle.label_table.specs.Layer.{Layer, seeing_step}
@@ -35,12 +36,7 @@ use Rattle.sbp_session.specs.Seats.{is_stuck_seat, points}
 use Rattle.sbp_world.proofs.Sessions.Sessions.{drop_seat}
 use Rattle.sbp_world.proofs.Lists.LiveMoves.{IsLike, drop_operation, like_pointing, like_self, like_then}
 use Rattle.sbp_world.proofs.Lists.LiveStandings.{Stand, apart, comes, inside, leaves, stand_of}
-
-no : false ≡ true → ⊥
-no e = cc
-
-untrue : {A : Type 0} → false ≡ true → A
-untrue e = absurd (no e)
+use Rattle.sbp_world.proofs.Common.{untrue}
 
 -- an operation that moves the session begins: from where it stands to where
 pub data Sends : Operation → Stand → Stand → Type 0 where

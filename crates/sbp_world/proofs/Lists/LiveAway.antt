@@ -32,7 +32,8 @@ use Rattle.sbp_world.proofs.Lists.ManageSends.{Sends, opened_terms, sent_other, 
 use Rattle.sbp_world.proofs.Lists.ManageSent.{IsNew, SentFacts, for_below, sent_rest, sent_telling}
 use Rattle.sbp_world.proofs.Lists.ManageSights.{again_calm, sight_calm}
 use Rattle.sbp_world.proofs.Lists.ManageStays.{Calms, calm_rest}
-use Rattle.sbp_world.proofs.Lists.ManageTerms.{got_rests, ignored_rests, same_some, timed_rests, untrue}
+use Rattle.sbp_world.proofs.Lists.ManageTerms.{got_rests, ignored_rests, same_some, timed_rests}
+use Rattle.sbp_world.proofs.Common.{cond_on}
 
 -- what such moments leave
 pub record Over (start : List Disk) (past now : List Moment) (i : ℕ) : Type 0 where
@@ -162,10 +163,6 @@ module _ (start : List Disk) (i own : ℕ) (kept : List Kept) where
 
 -- ---- the operation under way at the host of the initiator
 
-so_if : {A : Type 0} (b : Bool) (x y : A) → b ≡ true → cond b x y ≡ x
-so_if true x y e = refl
-so_if false x y e = untrue e
-
 pick_goes : (b : Bool) (old x : Host) → Goes old x → Goes old (cond b x old)
 pick_goes true old x f = f
 pick_goes false old x f = same_goes old old refl
@@ -178,7 +175,7 @@ acting_first serial generation from to bytes past i action line none =
     in_line : sent_in (event_of past) i (present_list past i) serial (host_at past i) ≡ acted action (operation_of action) (present_list past i) serial (host_at past i)
     in_line =
         ap (λ (x : Option Event). sent_in x i (present_list past i) serial (host_at past i)) line
-        ∙ so_if (nat_eq i i) (acted action (operation_of action) (present_list past i) serial (host_at past i)) (goes_on (host_at past i).operation serial (host_at past i)) (let x : nat_eq i i ≡ true = grind (arith, nat_tests) in x)
+        ∙ cond_on (nat_eq i i) (acted action (operation_of action) (present_list past i) serial (host_at past i)) (goes_on (host_at past i).operation serial (host_at past i)) (let x : nat_eq i i ≡ true = grind (arith, nat_tests) in x)
 
     by : (part : Part) → Goes (host_at past i) (sent_as part (event_of past) i (present_list past i) serial (host_at past i))
     by (request label kind) = same_goes (host_at past i) (sent_in (event_of past) i (present_list past i) serial (host_at past i)) (ap (λ (h : Host). h.operation) in_line ∙ acted_none action (present_list past i) serial (host_at past i) none)

@@ -34,7 +34,7 @@ use Rattle.sbp_journal.specs.declared.operation.Operation.{Operation}
 use Rattle.sbp_journal.specs.declared.operation.Operation.TheVariants as operations
 use Rattle.sbp_journal.specs.declared.operation.OpWord.{OpWord}
 use Rattle.sbp_journal.specs.declared.operation.OpWord.TheVariants as words
-use Rattle.sbp_laws.specs.Hosts.{Host, Underway, answered, got_by, host_at, is_management, is_serial, known_host, pointer_answered, response_of, stored}
+use Rattle.sbp_laws.specs.Hosts.{Host, Underway, answered, got_by, host_at, is_serial, known_host, pointer_answered, response_of, stored}
 use Rattle.sbp_laws.specs.Hosts as hosts
 use Rattle.sbp_laws.specs.Lists.{present_list}
 use Rattle.sbp_laws.specs.Packets.{access_at, access_in, answered_at, packet_in, receiver_in, spelled_by}
@@ -55,7 +55,7 @@ use Rattle.sbp_world.proofs.Lists.ManageMoments.{Hands, LineFacts, MayHand, Take
 use Rattle.sbp_world.proofs.Lists.ManageSends.{opened_terms}
 use Rattle.sbp_world.proofs.Lists.ManageTerms.{same_some, untrue}
 use Rattle.sbp_world.proofs.Lists.Quiet.{AllQuiet, IsQuiet}
-use Rattle.sbp_world.proofs.Sessions.HoldingHears.{placed_same}
+use Rattle.sbp_world.proofs.Sessions.HoldingHears.{placed_same, same_login}
 
 -- ---- what an answer says of the packet of the target that waited
 
@@ -154,12 +154,6 @@ module _ (start : List Disk) (before : List Moment) (i : ℕ) (counts : SerialsC
       subst (EachMoment (GoodAt i)) is (good_more front (said note ∷ asked line event ∷ before) q (good_line line event there.1.0 note there.0, (tt, g)))
 
 -- ---- by the initiator of the run
-
-same_login : (underway : Underway) (place : Option ℕ) → work_of (Some underway) ≡ Some (record { operation = operations.Login; place = place }) → Some underway.place ≡ place
-same_login underway place e =
-    let operation : underway.operation ≡ operations.Login = ap (λ (w : Work). w.operation) (same_some _ _ e) in
-    let own : cond (is_management underway.operation) (Some underway.place) None ≡ place = ap (λ (w : Work). w.place) (same_some _ _ e) in
-    ap (λ op. cond (is_management op) (Some underway.place) None) (sym operation) ∙ own
 
 module _ (Good : LoginResponse → Type 0) (start : List Disk) (before : List Moment) (i : ℕ) (ready : Bool) (s : InitiatorState) (c : Cored ready before i s) (held : HoldsLogin before i s) (f : (orb : ℕ) (bytes : List ℕ) → IsTold start before i orb bytes → bytes ≡ good_block orb → (running : Running) → s.operation ≡ Some running → running.operation ≡ operations.Login → Good (login_response (own.response_of running s))) where
   module _ (underway : Underway) (is : (host_at before i).operation ≡ Some underway) (login : underway.operation ≡ operations.Login) where

@@ -20,7 +20,6 @@ use Rattle.mgmt_agent.specs.Machine.{status_block}
 use Rattle.mgmt_agent.specs.Statuses.{number_of}
 use Rattle.orb_layout.specs.declared.ask.Ask.{Ask}
 use Rattle.orb_layout.specs.declared.ask.Ask.TheVariants as asks
-use Rattle.orb_layout.specs.declared.fault.OrbFault.{OrbFault}
 use Rattle.orb_layout.specs.declared.status.StatusBlock.{StatusBlock}
 use Rattle.orb_layout.specs.declared.status.StatusKind.TheVariants as kinds
 use Rattle.orb_layout.specs.Pointers.{offset_at}
@@ -43,20 +42,14 @@ use Rattle.sbp_world.specs.Lists.Contents.{AccessOf, WasAsked, access_for}
 use Rattle.sbp_world.specs.Lists.Tellings.{outgoing_for}
 use Rattle.sbp_world.proofs.Lists.ManageSends.{sent_is, sent_terms}
 use Rattle.sbp_world.proofs.Lists.ManageTerms.{none_is, same_some, untrue}
+use Rattle.sbp_world.proofs.Lists.StatusBytes.{same_block}
+use Rattle.sbp_world.proofs.Hosts.PointerNotes.{older}
+use Rattle.sbp_world.proofs.Lists.StatusManaged.{number_small}
 
 -- ---- the bytes of a status block
 
 abbrev block_of : (orb : ℕ) → Status → StatusBlock
 block_of orb status = record { src = 0; kind = kinds.Management (number_of status); orb = orb }
-
-number_small : (status : Status) → number_of status < 2 ^ 8
-number_small statuses.NoFault = omega arith
-number_small statuses.RequestType = omega arith
-number_small statuses.AccessDenied = omega arith
-number_small statuses.LogicalUnit = omega arith
-number_small statuses.Resources = omega arith
-number_small statuses.FunctionRejected = omega arith
-number_small statuses.LoginId = omega arith
 
 meaning_is : (status : Status) → is_among management_meanings (number_of status) ≡ true
 meaning_is statuses.NoFault = refl
@@ -112,9 +105,6 @@ reads_back place small status =
     ap (λ b. read_block b (status_block orb status)) (names_it place small status)
     ∙ status_back block (record { src = omega arith; managed = λ m. refl; kind = meaning_is status; orb = start_small place small })
 
-same_read : (a b : StatusBlock) (r : Result StatusBlock OrbFault) → r ≡ Ok a → r ≡ Ok b → a ≡ b
-same_read a b r e f = let g = sym e ∙ f in cc
-
 same_number : (m n : ℕ) → kinds.Management m ≡ kinds.Management n → m ≡ n
 same_number m n e = cc
 
@@ -125,7 +115,7 @@ pub record TellsBlock (place : ℕ) (status : Status) (block : StatusBlock) (num
 
 pub tells_block : (place : ℕ) → place < 2 → (status : Status) (block : StatusBlock) (number : ℕ) → status_in (status_block (start_of (windows.Management place)) status) ≡ Ok block → block.kind ≡ kinds.Management number → TellsBlock place status block number
 tells_block place small status block number e kind =
-    let same = same_read block (block_of (start_of (windows.Management place)) status) _ e (reads_back place small status) in
+    let same = same_block block (block_of (start_of (windows.Management place)) status) _ e (reads_back place small status) in
     record {
       number_is = same_number number (number_of status) (sym kind ∙ ap (λ (b : StatusBlock). b.kind) same);
       orb_is = ap (λ (b : StatusBlock). b.orb) same;
@@ -134,7 +124,7 @@ tells_block place small status block number e kind =
 -- two of one ORB with the same bytes have one status
 pub same_status : (place : ℕ) → place < 2 → (one other : Status) → status_block (start_of (windows.Management place)) one ≡ status_block (start_of (windows.Management place)) other → number_of one ≡ number_of other
 same_status place small one other e =
-    let same = same_read (block_of (start_of (windows.Management place)) one) (block_of (start_of (windows.Management place)) other) _ (reads_back place small one) (ap status_in e ∙ reads_back place small other) in
+    let same = same_block (block_of (start_of (windows.Management place)) one) (block_of (start_of (windows.Management place)) other) _ (reads_back place small one) (ap status_in e ∙ reads_back place small other) in
     same_number (number_of one) (number_of other) (ap (λ (b : StatusBlock). b.kind) same)
 
 pub good_status : (status : Status) → number_of status ≡ 0 → (orb : ℕ) → status_block orb status ≡ status_block orb statuses.NoFault
@@ -162,9 +152,6 @@ access_writes (block_write offset payload) ask out access m e w b = sym (ap (λ 
 access_writes (quadlet_read offset) ask out access m e w b = untrue (ap (λ (a : Access). a.is_write) e ∙ w)
 access_writes (block_read offset count) ask out access m e w b = untrue (ap (λ (a : Access). a.is_write) e ∙ w)
 
-other_serial : (serial number count : ℕ) → serial ≤ count → number ≡ count + 1 → nat_eq serial number ≡ false
-other_serial serial number count l e = grind (arith, nat_tests)
-
 -- what was to be written then stays with the serial
 outgoing_stays : (start : List Disk) (later past : List Moment) (serial : ℕ) → SerialsCount (later ++ past) → serial ≤ (terms past).count → outgoing_for start (later ++ past) serial ≡ outgoing_for start past serial
 outgoing_stays start [] past serial c l = refl
@@ -172,7 +159,7 @@ outgoing_stays start (asked line event ∷ later) past serial c l = outgoing_sta
 outgoing_stays start (said (notes.Sent number generation zero to bytes) ∷ later) past serial c l =
     let more = (remains later past c.1).count in
     let count = c.0 in
-    let d = other_serial serial number (terms (later ++ past)).count (omega (arith, l, more)) count in
+    let d = older serial number (terms (later ++ past)).count (omega (arith, l, more)) count in
     ap (λ b. cond b (target_at start (later ++ past)).manager.outgoing (outgoing_for start (later ++ past) serial)) d ∙ outgoing_stays start later past serial c.1 l
 outgoing_stays start (said (notes.Sent number generation (suc j) to bytes) ∷ later) past serial c l = outgoing_stays start later past serial c.1 l
 outgoing_stays start (said note ∷ later) past serial c l = outgoing_stays start later past serial (serials_behind (said note) (later ++ past) c) l

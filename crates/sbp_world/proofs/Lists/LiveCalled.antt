@@ -25,7 +25,7 @@ use Rattle.sbp_world.proofs.Lists.ManageStays.{Calms}
 use Rattle.sbp_world.proofs.Lists.ManageTerms.{none_is, same_some}
 
 -- an operation that is under way at the host is so at the initiator
-no_work : (u : Underway) (found : Option Underway) → found ≡ Some u → work_of found ≡ work_in None → ⊥
+pub no_work : (u : Underway) (found : Option Underway) → found ≡ Some u → work_of found ≡ work_in None → ⊥
 no_work u found e w = none_is _ (sym w ∙ ap (λ (o : Option Underway). work_of o) e)
 
 -- a moment with which a turn may begin, before its first note: nothing, or the beginning of a line

@@ -1,10 +1,11 @@
 -- What a decision on a management ORB leaves of the live logins of its source: where that had none, it has one at most, and none where the status is not 00;
 -- where each that it had is of the ID that a logout names, it has none; and a function that is about no login leaves them.
-use Rattle.std.proofs.Common.{arith, ◌≡◌, ◌≢◌, ◌∙◌, refl, sym, subst, ℕ, ◌==◌, ◌&&◌, not, nat_eq, Bool, true, false, cond, List, set, Option, Some, None, Result, Ok, Err}
+use Rattle.std.proofs.Common.{arith, ◌≡◌, ◌≢◌, ◌∙◌, refl, sym, subst, ℕ, ◌==◌, not, nat_eq, Bool, true, false, cond, List, set, Option, Some, None, Result, Ok, Err}
 use Rattle.std.specs.Prelude.{is_none, position}
 use Rattle.std.proofs.lemmas.Bool.Decides.{nat_tests}
 use Rattle.std.proofs.lemmas.Grind.{get_or-set_at}
 use Rattle.std.proofs.lemmas.List.{get_or-set_other}
+use Rattle.std.proofs.lemmas.Bool.{false≢true}
 use Rattle.login_table.specs.declared.login.Entered.{Entered}
 use Rattle.login_table.specs.declared.login.Login.{Login}
 use Rattle.login_table.specs.declared.login.LoginRefusal.{LoginRefusal}
@@ -23,9 +24,7 @@ use Rattle.mgmt_agent.specs.Statuses.{function_of}
 use Rattle.sbp_world.specs.Lists.Live.{AreNamed, HasLogin, HasNone, HasOne}
 use Rattle.sbp_world.proofs.Lists.LiveTables.{emptied_none, none_login, none_one, other_place, set_one}
 use Rattle.sbp_world.proofs.Sessions.Decisions.{of_id}
-
-no : false ≡ true → ⊥
-no e = cc
+use Rattle.sbp_world.proofs.Hosts.Statuses.Waits.{all_three}
 
 -- a function that makes no login live and ends none
 abbrev pub keeps_logins : Option Function → Bool
@@ -34,13 +33,7 @@ keeps_logins (Some functions.Reconnect) = false
 keeps_logins (Some functions.Logout) = false
 keeps_logins _ = true
 
-all_three : (a b c : Bool) → a ≡ true → b ≡ true → c ≡ true → (a && b && c) ≡ true
-all_three true true true e f g = refl
-all_three false b c e f g = e
-all_three true false c e f g = f
-all_three true true false e f g = g
-
-equals : (a b : ℕ) → a ≡ b → (a == b) ≡ true
+pub equals : (a b : ℕ) → a ≡ b → (a == b) ≡ true
 equals a b e = grind (arith, nat_tests)
 
 -- what a decision leaves
@@ -142,7 +135,7 @@ module _ (orb : ManagementOrb) (source eui : ℕ) (t : Table) (keys : List (List
       none = λ p login f live n.
           let passes : is_live_of orb.subject source login ≡ true =
           all_three (is_live login) (login.login == orb.subject) (login.node == source) live (equals login.login orb.subject (h.named p login f live n)) (equals login.node source n) in
-          no (sym (not_found (is_live_of orb.subject source) t.places p login f e) ∙ passes);
+          false≢true (sym (not_found (is_live_of orb.subject source) t.places p login f e) ∙ passes);
     }
     gone_at (Some k) e = record { none = λ p login f live n. by p login f live n (nat_eq p k) refl }
       where
@@ -165,7 +158,7 @@ module _ (orb : ManagementOrb) (source eui : ℕ) (t : Table) (keys : List (List
 
     gone_if : (b : Bool) (x y : Outcome × Table) → b ≡ true → None_in x → None_in (cond b x y)
     gone_if true x y e p = p
-    gone_if false x y e p = absurd (no e)
+    gone_if false x y e p = absurd (false≢true e)
 
     pub decided_out : (orb.format == 0) ≡ true → function_of orb.function ≡ Some functions.Logout → HasNone (decide orb source eui t keys).1.places source
     unfolding decide
@@ -183,10 +176,10 @@ module _ (orb : ManagementOrb) (source eui : ℕ) (t : Table) (keys : List (List
 
   kept_by : (function : Option Function) → keeps_logins function ≡ true → Keeps (decide_function function orb source eui t keys)
   kept_by None e = refl
-  kept_by (Some functions.Login) e = absurd (no e)
+  kept_by (Some functions.Login) e = absurd (false≢true e)
   kept_by (Some functions.Query) e = refl
-  kept_by (Some functions.Reconnect) e = absurd (no e)
-  kept_by (Some functions.Logout) e = absurd (no e)
+  kept_by (Some functions.Reconnect) e = absurd (false≢true e)
+  kept_by (Some functions.Logout) e = absurd (false≢true e)
   kept_by (Some functions.Abort) e = refl
   kept_by (Some functions.AbortSet) e = refl
   kept_by (Some functions.UnitReset) e = refl
@@ -205,7 +198,7 @@ module _ (orb : ManagementOrb) (source eui : ℕ) (t : Table) (keys : List (List
     good_at None e =
         let passes : is_live_of orb.subject source h.login ≡ true =
         all_three (is_live h.login) (h.login.login == orb.subject) (h.login.node == source) h.live (equals h.login.login orb.subject h.own) (equals h.login.node source h.of_node) in
-        absurd (no (sym (not_found (is_live_of orb.subject source) t.places h.place h.login h.there e) ∙ passes))
+        absurd (false≢true (sym (not_found (is_live_of orb.subject source) t.places h.place h.login h.there e) ∙ passes))
     good_at (Some k) e = refl
 
     good : Good_in (left_decided (leave_step t orb.subject source).0, (leave_step t orb.subject source).1)
@@ -214,7 +207,7 @@ module _ (orb : ManagementOrb) (source eui : ℕ) (t : Table) (keys : List (List
 
     good_if : (b : Bool) (x y : Outcome × Table) → b ≡ true → Good_in x → Good_in (cond b x y)
     good_if true x y e p = p
-    good_if false x y e p = absurd (no e)
+    good_if false x y e p = absurd (false≢true e)
 
     pub decided_good : (orb.format == 0) ≡ true → function_of orb.function ≡ Some functions.Logout → (decide orb source eui t keys).0.status ≡ statuses.NoFault
     unfolding decide

@@ -1,5 +1,6 @@
 -- The ORB in the place of the login or the reconnect that an initiator has under way asks for that: a login with room for its response, or the login of the host.
 use Rattle.std.proofs.Common.{arith, ◌≡◌, ◌∙◌, refl, sym, ap, subst, ℕ, ◌+◌, ◌*◌, ◌/◌, ◌%◌, ◌^◌, ◌<◌, Bool, true, false, List, Option, Some}
+use Rattle.std.proofs.lemmas.Option.{same_Some}
 use Rattle.sbp_world.proofs.Hosts.Hosted.{Cored}
 use Rattle.sbp_world.specs.Hosts.Core.{Core, operation_by, work_in, work_of}
 use Rattle.mgmt_agent.specs.declared.function.Function.TheVariants as functions
@@ -86,8 +87,6 @@ module _ (orb : ManagementOrb) (short : orb.subject < 2 ^ 16) where
       (ap function_of n, read_subject ∙ l.subject)
 
 -- ---- the ORB in the place of the operation under way
-same_operation : (one other : Operation) → Some one ≡ Some other → one ≡ other
-same_operation one other e = cc
 
 module _ (ready : Bool) (past : List Moment) (i : ℕ) (s : InitiatorState) (c : Cored ready past i s) (underway : Underway) (there : (host_at past i).operation ≡ Some underway) (manages : is_management underway.operation ≡ true) (is : IsUnderway past i underway) (short : (underway_orb past i underway).subject < 2 ^ 16) where
   abbrev orb : ManagementOrb
@@ -95,7 +94,7 @@ module _ (ready : Bool) (past : List Moment) (i : ℕ) (s : InitiatorState) (c :
 
   operation_is : (running : Running) → s.operation ≡ Some running → underway.operation ≡ running.operation
   operation_is running e =
-      same_operation underway.operation running.operation
+      same_Some underway.operation running.operation
       (sym (ap (λ (o : Option Underway). operation_by (work_of o)) there) ∙ ap (λ (x : Core). operation_by x.work) c.core ∙ ap (λ (o : Option Running). operation_by (work_in o)) e)
 
   abbrev host : Host

@@ -166,9 +166,6 @@ pub record NewTelling (start : List Disk) (now : List Moment) (i serial place : 
   pub orb : op.orb ≡ start_of (windows.Management place)
   pub bytes : outgoing_for start now serial ≡ (target_at start now).manager.outgoing
 
-itself : (n : ℕ) → nat_eq n n ≡ true
-itself n = grind (arith, nat_tests)
-
 module _ (start : List Disk) (past : List Moment) (i number generation to : ℕ) (bytes : List ℕ) (f : SentFacts start past i number generation 0 bytes) where
   abbrev now : List Moment
   now = said (notes.Sent number generation 0 to bytes) ∷ past

@@ -4,6 +4,7 @@ use Rattle.std.specs.Prelude.{if◌then◌else◌, slice_index_or, slice_set}
 use Rattle.std.proofs.lemmas.Bool.Decides.{nat_tests}
 use Rattle.std.proofs.lemmas.List.{get_or-set_other, length-set}
 use Rattle.std.proofs.lemmas.Grind.{get_or-set_at}
+use Rattle.std.proofs.lemmas.Bool.{false≢true}
 use Rattle.bus_transactions.specs.May.{is_reset}
 use Rattle.bus_transactions.specs.Wire.{Node}
 use Rattle.packet_store.specs.declared.sent.Kept.{Kept}
@@ -62,9 +63,6 @@ use Rattle.sbp_world.proofs.Lists.LiveStandings.{stand_of}
 use Rattle.sbp_world.proofs.Lists.LiveTold.{AwayFrom, HeardFirst, IsAway, IsOwnPacket, TellsAway, first_heard, handed_told, hands_heard, hands_told, judged_away, judged_first, none_told, one_told, posted_told}
 use Rattle.sbp_world.proofs.Lists.LiveTurns.{TargetCall, TurnOf, Turned, acts, by_own, by_sight, delivers, flag_is, hears, key_turn, lapse_turn, lapses, own_turn, quiet_turn, rests, sight_turn, target_turn, tick_turn}
 use Rattle.sbp_world.proofs.Lists.Turned.{IsOne}
-
-no : false ≡ true → ⊥
-no e = cc
 
 -- ---- an initiator acts
 acts_by : (w : WorldState) (line j : ℕ) (action : Action) (r : Option ℕ × Turn) → act_step action empty_outbox (initiator_at w j) ≡ r → Turned w w.fresh (acted_by r line j action w)
@@ -228,13 +226,13 @@ module _ (units ready : ℕ) (has : 0 < units) (start : List Disk) {past : List 
         by false e =
             let apart : nat_eq (suc i) (suc j) ≡ false = grind (arith, nat_tests) in
             let was : initiator_at now i ≡ initiator_at w i =
-            ap (λ xs. slice_index_or xs i (new_state 0 false)) alike.initiators ∙ get_or-set_other w.initiators j i (turn j).1 (new_state 0 false) (λ x. let y : nat_eq i j ≡ true = grind (arith, nat_tests) in no (sym e ∙ y)) in
+            ap (λ xs. slice_index_or xs i (new_state 0 false)) alike.initiators ∙ get_or-set_other w.initiators j i (turn j).1 (new_state 0 false) (λ x. let y : nat_eq i j ≡ true = grind (arith, nat_tests) in false≢true (sym e ∙ y)) in
             by_own (record {
               zero = ap (λ (t : Topology). t.generation) zero_stays;
               id = ap (λ (t : Topology). id_of t (suc i)) zero_stays;
               own = ap (λ (t : Topology). t.generation) (stays_at (suc i) apart);
             }) alike.target (rests (ap (λ (x : InitiatorState). x.operation) was) (ap (λ (x : InitiatorState). x.seat) was))
-            (told_away i (λ same. let y : nat_eq i j ≡ true = grind (arith, nat_tests) in absurd (no (sym e ∙ y))))
+            (told_away i (λ same. let y : nat_eq i j ≡ true = grind (arith, nat_tests) in absurd (false≢true (sym e ∙ y))))
 
     turn_as : (k : ℕ) → k ≡ j → Turned w w.fresh (handed_out (suc j) 0 (turn k).0 (with_initiator k (turn k).1 base))
     turn_as k same = subst (λ n. Turned w w.fresh (handed_out (suc j) 0 (turn n).0 (with_initiator n (turn n).1 base))) (sym same) own_turns

@@ -3,6 +3,7 @@
 -- the operation of the session ends, by a status block of its ORB or by a conflict_error.
 use Rattle.std.proofs.Common.{arith, ◌≡◌, ◌∙◌, refl, sym, ap, ℕ, ◌==◌, nat_eq, Bool, true, false, cond, List, Option, Some, None, Result, Ok, Err}
 use Rattle.std.proofs.lemmas.Bool.Decides.{nat_tests}
+use Rattle.std.proofs.lemmas.Bool.{false≢true}
 use Rattle.config_rom.specs.declared.fault.RomFault.{RomFault}
 use Rattle.config_rom.specs.declared.unit.SbpUnit.{SbpUnit}
 use Rattle.config_rom.specs.Reading.{Tree, reading}
@@ -34,9 +35,6 @@ use Rattle.sbp_session.specs.Moves.{Event, bad, conflict, failed, goes, pointed,
 use Rattle.sbp_session.specs.Seats.{is_stuck_seat}
 use Rattle.sbp_world.proofs.Sessions.Sessions.{drop_seat}
 use Rattle.sbp_world.proofs.Lists.LiveStandings.{stand_of}
-
-no : false ≡ true → ⊥
-no e = cc
 
 -- a session stands as another, and is stuck where that is
 pub record IsLike (before now : Seat) : Type 0 where
@@ -175,18 +173,18 @@ module _ (s : InitiatorState) (Answered : Running → ℕ → Type 0) (Undone : 
 
   -- what the good end of one that moves the session makes of it
   good_is : (running : Running) (operation : Operation) (o : OutboxState) (u : InitiatorState) → moves_session operation ≡ true → good_event operation (response_of running (drop_where (ends_list (Some operation)) o u).1) ≡ good_event operation (response_of running u)
-  good_is running operations.Rom o u m = absurd (no m)
+  good_is running operations.Rom o u m = absurd (false≢true m)
   good_is running operations.Login o u m = refl
-  good_is running operations.Query o u m = absurd (no m)
+  good_is running operations.Query o u m = absurd (false≢true m)
   good_is running operations.Reconnect o u m = refl
   good_is running operations.Logout o u m = refl
-  good_is running operations.Abort o u m = absurd (no m)
-  good_is running operations.AbortSet o u m = absurd (no m)
-  good_is running operations.UnitReset o u m = absurd (no m)
-  good_is running operations.TargetReset o u m = absurd (no m)
-  good_is running operations.AgentReset o u m = absurd (no m)
-  good_is running operations.State o u m = absurd (no m)
-  good_is running operations.Enable o u m = absurd (no m)
+  good_is running operations.Abort o u m = absurd (false≢true m)
+  good_is running operations.AbortSet o u m = absurd (false≢true m)
+  good_is running operations.UnitReset o u m = absurd (false≢true m)
+  good_is running operations.TargetReset o u m = absurd (false≢true m)
+  good_is running operations.AgentReset o u m = absurd (false≢true m)
+  good_is running operations.State o u m = absurd (false≢true m)
+  good_is running operations.Enable o u m = absurd (false≢true m)
 
   dropped_where : (b : Bool) (o : OutboxState) (u : InitiatorState) → Same u → Same (drop_where b o u).1
   dropped_where true o u h = drops o u h

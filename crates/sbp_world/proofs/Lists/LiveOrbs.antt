@@ -1,6 +1,7 @@
 -- The ORB of an operation under way is as the session says: that of a logout names the login, and what neither enters nor leaves keeps the logins.
-use Rattle.std.proofs.Common.{arith, ◌≡◌, ◌∙◌, refl, sym, ap, subst, ℕ, ◌+◌, ◌*◌, ◌/◌, ◌%◌, ◌^◌, ◌<◌, ◌≤◌, Bool, true, false, List, Some, None}
+use Rattle.std.proofs.Common.{arith, ◌≡◌, ◌∙◌, refl, sym, ap, subst, ℕ, ◌+◌, ◌*◌, ◌/◌, ◌%◌, ◌^◌, ◌<◌, ◌≤◌, Bool, true, false, List, Some}
 use Rattle.std.proofs.lemmas.Bool.Decides.{nat_tests}
+use Rattle.std.proofs.lemmas.Option.{same_Some}
 use Rattle.mgmt_agent.specs.declared.function.Function.TheVariants as functions
 use Rattle.mgmt_agent.specs.Statuses.{function_of}
 use Rattle.orb_layout.specs.declared.management.ManagementOrb.{ManagementOrb}
@@ -22,6 +23,7 @@ use Rattle.sbp_world.proofs.Lists.LiveOwn.{enters, quits, two_ways}
 use Rattle.sbp_world.proofs.Lists.LiveStandings.{Stand, apart_leaves, comes, comes_apart, comes_inside, comes_leaves, inside_leaves, leaves}
 use Rattle.sbp_world.proofs.Lists.LiveTargets.{IsMine}
 use Rattle.sbp_world.proofs.Hosts.OrbSpelled.{bit_small}
+use Rattle.sbp_world.proofs.Common.{none_is}
 
 -- ---- what is read of an ORB that was written
 record Fields (q f r n s : ℕ) : Type 0 where
@@ -60,19 +62,10 @@ record IsPlain (operation : Operation) (orb : ManagementOrb) (number : ℕ) : Ty
   function : quits operation ≡ true → function_of orb.function ≡ Some functions.Logout
   subject : quits operation ≡ true → orb.subject ≡ number
 
-same_operation : (one other : Operation) → Some one ≡ Some other → one ≡ other
-same_operation one other e = cc
-
-none_operation : {A : Type 0} (operation : Operation) → None ≡ Some operation → A
-none_operation operation e = absurd (differ e)
-  where
-    differ : None ≡ Some operation → ⊥
-    differ e = cc
-
 -- it keeps the logins
 kept : (one : Operation) → quits one ≡ false → (operation : Operation) → Some one ≡ Some operation → (orb : ManagementOrb) → orb.format ≡ 0 → orb.reconnect ≡ 0 → orb.function < 2 ^ 4 → keeps_logins (function_of orb.function) ≡ true → (number : ℕ) → IsPlain operation orb number
 kept one q operation e orb f r n k number =
-    let same = same_operation one operation e in
+    let same = same_Some one operation e in
     let off : quits operation ≡ false = ap quits (sym same) ∙ q in
     record {
       narrow = record { format = f; reconnect = r; function = n };
@@ -92,25 +85,25 @@ module _ (past : List Moment) (i : ℕ) (host : Host) (place : ℕ) where
   plain_by actions.UnitReset operation e m n = kept operations.UnitReset refl operation e (orb_of actions.UnitReset) refl refl (omega arith) refl host.login.login
   plain_by actions.TargetReset operation e m n = kept operations.TargetReset refl operation e (orb_of actions.TargetReset) refl refl (omega arith) refl host.login.login
   plain_by actions.Logout operation e m n =
-      let same = same_operation operations.Logout operation e in
+      let same = same_Some operations.Logout operation e in
       record {
         narrow = record { format = refl; reconnect = refl; function = omega arith };
         keeps = λ u. two_ways (quits operation) (ap quits (sym same)) u;
         function = λ u. refl;
         subject = λ u. refl;
       }
-  plain_by (actions.Login unit reconnect exclusive password) operation e m n = two_ways (enters operation) (ap enters (sym (same_operation operations.Login operation e))) n
-  plain_by actions.Reconnect operation e m n = two_ways (enters operation) (ap enters (sym (same_operation operations.Reconnect operation e))) n
-  plain_by actions.Rom operation e m n = two_ways (is_management operation) m (ap is_management (sym (same_operation operations.Rom operation e)))
-  plain_by actions.AgentReset operation e m n = two_ways (is_management operation) m (ap is_management (sym (same_operation operations.AgentReset operation e)))
-  plain_by actions.Enable operation e m n = two_ways (is_management operation) m (ap is_management (sym (same_operation operations.Enable operation e)))
-  plain_by actions.State operation e m n = none_operation operation e
-  plain_by (actions.Dummy k) operation e m n = none_operation operation e
-  plain_by (actions.Put cmd) operation e m n = none_operation operation e
-  plain_by (actions.Append cmd) operation e m n = none_operation operation e
-  plain_by actions.Low operation e m n = none_operation operation e
-  plain_by actions.Link operation e m n = none_operation operation e
-  plain_by actions.Ring operation e m n = none_operation operation e
+  plain_by (actions.Login unit reconnect exclusive password) operation e m n = two_ways (enters operation) (ap enters (sym (same_Some operations.Login operation e))) n
+  plain_by actions.Reconnect operation e m n = two_ways (enters operation) (ap enters (sym (same_Some operations.Reconnect operation e))) n
+  plain_by actions.Rom operation e m n = two_ways (is_management operation) m (ap is_management (sym (same_Some operations.Rom operation e)))
+  plain_by actions.AgentReset operation e m n = two_ways (is_management operation) m (ap is_management (sym (same_Some operations.AgentReset operation e)))
+  plain_by actions.Enable operation e m n = two_ways (is_management operation) m (ap is_management (sym (same_Some operations.Enable operation e)))
+  plain_by actions.State operation e m n = none_is operation e
+  plain_by (actions.Dummy k) operation e m n = none_is operation e
+  plain_by (actions.Put cmd) operation e m n = none_is operation e
+  plain_by (actions.Append cmd) operation e m n = none_is operation e
+  plain_by actions.Low operation e m n = none_is operation e
+  plain_by actions.Link operation e m n = none_is operation e
+  plain_by actions.Ring operation e m n = none_is operation e
 
 -- ---- the ORB in the place of the operation that an initiator has under way
 module _ (past : List Moment) (i : ℕ) (underway : Underway) (is : IsUnderway past i underway) (manages : is_management underway.operation ≡ true) where

@@ -3,7 +3,7 @@ use Rattle.std.proofs.Common.{arith, ◌≡◌, ◌∙◌, refl, sym, ap, subst,
 use Rattle.std.proofs.lemmas.Bool.Decides.{nat_tests}
 use Rattle.bus_transactions.specs.Wire.{as_sending}
 use Rattle.sbp_world.proofs.Hosts.Hosted.{Cored}
-use Rattle.sbp_world.specs.Hosts.Core.{Core, work_in, work_of}
+use Rattle.sbp_world.specs.Hosts.Core.{Core, work_in}
 use Rattle.sbp_world.specs.Hosts.Runs.{more_deliveries}
 use Rattle.sbp_initiator.specs.Histories.Begins.{IsFree as FreeFor}
 use Rattle.packet_store.specs.declared.sent.Kept.{Kept}
@@ -44,16 +44,14 @@ use Rattle.sbp_world.proofs.Lists.ManageFirsts.{Goes as HostGoes, goes_then, lin
 use Rattle.sbp_world.proofs.Lists.ManageMoments.{Hands}
 use Rattle.sbp_world.proofs.Lists.ManageOwn.{AtHost, at_host}
 use Rattle.sbp_world.proofs.Lists.ManageTerms.{none_is, same_some}
+use Rattle.sbp_world.proofs.Common.{said_split}
+use Rattle.sbp_world.proofs.Lists.LiveCalled.{no_work}
 
 -- ---- the notes of a turn
 
-split : (a b : List Note) (past : List Moment) → map said (a ++ b) ++ past ≡ map said a ++ (map said b ++ past)
-split [] b past = refl
-split (note ∷ a) b past = ap (λ ms. said note ∷ ms) (split a b past)
-
 -- what stands behind the notes that there were
 pub away_is : {i own : ℕ} {kept : List Kept} {base fresh : List Note} (a : AwayFrom i own kept base fresh) (later : List Moment) → map said fresh ++ later ≡ map said a.more ++ (map said base ++ later)
-away_is {i} {own} {kept} {base} {fresh} a later = ap (λ (ns : List Note). map said ns ++ later) a.is ∙ split a.more base later
+away_is {i} {own} {kept} {base} {fresh} a later = ap (λ (ns : List Note). map said ns ++ later) a.is ∙ said_split a.more base later
 
 pub hands_behind : (start : List Disk) (i : ℕ) (ns : List Note) (base : List Moment) → Hands start i (map said ns ++ base) → Hands start i base
 hands_behind start i [] base h = h
@@ -126,9 +124,6 @@ opened_over start i past s later t (by_line past0 s0 line event told one fit may
 opened_over start i past s later t (by_start past0 s0 line most) h = line_over start line (more_deliveries most) (hist past s.world) i h.0
 opened_over start i past s later t (by_delivery past0 s0 one may no_acts) h = over_self start (hist past s.world) i
 opened_over start i past s later t (by_end past0 s0 done) h = over_self start (hist past s.world) i
-
-no_work : (u : Underway) (found : Option Underway) → found ≡ Some u → work_of found ≡ work_in None → ⊥
-no_work u found e w = none_is _ (sym w ∙ ap (λ (o : Option Underway). work_of o) e)
 
 module _ (units ready : ℕ) (start : List Disk) (past : List Moment) (s : Scene) (later : List Moment) (t : Scene) {lines : ℕ} (g : Goes past s later t) (h : Holding units ready start past lines s.world) (i : ℕ) (inside : i < length s.world.initiators) where
   abbrev w : WorldState

@@ -2,6 +2,7 @@
 -- where it is stuck and no management operation is under way.
 use Rattle.std.proofs.Common.{arith, ◌≡◌, ◌∙◌, refl, sym, ap, ◌⊎◌, ℕ, ◌==◌, Bool, true, false, cond, List, Option, Some, None}
 use Rattle.std.proofs.lemmas.Bool.Decides.{nat_tests}
+use Rattle.std.proofs.lemmas.Bool.{false≢true}
 use Rattle.sbp_world.proofs.Hosts.Knowing.{Sits}
 use Rattle.sbp_world.specs.Hosts.Core.{session_in}
 use Rattle.orb_layout.specs.declared.login.LoginResponse.{LoginResponse}
@@ -17,12 +18,7 @@ use Rattle.sbp_session.specs.Moves.{bad, conflict, goes}
 use Rattle.sbp_session.specs.Seats.{is_stuck_seat}
 use Rattle.sbp_world.proofs.Lists.LiveMoves.{IsLike, told_event}
 use Rattle.sbp_world.proofs.Lists.LiveStandings.{apart, comes, inside, leaves, stand_of}
-
-no : false ≡ true → ⊥
-no e = cc
-
-untrue : {A : Type 0} → false ≡ true → A
-untrue e = absurd (no e)
+use Rattle.sbp_world.proofs.Common.{untrue}
 
 -- a management operation is under way
 abbrev pub in_hand : Option Running → Bool
@@ -122,7 +118,7 @@ is_zero : (status : ℕ) → (status == 0) ≡ true → status ≡ 0
 is_zero status e = grind (arith, nat_tests)
 
 not_zero : (status : ℕ) → (status == 0) ≡ false → status ≡ 0 → ⊥
-not_zero status e f = (let g : (status == 0) ≡ true = grind (arith, nat_tests) in no (sym e ∙ g))
+not_zero status e f = (let g : (status == 0) ≡ true = grind (arith, nat_tests) in false≢true (sym e ∙ g))
 
 module _ (status : ℕ) (response : List ℕ) where
   abbrev Now : Operation → Bool → Seat → Seat

@@ -20,13 +20,11 @@ use Rattle.sbp_world.proofs.Lists.LiveActs.{Acted, IsReset, Sends, begins, comes
 use Rattle.sbp_world.proofs.Lists.LiveMoves.{IsLike, Moved, answers, ends, gives_up, rests, undoes}
 use Rattle.sbp_world.proofs.Lists.LiveOwn.{Came, Fit, GaveUp, Undid, came, enters_moves, granted_back, granted_in, in_again, in_hand, is_entry, is_exit, moves_managed, not_up, out_again, quits_moves, refused_in, still_stuck, stuck_still, two_ways, undid, up_like, went_out}
 use Rattle.sbp_world.proofs.Lists.LiveStandings.{Claims, Stand, apart, apart_comes, apart_leaves, claims_apart, claims_comes, claims_inside, claims_kept, claims_leaves, claims_quiet, comes, good_block, inside, inside_comes, inside_leaves, leaves, leaves_comes, comes_leaves, stand_of}
+use Rattle.sbp_world.proofs.Common.{untrue}
 
 -- an operation that moves the session is management, and in hand
 moving_hand : {A : Type 0} (operation : Option Running) (seat : Seat) (running : Running) → operation ≡ Some running → moves_session running.operation ≡ true → GaveUp operation seat → A
 moving_hand operation seat running is m g = two_ways (in_hand operation) (ap in_hand is ∙ moves_managed running.operation m) g.none
-
-none_in : {A : Type 0} → false ≡ true → A
-none_in e = absurd (let no : false ≡ true = e in cc)
 
 other : {A : Type 0} (one two three : Stand) → one ≡ two → one ≡ three → (two ≡ three → A) → A
 other one two three e f x = x (sym e ∙ f)

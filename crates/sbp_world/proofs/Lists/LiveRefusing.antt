@@ -1,5 +1,5 @@
 -- No response of conflict_error ends the operation of an initiator whose write started an operation of the target: such a response answers that write, and was given to it.
-use Rattle.std.proofs.Common.{arith, ◌≡◌, ◌∙◌, refl, sym, ap, subst, ℕ, suc, ◌<◌, Bool, true, false, cond, List, [], ◌∷◌, ◌++◌, map, length, Option, Some, None, Result, Ok, Err}
+use Rattle.std.proofs.Common.{arith, ◌≡◌, ◌∙◌, refl, sym, ap, subst, ℕ, suc, ◌<◌, Bool, true, false, cond, List, ◌∷◌, ◌++◌, map, length, Option, Some, None, Result, Ok, Err}
 use Rattle.std.specs.Option.{IfSome}
 use Rattle.std.proofs.lemmas.Bool.Decides.{nat_tests}
 use Rattle.async_packet.specs.declared.fault.PacketFault.{PacketFault}
@@ -28,7 +28,6 @@ use Rattle.sbp_initiator.specs.declared.purpose.Purpose.{Purpose}
 use Rattle.sbp_initiator.specs.declared.purpose.Purpose.TheVariants as purposes
 use Rattle.sbp_initiator.specs.declared.purpose.Running.{Running}
 use Rattle.sbp_initiator.specs.declared.state.InitiatorState.{InitiatorState}
-use Rattle.sbp_initiator.specs.Effects.{is_conflict}
 use Rattle.sbp_initiator.specs.Receiving.{receive_step}
 use Rattle.sbp_journal.specs.Outgoings.{empty_outbox}
 use Rattle.sbp_journal.specs.Run.{Moment, asked, said}
@@ -39,7 +38,6 @@ use Rattle.sbp_journal.specs.declared.event.Event.{Event}
 use Rattle.sbp_journal.specs.declared.note.Note.{Note}
 use Rattle.sbp_journal.specs.declared.note.Note.TheVariants as notes
 use Rattle.sbp_laws.specs.Hosts.{Underway, host_at, is_management}
-use Rattle.sbp_laws.specs.Turns.{EachMoment}
 use Rattle.sbp_world.specs.Runs.{after, beginning}
 use Rattle.sbp_world.specs.Worlds.{Scene, WorldState, initiator_at}
 use Rattle.sbp_world.proofs.Agents.Management.Holding.{Holding, is_of, past_terms, was_sent}
@@ -65,11 +63,13 @@ use Rattle.sbp_world.proofs.Lists.ManageHand.{InHand, Own}
 use Rattle.sbp_world.proofs.Lists.ManageLabels.{AskedFor}
 use Rattle.sbp_world.proofs.Lists.ManageMoments.{Hands, IsAnswer, MayHand, TakeFacts}
 use Rattle.sbp_world.proofs.Lists.ManageNotes.{none_taken}
-use Rattle.sbp_world.proofs.Lists.ManageOwn.{AtHost, at_host}
+use Rattle.sbp_world.proofs.Lists.ManageOwn.{AtHost, at_host, conflict_is}
 use Rattle.sbp_world.proofs.Lists.ManageRuns.{Managed, first_managed, managed_carried}
 use Rattle.sbp_world.proofs.Lists.ManageSends.{opened_terms}
 use Rattle.sbp_world.proofs.Lists.ManageTerms.{same_some, untrue}
 use Rattle.sbp_world.proofs.Lists.OpenedNotes.{split}
+use Rattle.sbp_world.proofs.Lists.StatusKnown.{each_from}
+use Rattle.sbp_world.proofs.Lists.BufferGets.{judged_from}
 
 -- ---- the label that a response closes has the number in its header
 
@@ -171,9 +171,6 @@ module _ (serial : ℕ) (past : List Moment) (q : Sending) (sent : (terms past).
 
 -- ---- the response is to the write of the operation
 
-conflict_is : (rcode : ℕ) → is_conflict rcode ≡ true → rcode ≡ 4
-conflict_is rcode e = grind (arith, nat_tests)
-
 module _ (ready : Bool) (start : List Disk) (serial generation : ℕ) (bytes : List ℕ) (past : List Moment) (i : ℕ) (s : InitiatorState) (cored : Cored ready past i s) (aimed : IsAimed ready i s) (h : InHand start past i s) (f : TakeFacts start past i serial) (got : may_get (row_of (facts_of (terms past) f.packet)) ≡ true) (from_is : f.packet.from ≡ 0) (to_is : f.packet.to ≡ suc i) (bytes_are : f.packet.bytes ≡ bytes) (own_generation : s.layer.generation ≡ (terms past).generation (suc i)) (r : Running) (undone : IsUndone s generation bytes r) (known : (u : Underway) → (host_at past i).operation ≡ Some u → (is_management u.operation ≡ true) × IsAccepted start past u.first) where
   abbrev p : Packet
   p = undone.packet
@@ -257,18 +254,6 @@ managed_everywhere = record {
       };
 }
 
--- what is left of moments
-moments_from : (A : Moment → List Moment → Type 0) (a b : List Moment) → EachMoment A (a ++ b) → EachMoment A b
-moments_from A [] b h = h
-moments_from A (m ∷ a) b h = moments_from A a b h.1
-
-judged_from : (a b : List Moment) → AreJudged (a ++ b) → AreJudged b
-judged_from [] b h = h
-judged_from (said (notes.Got serial) ∷ a) b h = judged_from a b h.1
-judged_from (said (notes.Ignored serial cause) ∷ a) b h = judged_from a b h.1
-judged_from (said note ∷ a) b h = judged_from a b h
-judged_from (asked line event ∷ a) b h = judged_from a b h
-
 -- where the turn begins
 at_base : {past : List Moment} {s : Scene} {later : List Moment} {t : Scene} (g : Goes past s later t) (ready : Bool) (start : List Disk) (i : ℕ) (x : InitiatorState) → Managed ready start (hist past s.world) i x → Managed ready start (map said (base_of g) ++ later) i x
 at_base (by_line past s line event told one fit may) ready start i x h = (managed_carried ready start).asked line event (hist past s.world) i x h
@@ -321,7 +306,7 @@ module _ (units ready : ℕ) (start : List Disk) {past : List Moment} {s : Scene
       ∙ ap (λ j. map said heard.more ++ said (judged_note serial j) ∷ base) judged_is)
 
   hands_here : Hands start i got_now
-  hands_here = moments_from (MayHand start i) (map said heard.more) got_now (subst (Hands start i) now_is hands)
+  hands_here = each_from (MayHand start i) (map said heard.more) got_now (subst (Hands start i) now_is hands)
 
   judged_here : AreJudged got_now
   judged_here = judged_from (map said heard.more) got_now (subst AreJudged now_is judged)

@@ -1,5 +1,5 @@
 -- The logins of the initiators' nodes over the runs, where the two ends of the management go together at each turn.
-use Rattle.std.proofs.Common.{inr, inl, arith, ◌≡◌, ◌∙◌, refl, sym, ap, subst, ℕ, suc, ◌+◌, ◌<◌, ◌≤◌, Bool, true, false, List, [], ◌∷◌, ◌++◌, map, length, Option, Some, None}
+use Rattle.std.proofs.Common.{inr, inl, arith, ◌≡◌, ◌∙◌, refl, sym, ap, subst, ℕ, suc, ◌+◌, ◌<◌, ◌≤◌, Bool, true, List, [], ◌∷◌, ◌++◌, map, length, Option, Some}
 use Rattle.sbp_world.proofs.Hosts.Carried.{between_runs, of_runs}
 use Rattle.sbp_world.proofs.Hosts.Hosted.{Cored, cored_carried, first_cored}
 use Rattle.sbp_world.proofs.Hosts.Runs.{count_after, count_between}
@@ -18,7 +18,7 @@ use Rattle.sbp_target.specs.Nodes.{NodeState, login_at}
 use Rattle.sbp_world.specs.Histories.{history_of, moments_behind}
 use Rattle.sbp_world.specs.Making.{ready_logins}
 use Rattle.sbp_world.specs.Runs.{Run, after, beginning}
-use Rattle.sbp_world.specs.Settling.{MayAll, after_all, delivered_at, delivered_next, lowest}
+use Rattle.sbp_world.specs.Settling.{MayAll, after_all, delivered_next}
 use Rattle.sbp_world.specs.Worlds.{Scene, WorldState, begun, initiator_at, without_notes}
 use Rattle.sbp_world.proofs.Wire.Sizes.{Sizes, happens_keeps}
 use Rattle.sbp_world.proofs.Agents.Management.Holding.{Holding, known_id}
@@ -33,7 +33,6 @@ use Rattle.sbp_world.proofs.Lists.Beside.{AreDone, all_done, beside_before, own_
 use Rattle.sbp_world.proofs.Lists.Judging.{goes_next, grown}
 use Rattle.sbp_world.proofs.Lists.Calm.{asked_calm, calm_before}
 use Rattle.sbp_world.proofs.Lists.Courses.{EveryPlace, Goes, Keeps, at_between, at_lines, by_delivery, by_end, by_line, by_start, more_than_one}
-use Rattle.sbp_world.proofs.Lists.Extends.{Extends, delivered_extends, extends_none}
 use Rattle.sbp_world.proofs.Lists.LiveBegins.{first_grown, first_lives}
 use Rattle.sbp_world.proofs.Lists.LiveKept.{turn_kept}
 use Rattle.sbp_world.proofs.Lists.LiveLines.{end_turn, line_turn, next_turn}
@@ -42,6 +41,9 @@ use Rattle.sbp_world.specs.Lists.FewLogins.{IsCalmBeside, IsTameOrFew}
 use Rattle.sbp_world.proofs.Lists.LiveSteps.{Alive, Grown, Helps, Knows, Lives, id_in, own_of, zero_of}
 use Rattle.sbp_world.proofs.Lists.LiveTold.{none_told}
 use Rattle.sbp_world.proofs.Lists.LiveTurns.{OwnCall, TargetCall, TurnOf, Turned, acts, by_clearing, by_own, by_sight, by_target, delivers, hears, lapses, quiet_turn, rests, still}
+use Rattle.sbp_world.proofs.Lists.Runs.{hist_more}
+use Rattle.sbp_world.proofs.Lists.OpenedBeside.{next_extends}
+use Rattle.sbp_world.proofs.Common.{said_split}
 
 -- ---- what is known at each place of every run
 pub record IsCored (past : List Moment) (i : ℕ) (s : InitiatorState) : Type 0 where
@@ -128,27 +130,12 @@ goes_size past s later t (by_delivery past0 s0 one may no_act) = (next_turn one 
 goes_size past s later t (by_end past0 s0 done) = refl
 
 -- ---- who is calm behind a turn was before
-split : (a b : List Note) (past : List Moment) → map said (a ++ b) ++ past ≡ map said a ++ (map said b ++ past)
-split [] b past = refl
-split (n ∷ a) b past = ap (λ ms. said n ∷ ms) (split a b past)
-
-more_calm : (old new : List Note) (past : List Moment) → Extends old new → (i : ℕ) → IsCalm (map said new ++ past) i → IsCalm (map said old ++ past) i
-more_calm old new past e i c =
-    calm_before (map said e.more) (map said old ++ past) i (subst (λ ms. IsCalm ms i) (ap (λ ns. map said ns ++ past) (sym e.is) ∙ split e.more old past) c)
-
-next_extends : (one : Option Told) (s : Scene) → Extends s.world.fresh (delivered_next one s).world.fresh
-unfolding delivered_next
-next_extends one s = by (lowest s.world)
-  where
-    by : (o : Option ℕ) → Extends s.world.fresh (delivered_at o one s).world.fresh
-    by None = extends_none s.world.fresh
-    by (Some serial) = delivered_extends serial false one s
 
 pub goes_calm : (past : List Moment) (s : Scene) (later : List Moment) (t : Scene) → Goes past s later t → (i : ℕ) → IsCalm (hist later t.world) i → IsCalm (hist past s.world) i
 goes_calm past s later t (by_line past0 s0 line event told one fit may) i c =
     asked_calm line event (hist past s.world) i (calm_before (map said t.world.fresh) (asked line event ∷ hist past s.world) i c)
 goes_calm past s later t (by_start past0 s0 line most) i c = asked_calm line (more_deliveries most) (hist past s.world) i c
-goes_calm past s later t (by_delivery past0 s0 one may no_act) i c = more_calm s.world.fresh (delivered_next one s).world.fresh past (next_extends one s) i c
+goes_calm past s later t (by_delivery past0 s0 one may no_act) i c = hist_more s.world.fresh (delivered_next one s).world.fresh past (next_extends one s) i c
 goes_calm past s later t (by_end past0 s0 done) i c = calm_before (said (end_note done) ∷ []) (hist past s.world) i c
 
 pub goes_tame : (past : List Moment) (s : Scene) (later : List Moment) (t : Scene) → Goes past s later t → IsTame (hist later t.world) → IsTame (hist past s.world)

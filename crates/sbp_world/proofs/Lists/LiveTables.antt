@@ -3,14 +3,12 @@ use Rattle.std.proofs.Common.{arith, ◌≡◌, ◌≢◌, ◌∙◌, refl, sym,
 use Rattle.std.proofs.lemmas.Bool.Decides.{nat_tests}
 use Rattle.std.proofs.lemmas.Grind.{get_or-set_at}
 use Rattle.std.proofs.lemmas.List.{get_or-set_other, set_past}
+use Rattle.std.proofs.lemmas.Bool.{false≢true}
 use Rattle.login_table.specs.declared.login.Login.{Login}
 use Rattle.login_table.specs.Sound.{IsSound}
 use Rattle.login_table.specs.Table.{is_live, place_at}
 use Rattle.sbp_world.specs.Sessions.Standing.{AreSame}
 use Rattle.sbp_world.specs.Lists.Live.{AreNamed, HasLogin, HasNone, HasOne}
-
-no : false ≡ true → ⊥
-no e = cc
 
 pub none_login : {A : Type 0} (login : Login) → None ≡ Some login → A
 none_login login e = absurd (differ e)
@@ -19,7 +17,7 @@ none_login login e = absurd (differ e)
     differ e = cc
 
 pub other_place : (p k : ℕ) → nat_eq p k ≡ false → p ≢ k
-other_place p k q same = let yes : nat_eq p k ≡ true = grind (arith, nat_tests) in no (sym q ∙ yes)
+other_place p k q same = let yes : nat_eq p k ≡ true = grind (arith, nat_tests) in false≢true (sym q ∙ yes)
 
 module _ (id : ℕ) where
   -- ---- where the node has none

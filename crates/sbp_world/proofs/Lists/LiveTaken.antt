@@ -14,18 +14,13 @@ use Rattle.sbp_world.specs.Lists.Live.{HasGivenUp}
 use Rattle.sbp_world.specs.Lists.Managing.{IsBusy, IsHandling, IsManaged, IsRest, IsServed, IsTelling}
 use Rattle.sbp_world.specs.Lists.Tellings.{IsTaken, IsTold}
 use Rattle.sbp_world.proofs.Lists.LiveOwn.{two_ways}
+use Rattle.sbp_world.proofs.Common.{none_is}
 
 status_written : (phase : Phase) → phase ≡ phases.Status → is_written phase ≡ true
 status_written phase e = ap is_written e
 
 same_underway : (one other : Underway) → Some one ≡ Some other → one ≡ other
 same_underway one other e = cc
-
-none_underway : {A : Type 0} (underway : Underway) → None ≡ Some underway → A
-none_underway underway e = absurd (differ e)
-  where
-    differ : None ≡ Some underway → ⊥
-    differ e = cc
 
 -- the operation under way, which the target handles
 pub record IsOwnHandled (start : List Disk) (past : List Moment) (i place : ℕ) : Type 0 where
@@ -57,7 +52,7 @@ module _ (start : List Disk) (past : List Moment) (i : ℕ) (m : IsManaged start
       by false e = let l : 0 < (terms past).news underway.first = grind (arith, nat_tests) in judged l (b.judged l)
 
   hand_by : (o : Option Underway) → (host_at past i).operation ≡ o → Hand
-  hand_by None e = free_hand (λ underway is. none_underway underway (sym e ∙ is)) (is_stuck (host_at past i).session) refl
+  hand_by None e = free_hand (λ underway is. none_is underway (sym e ∙ is)) (is_stuck (host_at past i).session) refl
   hand_by (Some underway) e = by (is_management underway.operation) refl
     where
       by : (b : Bool) → is_management underway.operation ≡ b → Hand

@@ -2,6 +2,7 @@
 -- operation, and of each call that brings no reply.
 use Rattle.std.proofs.Common.{arith, ◌≡◌, ◌≢◌, ◌∙◌, refl, sym, ap, subst, ◌⊎◌, inl, inr, ℕ, ◌==◌, nat_eq, Bool, true, false, List, Option, Some, None}
 use Rattle.std.proofs.lemmas.Bool.Decides.{nat_tests}
+use Rattle.std.proofs.lemmas.Bool.{false≢true}
 use Rattle.login_table.specs.declared.login.Login.{Login}
 use Rattle.login_table.specs.Sound.{IsTable}
 use Rattle.login_table.specs.Table.{Table}
@@ -31,9 +32,6 @@ use Rattle.sbp_world.proofs.Lists.LiveDecides.{LeavesOne, decided_good, decided_
 use Rattle.sbp_world.proofs.Lists.LiveReplies.{IsDecidedOn, Logged, decides, granted, reads, responds, stands}
 use Rattle.sbp_world.proofs.Lists.LiveStandings.{Claims, Says, Stand, Unread, apart, comes, good_block, inside, leaves, none_number, number_in}
 use Rattle.sbp_world.proofs.Lists.LiveTables.{none_named, none_one, same_has, same_named, same_none, same_one}
-
-no : false ≡ true → ⊥
-no e = cc
 
 good_or : (s : Status) → (s ≡ statuses.NoFault) ⊎ (s ≢ statuses.NoFault)
 good_or statuses.NoFault = inl refl
@@ -244,7 +242,7 @@ module _ (id : ℕ) (Served Active Now Acts : Type 0) (Tells Waits : ℕ → Lis
         subst (λ (t : Table). AreSame id before t.places) (sym d.left_is) (others_stand id d.on.orb d.on.source d.on.eui (λ e. other (sym d.source_is ∙ e)) node.logins node.keys)
 
     not_own : (source : ℕ) → nat_eq source id ≡ false → source ≡ id → ⊥
-    not_own source e same = let yes : nat_eq source id ≡ true = grind (arith, nat_tests) in no (sym e ∙ yes)
+    not_own source e same = let yes : nat_eq source id ≡ true = grind (arith, nat_tests) in false≢true (sym e ∙ yes)
 
     by_logged : (p : Packet) (label : LabelParts) → (judging_step node.layer generation bytes).0 ≡ of_response p label (Some purposes.Management) → Logged node.manager node.logins node.keys (answer_in p) now.logins → Kept
     by_logged p label found (stands e) = kept_same (subst (λ (t : Table). AreSame id before t.places) (sym e) (same id before))
@@ -281,8 +279,8 @@ module _ (id : ℕ) (Served Active Now Acts : Type 0) (Tells Waits : ℕ → Lis
     was_there op e is = sym (ap (λ (m : Machine). m.operation) e) ∙ is
 
     both : {A : Type 0} (b : Bool) → b ≡ true → b ≡ false → A
-    both true e f = absurd (no (sym f))
-    both false e f = absurd (no e)
+    both true e f = absurd (false≢true (sym f))
+    both false e f = absurd (false≢true e)
 
     reading_now : (op : Operation) → now.manager.operation ≡ Some op → op.source ≡ id → is_written op.phase ≡ false → HasOperation node generation bytes now op → Unread stand after id
     reading_now op is own f (stays m l) = unread_same (equal l) (c.reading op (was_there op m is) own f)

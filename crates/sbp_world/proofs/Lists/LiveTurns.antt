@@ -5,6 +5,7 @@ use Rattle.std.specs.Prelude.{slice_index_or}
 use Rattle.std.proofs.lemmas.Bool.Decides.{nat_tests}
 use Rattle.std.proofs.lemmas.List.{get_or-set_other}
 use Rattle.std.proofs.lemmas.Grind.{get_or-set_at}
+use Rattle.std.proofs.lemmas.Bool.{false≢true}
 use Rattle.async_packet.specs.Labels.{LabelParts}
 use Rattle.bus_transactions.specs.Wire.{Node}
 use Rattle.label_table.specs.declared.reply.Stale.{Stale}
@@ -58,9 +59,6 @@ use Rattle.sbp_world.proofs.Lists.LiveTold.{AwayFrom, HeardFirst, TargetTold, Te
 use Rattle.sbp_world.proofs.Lists.LiveCalls.{StandsStill, key_still, lapse_still, second_still, sight_clears, sight_owns, sight_still, sight_table}
 use Rattle.sbp_world.proofs.Lists.IdsRise.{IsStill}
 use Rattle.sbp_world.proofs.Lists.OwnTables.{Owns}
-
-no : false ≡ true → ⊥
-no e = cc
 
 -- ---- what is the same
 -- The generation of the target, the ID of an initiator's node in it, and the generation of that node are as they were.
@@ -142,7 +140,7 @@ own_turn w base v j state a c away i l = by_own (alike_bus i w (with_initiator j
         let inside : j < length w.initiators = omega (arith, l, same) in
         subst (OwnCall w i base v.fresh) (sym (now_is ∙ get_or-set_at w.initiators j i state (new_state 0 false) same inside)) (c i same l)
     by false e =
-        let was : initiator_at v i ≡ initiator_at w i = now_is ∙ get_or-set_other w.initiators j i state (new_state 0 false) (λ x. let y : nat_eq i j ≡ true = grind (arith, nat_tests) in no (sym e ∙ y)) in
+        let was : initiator_at v i ≡ initiator_at w i = now_is ∙ get_or-set_other w.initiators j i state (new_state 0 false) (λ x. let y : nat_eq i j ≡ true = grind (arith, nat_tests) in false≢true (sym e ∙ y)) in
         rests (ap (λ (x : InitiatorState). x.operation) was) (ap (λ (x : InitiatorState). x.seat) was)
 
 pub flag_is : {A : Type 0} (layer : Layer A) (generation id : ℕ) → (seeing_step layer generation id).0 ≡ nat_lt layer.generation generation

@@ -36,6 +36,7 @@ use Rattle.sbp_world.proofs.Lists.Stays.{stays_end, ready_now}
 use Rattle.sbp_world.proofs.Lists.Turned.{IsOne}
 use Rattle.sbp_world.proofs.Lists.Walks.{Turn, by_delivery, by_end, by_line, by_start}
 use Rattle.std.proofs.lemmas.Bool.Decides.{nat_tests}
+use Rattle.std.proofs.lemmas.Bool.{false≢true}
 use Rattle.label_table.specs.declared.reply.Stale.{Stale}
 use Rattle.label_table.specs.Layer.{Layer, expiring_step, judging_step}
 use Rattle.packet_store.specs.Stored.{deliver_step}
@@ -63,9 +64,6 @@ use Rattle.command_agent.specs.declared.step.Which.{Which}
 use Rattle.sbp_target.specs.Desks.{which_in}
 use Rattle.command_agent.specs.Steps.{reply_step}
 use Rattle.sbp_target.specs.Receiving.{answer_in}
-
-no : false ≡ true → ⊥
-no e = cc
 
 -- ---- the packet that is delivered in a turn, and what is told by it
 abbrev pub line_heard : Event → List (Option Told) → ℕ → Option Told → Type 0
@@ -116,12 +114,12 @@ module _ (G : ℕ → Machine → Type 0) (closed : IsClosed G) where
         where
           by : (x : Bool) → nat_eq q p ≡ x → G q (desk_at s.node q).agent
           by true e = let same : p ≡ q = grind (arith, nat_tests) in subst (λ j. G j (desk_at s.node j).agent) same (a.full tt (o p c))
-          by false e = subst (λ m. G q m) (sym (a.same q (λ same. no (sym e ∙ (let z : nat_eq q p ≡ true = grind (arith, nat_tests) in z))))) (o q b)
+          by false e = subst (λ m. G q m) (sym (a.same q (λ same. false≢true (sym e ∙ (let z : nat_eq q p ≡ true = grind (arith, nat_tests) in z))))) (o q b)
       call_full layer s (points p c a) q b = by (nat_eq q p) refl
         where
           by : (x : Bool) → nat_eq q p ≡ x → G q (desk_at s.node q).agent
           by true e = let same : p ≡ q = grind (arith, nat_tests) in subst (λ j. G j (desk_at s.node j).agent) same (a.full tt (o p c))
-          by false e = subst (λ m. G q m) (sym (a.same q (λ same. no (sym e ∙ (let z : nat_eq q p ≡ true = grind (arith, nat_tests) in z))))) (o q b)
+          by false e = subst (λ m. G q m) (sym (a.same q (λ same. false≢true (sym e ∙ (let z : nat_eq q p ≡ true = grind (arith, nat_tests) in z))))) (o q b)
 
       called : (u : WorldState) (layer : Layer Purpose) (s : TargetScene) → u.target ≡ s.node → Called w f.ready.good (Unit {0}) G closed layer s → F (handed_out 0 0 s.outbox u)
       called u layer s is c q b = subst (λ (t : NodeState). G q (desk_at t q).agent) (sym ((handed_alike 0 0 s.outbox u).target ∙ is)) (call_full layer s c q b)

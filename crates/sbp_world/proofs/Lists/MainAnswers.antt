@@ -22,14 +22,13 @@ use Rattle.sbp_journal.specs.declared.operation.FunctionWord.TheVariants as func
 use Rattle.sbp_laws.specs.Packets.{access_at, access_in_bytes, answer_in, answered_at, id_for, packet_at, receiver_in, sender_in}
 use Rattle.sbp_laws.specs.Targets.{Agent, Decided, Purpose, Reply, Target, agent_at, effect_on, enters_in, for_agent, for_manager, for_nobody, got_by, is_own_run, is_serial, is_write_access, key_by, known_at, managed_by, manager_step, new_agent, over, purpose_among, purpose_of, replied, replied_to, reset_seen, sent_as, sent_for, taken_on, target_at, wants, wants_it}
 use Rattle.sbp_laws.specs.Turns.{event_of}
-use Rattle.sbp_laws.proofs.Going.{going_rests, run_rests, taken_rests}
+use Rattle.sbp_laws.proofs.Going.{going_rests, run_rests}
 use Rattle.sbp_world.specs.Agents.Crews.{agent_in}
 use Rattle.sbp_world.specs.Lists.LetsGo.{IsAnswered, IsClosing, WasClosed}
 use Rattle.sbp_world.proofs.Lists.PointersGot.{requests_got}
 use Rattle.sbp_world.proofs.Lists.ReplyOffices.{serial_there}
-
-no : {A : Type 0} → false ≡ true → A
-no e = absurd (let x : false ≡ true = e in cc)
+use Rattle.sbp_world.proofs.Common.{untrue}
+use Rattle.sbp_world.proofs.Agents.Asides.{over_none}
 
 -- ---- what is for an agent's main transaction is that
 record IsMainAt (from place serial : ℕ) (agents : List Agent) : Type 0 where
@@ -76,9 +75,6 @@ rests t x e place serial h = absurd (unanswered x.reply place e h.0)
 self : (t : Target) → Old t t
 self t place serial h = h
 
-over_none : (t : Target) → (over t).reply ≡ None
-over_none t = taken_rests None t.reply t refl
-
 affects : (effect : Effect) (t : Target) → (effect_on effect t).reply ≡ t.reply
 affects (effects.Left place) t = refl
 affects (effects.Abort place orb) t = refl
@@ -90,7 +86,7 @@ affects _ t = refl
 manages_by : (r : ManagerStep × (manager.Machine × Table)) (answer : Answer) (t : Target) → (managed_by r answer t).reply ≡ t.reply
 manages_by (step, (machine, table)) answer t = affects step.effect _
 
-sends_for : (place : Option ℕ) (is_write : Bool) (serial : ℕ) (t : Target) → (sent_for place is_write serial t).reply ≡ t.reply
+pub sends_for : (place : Option ℕ) (is_write : Bool) (serial : ℕ) (t : Target) → (sent_for place is_write serial t).reply ≡ t.reply
 sends_for (Some place) is_write serial t = refl
 sends_for None is_write serial t = by (wants t.manager_asks is_write)
   where

@@ -9,9 +9,7 @@ use Rattle.sbp_world.specs.Agents.Crews.{agent_in}
 use Rattle.sbp_world.specs.Lists.LetsGo.{IsAnswered, IsCut, MainStaysLaw, WasLetGo}
 use Rattle.sbp_world.proofs.Lists.MainStays.{stays_or}
 use Rattle.std.proofs.lemmas.Bool.Decides.{nat_tests}
-
-no : {A : Type 0} → false ≡ true → A
-no e = absurd (let x : false ≡ true = e in cc)
+use Rattle.sbp_world.proofs.Common.{untrue}
 
 module _ (start : List Disk) (place serial : ℕ) where
   abbrev Waits : List Moment → Type 0
@@ -53,7 +51,7 @@ among_not from (a ∷ agents) p serial e f = by (λ q h i. among_not (from + 1) 
     by : ((q : ℕ) → (agent_in agents q).main ≡ Some serial → purpose_among (from + 1) agents serial ≡ for_nobody → ⊥) → (x : Bool) → is_serial a.main serial ≡ x → (y : Bool) (q : ℕ) → (agent_in (a ∷ agents) q).main ≡ Some serial → cond x (for_agent from Main) (cond y (for_agent from Ahead) (purpose_among (from + 1) agents serial)) ≡ for_nobody → ⊥
     by more true g y q h i = agents_not from Main i
     by more false g true q h i = agents_not from Ahead i
-    by more false g false zero h i = no (sym g ∙ is_it a.main serial h)
+    by more false g false zero h i = untrue (sym g ∙ is_it a.main serial h)
     by more false g false (suc q) h i = more q h i
 
 pub somebodys : (t : Target) (p serial : ℕ) → (agent_at t p).main ≡ Some serial → purpose_of t serial ≡ for_nobody → ⊥

@@ -102,7 +102,7 @@ pub record Kit (start : List Disk) (past : List Moment) (w : WorldState) : Type 
   pub here : IsTameOrFew past → AllHere past w
   pub untaken : IsTameOrFew past → AreUntaken past w
 
-same_initiator : (a b : ℕ) → Some (suc a) ≡ Some (suc b) → a ≡ b
+pub same_initiator : (a b : ℕ) → Some (suc a) ≡ Some (suc b) → a ≡ b
 same_initiator a b e = cc
 
 module _ (units ready : ℕ) (has : 0 < units) (start : List Disk) {past : List Moment} {lines : ℕ} (w : WorldState) (h : Holding units ready start past lines w) (kit : Kit start (hist past w) w) (beside : IsTameOrFew (hist past w)) where

@@ -19,18 +19,14 @@ use Rattle.sbp_world.proofs.Lists.Courses.{EveryPlace, more_than_one}
 use Rattle.sbp_world.proofs.Lists.LiveGiven.{ShortLaw}
 use Rattle.sbp_world.proofs.Lists.LiveShort.{here_beside, placed_beside}
 use Rattle.sbp_world.proofs.Lists.MainSlots.{Kit, are_for_orbs}
-use Rattle.sbp_world.proofs.Lists.ManageTerms.{untrue}
 use Rattle.sbp_world.proofs.Lists.OpenedKnown as opened_known
-use Rattle.sbp_world.proofs.Lists.OpenProved.{opens_law}
+use Rattle.sbp_world.proofs.Lists.OpenProved.{opens_law, nobody_needs}
 use Rattle.sbp_world.proofs.Lists.Runs.{KeptAfter, holds_at, kept_after}
 use Rattle.sbp_world.proofs.Lists.StatusPlaces as places
 use Rattle.sbp_world.proofs.Lists.StatusPlaces.{AllPlacedFor}
 use Rattle.sbp_world.proofs.Lists.StatusProved.{Ground as Known, ground_law}
 use Rattle.sbp_world.proofs.Lists.StatusRested.{AllHere, all_here}
 use Rattle.sbp_world.proofs.Lists.StillRuns.{ground_everywhere}
-
-nobody : (A : Type 0) → true ≡ false → A
-nobody A e = untrue (sym e)
 
 abbrev wilds : ℕ → Bool
 wilds = λ i. true
@@ -47,7 +43,7 @@ module _ (line : ℕ) (run : Run) (r : IsRun run) (has : 0 < run.units) (small :
   logins = ready_logins run.initiators run.ready
 
   kept : KeptAfter wilds opened line run r.few has small size run.entries last.world
-  kept = kept_after wilds opened line run r.few has small size run.entries r.short r.entries r.lines (λ i f. nobody (OpenBefore line run run.entries) f) (λ i f. nobody (IsCalm (history_of line run) i) f)
+  kept = kept_after wilds opened line run r.few has small size run.entries r.short r.entries r.lines (λ i f. nobody_needs (OpenBefore line run run.entries) f) (λ i f. nobody_needs (IsCalm (history_of line run) i) f)
 
   slots_after : Kit run.start.disks (history_of line run) last.world → IsTameOrFew (history_of line run) → AreForOrbs run.start.disks (history_of line run) last.world
   slots_after kit beside =

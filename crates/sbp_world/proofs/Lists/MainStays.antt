@@ -36,12 +36,7 @@ use Rattle.sbp_laws.specs.Turns.{event_of}
 use Rattle.sbp_world.specs.Agents.Crews.{agent_in}
 use Rattle.sbp_world.specs.Lists.LetsGo.{HasOneMain, IsAnswered, IsCut}
 use Rattle.sbp_world.proofs.Lists.MainSteps.{IsQuiet, IsSound, IsTaken, doorbell_rung, lost_quiet, main_is_lost, main_sound, point_taken, read_quiet}
-
-no : {A : Type 0} → false ≡ true → A
-no e = absurd (let x : false ≡ true = e in cc)
-
-none_some : {A : Type 0} (s : ℕ) → None ≡ Some s → A
-none_some s e = absurd (let x : None ≡ Some s = e in cc)
+use Rattle.sbp_world.proofs.Common.{untrue, none_is}
 
 -- ---- an agent
 -- Its main transaction stays, or it is let go so.
@@ -77,13 +72,13 @@ then_keeps A L a b c w f g = record { one = λ h. g.one (f.one h); stays = λ h 
 -- what waits is the same
 same_keeps : (L : Agent → Type 0) (a now : Agent) → now.main ≡ a.main → (is_sent now.machine.phase ≡ false → is_sent a.machine.phase ≡ false) → is_nothing now.asks ≡ true → Keeps L a now
 same_keeps L a now e f n = record {
-  one = λ h. record { none = λ x. e ∙ h.none (f x); asks = λ x. no (sym x ∙ n) };
+  one = λ h. record { none = λ x. e ∙ h.none (f x); asks = λ x. untrue (sym x ∙ n) };
   stays = λ h s m. inl (e ∙ m);
 }
 
 -- it has none
 no_main : (a : Agent) (s : ℕ) → {A : Type 0} → a.main ≡ None → a.main ≡ Some s → A
-no_main a s e f = none_some s (sym e ∙ f)
+no_main a s e f = none_is s (sym e ∙ f)
 
 -- in no way
 abbrev Never : Agent → Type 0
@@ -142,11 +137,11 @@ replies step a h = record {
     main b e = ap (λ b. cond b a.ahead None) e
 
     none : (b : Bool) → step.0.promoted ≡ b → is_sent step.1.phase ≡ false → now.main ≡ None
-    none true e f = no (sym f ∙ (h.promotes e).1)
+    none true e f = untrue (sym f ∙ (h.promotes e).1)
     none false e f = main false e
 
     asks : (b : Bool) → step.0.promoted ≡ b → is_nothing step.0.ask ≡ false → (now.main ≡ None) × (is_sent step.1.phase ≡ true)
-    asks true e f = no (sym f ∙ (h.promotes e).0)
+    asks true e f = untrue (sym f ∙ (h.promotes e).0)
     asks false e f = (main false e, h.asks f)
 
 replies_ahead : (step : AgentStep × Machine) (a : Agent) → IsQuiet a.machine step → Keeps Never a (moved step (closed Ahead a))
@@ -155,7 +150,7 @@ replies_ahead step a q = same_keeps Never a (moved step (closed Ahead a)) (ap (�
 pointed : (r : Result Ask PointRefusal × Machine) (pointer : ℕ) (a : Agent) → IsTaken a.machine r → Keeps Never a (pointed_by r pointer a)
 pointed (Err refusal, machine) pointer a x = self Never a
 pointed (Ok ask, machine) pointer a x = record {
-  one = λ h. record { none = λ e. no (sym e ∙ x.1); asks = λ e. (h.none x.0, x.1) };
+  one = λ h. record { none = λ e. untrue (sym e ∙ x.1); asks = λ e. (h.none x.0, x.1) };
   stays = λ h s e. inl e;
 }
 
@@ -165,7 +160,7 @@ rung a = let x = doorbell_rung a.machine in record {
   stays = λ h s e. inl e;
 }
 
-abort_phase : (m : Machine) (orb : ℕ) → (steps.abort_step m orb).phase ≡ m.phase
+pub abort_phase : (m : Machine) (orb : ℕ) → (steps.abort_step m orb).phase ≡ m.phase
 unfolding steps.abort_step
 abort_phase m orb = refl
 
@@ -175,33 +170,33 @@ aborted a orb = record {
   stays = λ h s e. inl e;
 }
 
-reset_phase : (m : Machine) → (steps.reset_step m).phase ≡ phases.Reset
+pub reset_phase : (m : Machine) → (steps.reset_step m).phase ≡ phases.Reset
 unfolding steps.reset_step
 reset_phase m = refl
 
 cuts : (a : Agent) → Keeps IsCut a (cut_agent a)
 cuts a = record {
-  one = λ h. record { none = λ e. refl; asks = λ e. no (sym e) };
+  one = λ h. record { none = λ e. refl; asks = λ e. untrue (sym e) };
   stays = λ h s e. inr (reset_phase a.machine);
 }
 
 begins : (a : Agent) → Keeps IsCut a new_agent
 begins a = record {
-  one = λ h. record { none = λ e. refl; asks = λ e. no (sym e) };
+  one = λ h. record { none = λ e. refl; asks = λ e. untrue (sym e) };
   stays = λ h s e. inr refl;
 }
 
-wanted : (ask : Ask) (is_write : Bool) → wants ask is_write ≡ true → is_nothing ask ≡ false
+pub wanted : (ask : Ask) (is_write : Bool) → wants ask is_write ≡ true → is_nothing ask ≡ false
 wanted (Read offset size) is_write e = refl
 wanted (Write offset size) is_write e = refl
-wanted Nothing is_write e = no e
+wanted Nothing is_write e = untrue e
 
 sends : (is_write : Bool) (serial : ℕ) (a : Agent) → Keeps Never a (sends_of is_write serial a)
 sends is_write serial a = by (wants a.asks is_write) (wants a.asks_ahead is_write) refl
   where
     by : (x y : Bool) → wants a.asks is_write ≡ x → Keeps Never a (cond x (record a { main = Some serial; asks = Nothing }) (cond y (record a { ahead = Some serial; asks_ahead = Nothing }) a))
     by true y e = record {
-      one = λ h. record { none = λ f. no (sym f ∙ (h.asks (wanted a.asks is_write e)).1); asks = λ f. no (sym f) };
+      one = λ h. record { none = λ f. untrue (sym f ∙ (h.asks (wanted a.asks is_write e)).1); asks = λ f. untrue (sym f) };
       stays = λ h s m. no_main a s (h.asks (wanted a.asks is_write e)).0 m;
     }
     by false true e = record { one = λ h. record { none = h.none; asks = h.asks }; stays = λ h s m. inl m }
@@ -473,7 +468,7 @@ module _ (start : List Disk) where
   moment_goes (said note) past = note_goes note past (known_at start past).wire (target_at start past)
 
   new_one : HasOneMain new_agent
-  new_one = record { none = λ e. refl; asks = λ e. no (sym e) }
+  new_one = record { none = λ e. refl; asks = λ e. untrue (sym e) }
 
   first_one : (n p : ℕ) → HasOneMain (agent_in (replicate n new_agent) p)
   first_one zero p = new_one

@@ -31,9 +31,7 @@ use Rattle.rbc_disk.specs.declared.command.Outcome.TheVariants as outcomes
 use Rattle.rbc_disk.specs.Runs.{Told, need_of}
 use Rattle.rbc_disk.specs.Units.{PlainDisk}
 use Rattle.sbp_laws.specs.Targets.{is_nothing}
-
-no : {A : Type 0} → false ≡ true → A
-no e = absurd (let x : false ≡ true = e in cc)
+use Rattle.sbp_world.proofs.Common.{untrue}
 
 -- where a step asks for something, or the read ahead becomes the main transaction, one is under way
 pub record IsSound (s : AgentStep × Machine) : Type 0 where
@@ -41,10 +39,10 @@ pub record IsSound (s : AgentStep × Machine) : Type 0 where
   pub promotes : s.0.promoted ≡ true → (is_nothing s.0.ask ≡ true) × (is_sent s.1.phase ≡ true)
 
 going : (s : AgentStep × Machine) → s.0.promoted ≡ false → is_sent s.1.phase ≡ true → IsSound s
-going s p e = record { asks = λ h. e; promotes = λ h. no (sym p ∙ h) }
+going s p e = record { asks = λ h. e; promotes = λ h. untrue (sym p ∙ h) }
 
 silent : (s : AgentStep × Machine) → s.0.promoted ≡ false → is_nothing s.0.ask ≡ true → IsSound s
-silent s p e = record { asks = λ h. no (sym h ∙ e); promotes = λ h. no (sym p ∙ h) }
+silent s p e = record { asks = λ h. untrue (sym h ∙ e); promotes = λ h. untrue (sym p ∙ h) }
 
 if_sound : (b : Bool) (x y : AgentStep × Machine) → IsSound x → IsSound y → IsSound (cond b x y)
 if_sound true x y h i = h
@@ -284,16 +282,16 @@ pub record IsRung (m : Machine) (s : Ask × Machine) : Type 0 where
   pub rests : is_sent s.1.phase ≡ false → is_sent m.phase ≡ false
 
 rings : (phase : Phase) (m : Machine) → is_sent m.phase ≡ is_sent phase → IsRung m (doorbell_in (state_in phase) m)
-rings phases.Suspended m e = record { asks = λ h. (e, refl); rests = λ h. no (sym h) }
-rings phases.Reset m e = record { asks = λ h. no (sym h); rests = λ h. h }
-rings phases.Dead m e = record { asks = λ h. no (sym h); rests = λ h. h }
-rings phases.Fetching m e = record { asks = λ h. no (sym h); rests = λ h. h }
-rings phases.ReadingTable m e = record { asks = λ h. no (sym h); rests = λ h. h }
-rings (phases.ReadingData wanted) m e = record { asks = λ h. no (sym h); rests = λ h. h }
-rings phases.Answering m e = record { asks = λ h. no (sym h); rests = λ h. h }
-rings phases.WritingStatus m e = record { asks = λ h. no (sym h); rests = λ h. h }
-rings phases.ReadingNext m e = record { asks = λ h. no (sym h); rests = λ h. h }
-rings phases.WritingLastStatus m e = record { asks = λ h. no (sym h); rests = λ h. h }
+rings phases.Suspended m e = record { asks = λ h. (e, refl); rests = λ h. untrue (sym h) }
+rings phases.Reset m e = record { asks = λ h. untrue (sym h); rests = λ h. h }
+rings phases.Dead m e = record { asks = λ h. untrue (sym h); rests = λ h. h }
+rings phases.Fetching m e = record { asks = λ h. untrue (sym h); rests = λ h. h }
+rings phases.ReadingTable m e = record { asks = λ h. untrue (sym h); rests = λ h. h }
+rings (phases.ReadingData wanted) m e = record { asks = λ h. untrue (sym h); rests = λ h. h }
+rings phases.Answering m e = record { asks = λ h. untrue (sym h); rests = λ h. h }
+rings phases.WritingStatus m e = record { asks = λ h. untrue (sym h); rests = λ h. h }
+rings phases.ReadingNext m e = record { asks = λ h. untrue (sym h); rests = λ h. h }
+rings phases.WritingLastStatus m e = record { asks = λ h. untrue (sym h); rests = λ h. h }
 
 pub doorbell_rung : (m : Machine) → IsRung m (doorbell_step m)
 unfolding doorbell_step

@@ -2,7 +2,7 @@
 use Rattle.std.proofs.Common.{◌≡◌, ◌∙◌, refl, sym, ap, subst, ℕ, ◌+◌, ◌<◌, Bool, true, false, cond, List, Option, Some, None}
 use Rattle.sbp_initiator.specs.Histories.Begins.{after_by, begun_as}
 use Rattle.sbp_initiator.specs.Histories.Ends.{is_managed}
-use Rattle.sbp_initiator.proofs.Histories.Actions.{Allowed, allowed, done_does}
+use Rattle.sbp_initiator.proofs.Histories.Actions.{Allowed, done_does}
 use Rattle.sbp_initiator.proofs.Histories.Effects.{HasMarks}
 use Rattle.sbp_initiator.proofs.Histories.Over.{sound}
 use Rattle.sbp_initiator.proofs.Histories.Purposes.{IsOf, all_began, life_of}
@@ -33,12 +33,9 @@ use Rattle.sbp_session.specs.declared.seat.Seat.TheVariants as seats
 use Rattle.sbp_world.proofs.Hosts.Hosted.{Cored}
 use Rattle.sbp_world.proofs.Hosts.Lives.{At, at_life}
 use Rattle.sbp_world.proofs.Lists.ManageTerms.{none_is, same_some, untrue}
+use Rattle.sbp_world.proofs.Pointers.Asks.{allowed_by}
 
 -- ---- an action that is not refused
-
-allowed_by : (action : Action) (s : InitiatorState) (r : Option ℕ) → refusal action (facts_with true s action) ≡ r → (judged_as r action empty_outbox s).0 ≡ None → Allowed action s
-allowed_by action s (Some number) e f = none_is number (sym f)
-allowed_by action s None e f = allowed action s e
 
 pub act_allowed : (action : Action) (s : InitiatorState) → (act_step action empty_outbox s).0 ≡ None → Allowed action s
 unfolding act_step

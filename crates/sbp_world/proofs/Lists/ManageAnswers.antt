@@ -29,8 +29,9 @@ use Rattle.sbp_world.proofs.Lists.ManageCodes.{NoConflict}
 use Rattle.sbp_world.proofs.Lists.ManageGot.{writing_in}
 use Rattle.sbp_world.proofs.Lists.ManageOffices.{office_at}
 use Rattle.sbp_world.proofs.Lists.ManageSent.{IsRefusing}
-use Rattle.sbp_world.proofs.Lists.ManageTerms.{none_is, same_some, untrue}
+use Rattle.sbp_world.proofs.Lists.ManageTerms.{none_is, same_some}
 use Rattle.sbp_world.proofs.Lists.OpenedReplies.{comes_owes}
+use Rattle.sbp_world.proofs.Common.{and_first, and_second}
 
 -- a packet with these bytes that is sent then answers no such write with conflict_error but as it finds one under way
 abbrev pub IsFound : List Disk → List Moment → List ℕ → Type 0
@@ -40,14 +41,6 @@ pub free_found : (start : List Disk) (past : List Moment) (bytes : List ℕ) →
 free_found start past bytes h owed owes cause at asking sent to code rcode = absurd (h code rcode)
 
 -- ---- what MANAGEMENT_AGENT serves is a write
-
-and_first : (a b : Bool) → (a && b) ≡ true → a ≡ true
-and_first true b e = refl
-and_first false b e = untrue e
-
-and_second : (a b : Bool) → (a && b) ≡ true → b ≡ true
-and_second true b e = e
-and_second false b e = untrue e
 
 pub serves_write : (access : Access) → start_at access.offset ≡ management_agent → start_serves (start_at access.offset) access ≡ true → access.is_write ≡ true
 serves_write access at serves =

@@ -97,11 +97,11 @@ keeps_behind node p = record {
   asks = λ layer packets peer body purpose b. behind_asks node p peer (asking_step layer peer body purpose).0 packets (asked_free layer peer body purpose) b;
 }
 
-disown_node : (found : Option ℕ) (layer : Layer Purpose) (label : LabelParts) → (disowning_in found layer label).node ≡ layer.node
+pub disown_node : (found : Option ℕ) (layer : Layer Purpose) (label : LabelParts) → (disowning_in found layer label).node ≡ layer.node
 disown_node None layer label = refl
 disown_node (Some k) layer label = refl
 
-disowns_node : (layer : Layer Purpose) (peer : ℕ) (label : LabelParts) → (disowning_step layer peer label).node ≡ layer.node
+pub disowns_node : (layer : Layer Purpose) (peer : ℕ) (label : LabelParts) → (disowning_step layer peer label).node ≡ layer.node
 unfolding disowning_step
 disowns_node layer peer label = disown_node (peer_place peer layer) layer label
 
@@ -118,7 +118,7 @@ answers_first node p bytes layer packets rcode given h = record {
   others = tt;
 }
 
-same_bytes : (a b : Outgoing) (more others packets : List Outgoing) → packets ≡ a ∷ more → packets ≡ b ∷ others → a.bytes ≡ b.bytes
+pub same_bytes : (a b : Outgoing) (more others packets : List Outgoing) → packets ≡ a ∷ more → packets ≡ b ∷ others → a.bytes ≡ b.bytes
 same_bytes a b more others packets e f =
     let g : a ∷ more ≡ b ∷ others = sym e ∙ f in
     let same : a ≡ b = cc in

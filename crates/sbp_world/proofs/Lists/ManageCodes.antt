@@ -1,5 +1,5 @@
 -- Which packets of a target answer a write with conflict_error, 4 (IEEE 1394-1995, write response): no request does, and a response does where that is its rcode.
-use Rattle.std.proofs.Common.{arith, ◌≡◌, ◌∙◌, refl, sym, ap, ℕ, ◌+◌, ◌*◌, ◌/◌, ◌%◌, ◌^◌, ◌<◌, ◌==◌, Bool, true, false, cond, List, [], ◌∷◌, ◌++◌, Option, Some, None}
+use Rattle.std.proofs.Common.{arith, ◌≡◌, ◌∙◌, refl, sym, ap, ℕ, ◌+◌, ◌*◌, ◌/◌, ◌%◌, ◌^◌, ◌<◌, ◌==◌, Bool, true, false, cond, List, ◌++◌, Option, Some, None}
 use Rattle.std.proofs.lemmas.Bool.Decides.{nat_tests}
 use Rattle.async_packet.specs.declared.fault.PacketFault.{PacketFault}
 use Rattle.async_packet.specs.declared.packet.Header.{Header}
@@ -8,7 +8,7 @@ use Rattle.async_packet.specs.Faults.{fault_of}
 use Rattle.async_packet.specs.Fields.{rcode_of, tcode_of}
 use Rattle.async_packet.specs.Packet.{Packet, lock, lock_response, read_block, read_block_response, read_quadlet, read_quadlet_response, write_block, write_quadlet, write_response}
 use Rattle.async_packet.specs.Reading.{packet_in, reading, unless_fault}
-use Rattle.byteorder.specs.Endian.{big_bytes, big_number}
+use Rattle.byteorder.specs.Endian.{big_bytes}
 use Rattle.byteorder.specs.Numbers.{big_from-bytes}
 use Rattle.label_table.specs.declared.judgement.Asked.{Asked}
 use Rattle.label_table.specs.Bodies.{Body, block_read, block_write, header_to, quadlet_read, quadlet_write, request_with, response_to}
@@ -18,20 +18,13 @@ use Rattle.label_table.specs.Requests.{with_label}
 use Rattle.label_table.specs.Table.{begin_at, begin_step, lowest_from}
 use Rattle.sbp_journal.specs.Transactions.{Kind, locking, no_packet, part_by, part_in, part_of, reading_block, reading_quadlet, request, response, writing}
 use Rattle.sbp_world.proofs.Lists.ManageTerms.{untrue}
-use Rattle.sbp_world.proofs.Sessions.Codes.{first_code}
+use Rattle.sbp_world.proofs.Hosts.Mild.{quad_tcode, tcode_same}
 
 -- a packet that does not
 abbrev pub NoConflict : List ℕ → Type 0
 NoConflict bytes = tcode_of bytes ≡ 2 → rcode_of bytes ≡ 4 → ⊥
 
 -- ---- by its tcode
-
-quad_code : (peer label tcode : ℕ) (bytes rest : List ℕ) → tcode < 16 → bytes ≡ big_bytes 4 (peer * 2 ^ 16 + label * 2 ^ 10 + 1 * 2 ^ 8 + tcode * 2 ^ 4 + 0) ++ rest → tcode_of bytes ≡ tcode
-unfolding tcode_of
-quad_code peer label tcode bytes rest small e =
-    ap (λ xs. big_number 4 xs / 2 ^ 4 % 2 ^ 4) e
-    ∙ ap (λ n. n / 2 ^ 4 % 2 ^ 4) (big_from-bytes 4 (peer * 2 ^ 16 + label * 2 ^ 10 + 1 * 2 ^ 8 + tcode * 2 ^ 4 + 0) rest)
-    ∙ first_code peer label tcode small
 
 other_code : (bytes : List ℕ) (tcode : ℕ) → tcode_of bytes ≡ tcode → (tcode == 2) ≡ false → NoConflict bytes
 other_code bytes tcode e apart two code =
@@ -40,7 +33,7 @@ other_code bytes tcode e apart two code =
     untrue (sym apart ∙ is)
 
 coded : (peer label tcode : ℕ) (bytes rest : List ℕ) → tcode < 16 → (tcode == 2) ≡ false → bytes ≡ big_bytes 4 (peer * 2 ^ 16 + label * 2 ^ 10 + 1 * 2 ^ 8 + tcode * 2 ^ 4 + 0) ++ rest → NoConflict bytes
-coded peer label tcode bytes rest small apart e = other_code bytes tcode (quad_code peer label tcode bytes rest small e) apart
+coded peer label tcode bytes rest small apart e = other_code bytes tcode (quad_tcode peer label tcode bytes rest small e) apart
 
 -- ---- a response
 
@@ -85,18 +78,10 @@ plain_apart (block_read offset asked) = refl
 
 plain_is : (node peer : ℕ) (body : Body) → tcode_of (canon (request_with (header_to node peer 0) body)) ≡ plain_code body
 unfolding three four
-plain_is node peer (quadlet_write offset value) = quad_code peer 0 0 (canon (request_with (header_to node peer 0) (quadlet_write offset value))) _ (omega arith) refl
-plain_is node peer (block_write offset payload) = quad_code peer 0 1 (canon (request_with (header_to node peer 0) (block_write offset payload))) _ (omega arith) refl
-plain_is node peer (quadlet_read offset) = quad_code peer 0 4 (canon (request_with (header_to node peer 0) (quadlet_read offset))) _ (omega arith) refl
-plain_is node peer (block_read offset asked) = quad_code peer 0 5 (canon (request_with (header_to node peer 0) (block_read offset asked))) _ (omega arith) refl
-
--- a label changes no tcode
-label_code : (number : ℕ) (bytes : List ℕ) → tcode_of (with_label number bytes) ≡ tcode_of bytes
-unfolding with_label tcode_of
-label_code number [] = refl
-label_code number (x ∷ []) = refl
-label_code number (x ∷ y ∷ []) = refl
-label_code number (x ∷ y ∷ z ∷ bytes) = omega arith
+plain_is node peer (quadlet_write offset value) = quad_tcode peer 0 0 (canon (request_with (header_to node peer 0) (quadlet_write offset value))) _ (omega arith) refl
+plain_is node peer (block_write offset payload) = quad_tcode peer 0 1 (canon (request_with (header_to node peer 0) (block_write offset payload))) _ (omega arith) refl
+plain_is node peer (quadlet_read offset) = quad_tcode peer 0 4 (canon (request_with (header_to node peer 0) (quadlet_read offset))) _ (omega arith) refl
+plain_is node peer (block_read offset asked) = quad_tcode peer 0 5 (canon (request_with (header_to node peer 0) (block_read offset asked))) _ (omega arith) refl
 
 abbrev pub IfAsked : Option Asked → Type 0
 IfAsked None = Unit {0}
@@ -105,7 +90,7 @@ IfAsked (Some asked) = NoConflict asked.bytes
 module _ {P : Type 0} where
   found_free : (layer : Layer P) (k peer : ℕ) (plain : List ℕ) (purpose : P) (number : Option ℕ) (code : ℕ) → tcode_of plain ≡ code → (code == 2) ≡ false → IfAsked (asked_at k layer (begun_for (peer_at layer k) peer purpose (begin_at number (peer_at layer k).table plain))).0
   found_free layer k peer plain purpose None code e apart = tt
-  found_free layer k peer plain purpose (Some number) code e apart = other_code (with_label number plain) code (label_code number plain ∙ e) apart
+  found_free layer k peer plain purpose (Some number) code e apart = other_code (with_label number plain) code (tcode_same number plain ∙ e) apart
 
   in_free : (found : Option ℕ) (layer : Layer P) (peer : ℕ) (plain : List ℕ) (purpose : P) (code : ℕ) → tcode_of plain ≡ code → (code == 2) ≡ false → IfAsked (asking_in found layer peer plain purpose).0
   unfolding begin_step

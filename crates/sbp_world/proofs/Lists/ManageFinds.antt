@@ -36,6 +36,7 @@ use Rattle.sbp_world.proofs.Lists.ManageTerms.{untrue}
 use Rattle.sbp_world.proofs.Hosts.Aimed.{none_ended}
 use Rattle.sbp_world.proofs.Pointers.Finds.{same_serial}
 use Rattle.sbp_world.proofs.Pointers.Ending.{judged_read}
+use Rattle.sbp_world.proofs.Pointers.Guarded.{received_got}
 
 -- ---- it was under way
 
@@ -184,9 +185,6 @@ module _ (bytes : List ℕ) (rcode : ℕ) where
   refused_rcode p e = read_refuses (fault_of bytes) (packet_in bytes (tcode_of bytes)) p e (packet_refuses (tcode_of bytes))
 
 -- ---- what is got
-
-received_got : (f : Finding Purpose) (layer : Layer Purpose) (bytes : List ℕ) (p : Packet) (label : LabelParts) (purpose : Option Purpose) (s : InitiatorState) → f ≡ of_response p label purpose → (received (f, layer) bytes empty_outbox s).0 ≡ judgements.Got
-received_got f layer bytes p label purpose s e = ap (λ x. (received (x, layer) bytes empty_outbox s).0) e
 
 pub response_got : (generation : ℕ) (bytes : List ℕ) (p : Packet) (label : LabelParts) (purpose : Option Purpose) (s : InitiatorState) → (judging_step s.layer generation bytes).0 ≡ of_response p label purpose → (receive_step generation bytes empty_outbox s).0 ≡ judgements.Got
 unfolding receive_step

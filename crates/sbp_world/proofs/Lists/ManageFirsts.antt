@@ -1,6 +1,5 @@
 -- The first request of an operation under way at a host is the same from note to note, but for the packet by which an operation begins.
-use Rattle.std.proofs.Common.{arith, ◌≡◌, refl, sym, ◌∙◌, ap, ℕ, zero, suc, ◌%◌, ◌&&◌, not, nat_eq, Bool, true, false, cond, List, [], ◌∷◌, Option, Some, None}
-use Rattle.std.proofs.lemmas.Bool.Decides.{nat_tests}
+use Rattle.std.proofs.Common.{◌≡◌, refl, sym, ◌∙◌, ap, ℕ, zero, suc, ◌%◌, ◌&&◌, not, nat_eq, Bool, true, false, cond, List, [], ◌∷◌, Option, Some, None}
 use Rattle.orb_layout.specs.Replies.{Answer, Done, Expired, NoLabel, Payload, Refused}
 use Rattle.sbp_journal.specs.Run.{Moment, asked, said}
 use Rattle.sbp_journal.specs.Transactions.{Kind, Part, no_packet, part_of, request, response}
@@ -26,6 +25,7 @@ use Rattle.sbp_world.proofs.Hosts.Cores.{wire_is}
 use Rattle.sbp_world.proofs.Hosts.Layered.{AreTame, is_tame}
 use Rattle.sbp_world.proofs.Lists.ManageTerms.{none_is, same_some, untrue}
 use Rattle.sbp_world.proofs.Hosts.Cores.{turned}
+use Rattle.sbp_world.proofs.Common.{itself}
 
 -- an operation was under way before, with the same first request
 pub record Was (before : Option Underway) (now : Underway) : Type 0 where
@@ -115,7 +115,7 @@ sent_first serial generation from to bytes past i n =
 
 -- ---- what a packet tells
 
-pointer_operation : (answer : Answer) (own : Bool) (host : Host) → (pointer_answered answer own host).operation ≡ host.operation
+pub pointer_operation : (answer : Answer) (own : Bool) (host : Host) → (pointer_answered answer own host).operation ≡ host.operation
 pointer_operation Done true host = refl
 pointer_operation Done false host = refl
 pointer_operation (Payload bytes) own host = refl
@@ -190,9 +190,6 @@ so_if : (b : Bool) (x y : Host) → b ≡ true → cond b x y ≡ x
 so_if true x y e = refl
 so_if false x y e = untrue e
 
-itself : (n : ℕ) → nat_eq n n ≡ true
-itself n = grind (arith, nat_tests)
-
 -- it is the first request, and the place of its ORB the next one
 abbrev pub HasBegun : Underway → (serial writes : ℕ) → Operation → Type 0
 HasBegun now serial writes operation = (now.first ≡ serial) × ((now.place ≡ writes % 2) × (now.operation ≡ operation))
@@ -225,7 +222,7 @@ acted_first actions.Low operation list serial host now o e = none_is operation o
 acted_first actions.Link operation list serial host now o e = none_is operation o
 acted_first actions.Ring operation list serial host now o e = none_is operation o
 
-ring_operation : (found : Option ℕ) (serial : ℕ) (host : Host) → (ring found serial host).operation ≡ host.operation
+pub ring_operation : (found : Option ℕ) (serial : ℕ) (host : Host) → (ring found serial host).operation ≡ host.operation
 ring_operation None serial host = refl
 ring_operation (Some first) serial host = refl
 

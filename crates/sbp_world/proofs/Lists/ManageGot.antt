@@ -1,6 +1,7 @@
 -- A packet is got: where it starts an operation of an initiator at the target, it is the write that waited, and nothing else was in hand; and else what is in hand stays.
-use Rattle.std.proofs.Common.{arith, ◌≡◌, ◌∙◌, ◌⊎◌, inl, inr, refl, sym, ap, subst, ℕ, suc, ◌<◌, ◌&&◌, nat_eq, Bool, true, false, List, ◌∷◌, Option, Some, None, Result, Ok, Err}
+use Rattle.std.proofs.Common.{arith, ◌≡◌, ◌∙◌, ◌⊎◌, inl, inr, refl, sym, ap, subst, ℕ, suc, ◌<◌, nat_eq, Bool, true, false, List, ◌∷◌, Option, Some, None, Result, Ok, Err}
 use Rattle.std.proofs.lemmas.Bool.Decides.{nat_tests}
+use Rattle.std.proofs.lemmas.Option.{same_Some}
 use Rattle.async_packet.specs.declared.fault.PacketFault.{PacketFault}
 use Rattle.async_packet.specs.Packet.{Packet, lock, lock_response, read_block, read_block_response, read_quadlet, read_quadlet_response, write_block, write_quadlet, write_response}
 use Rattle.async_packet.specs.Reading.{reading}
@@ -34,15 +35,12 @@ pub record GotFacts (past : List Moment) (i serial : ℕ) (q : Sending) : Type 0
 
 -- ---- a write is one
 
-access_same : (a b : Access) → Some a ≡ Some b → a ≡ b
-access_same a b e = cc
-
 pub record IsWriting (bytes : List ℕ) : Type 0 where
   pub label : ℕ
   pub part : part_of bytes ≡ request label writing
 
 not_write : (access own : Access) → Some own ≡ Some access → access.is_write ≡ true → own.is_write ≡ true
-not_write access own e w = ap (λ (a : Access). a.is_write) (access_same own access e) ∙ w
+not_write access own e w = ap (λ (a : Access). a.is_write) (same_Some own access e) ∙ w
 
 writing_of : (bytes : List ℕ) (p : Packet) → reading bytes ≡ Ok p → (access : Access) → access_of p ≡ Some access → access.is_write ≡ true → IsWriting bytes
 writing_of bytes (write_quadlet header offset value) r access e w = record { label = header.label; part = part_read bytes (write_quadlet header offset value) r }
@@ -61,15 +59,6 @@ writing_read bytes (Err fault) r access e w = none_is access e
 
 pub writing_in : (bytes : List ℕ) (access : Access) → access_in_bytes bytes ≡ Some access → access.is_write ≡ true → IsWriting bytes
 writing_in bytes access e w = writing_read bytes (reading bytes) refl access e w
-
--- what MANAGEMENT_AGENT serves writes a block
-and_first : (a b : Bool) → (a && b) ≡ true → a ≡ true
-and_first true b e = refl
-and_first false b e = untrue e
-
-and_second : (a b : Bool) → (a && b) ≡ true → b ≡ true
-and_second true b e = e
-and_second false b e = untrue e
 
 -- ---- a packet that is got
 

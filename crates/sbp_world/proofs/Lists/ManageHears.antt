@@ -2,6 +2,7 @@
 -- the target names its ORB.
 use Rattle.std.proofs.Common.{arith, ◌≡◌, ◌∙◌, refl, sym, ap, subst, ℕ, ◌==◌, ◌&&◌, not, Bool, true, false, cond, List, [], Option, Some, None, Result, Ok, Err}
 use Rattle.std.proofs.lemmas.Bool.Decides.{nat_tests}
+use Rattle.std.proofs.lemmas.Option.{same_Some}
 use Rattle.async_packet.specs.declared.packet.Header.{Header}
 use Rattle.async_packet.specs.Labels.{LabelParts}
 use Rattle.async_packet.specs.Packet.{Packet, lock, lock_response, read_block, read_block_response, read_quadlet, read_quadlet_response, write_block, write_quadlet, write_response}
@@ -53,9 +54,6 @@ pub data IsEndedBy (s : InitiatorState) (generation : ℕ) (bytes : List ℕ) (r
   by_conflict : (p : Packet) (label : LabelParts) (act rcode : ℕ) → (judging_step s.layer generation bytes).0 ≡ of_response p label (Some (purposes.Management act)) → running.act ≡ act → ending_of p ≡ endings.Refused rcode → is_conflict rcode ≡ true → IsEndedBy s generation bytes running
   by_status : IsStatusFor s generation bytes running → IsEndedBy s generation bytes running
 
-one_running : (a b : Running) → Some a ≡ Some b → a ≡ b
-one_running a b e = cc
-
 -- the operation that a status block is of
 record IsPresent (orb : ℕ) (operation : Option Running) (running : Running) : Type 0 where
   is : operation ≡ Some running
@@ -98,7 +96,7 @@ module _ (s : InitiatorState) (generation : ℕ) (bytes : List ℕ) where
       managed_by block status read kind (Some running) e =
           let i = present_by block.orb s.operation running (is_present_orb block.orb s.operation) refl e in
           responds s Why p bytes 0 [] (managed_step running status o (called u)) (managed s Why running status o (called u) (λ other is.
-          let same : running ≡ other = one_running running other (sym i.is ∙ is) in
+          let same : running ≡ other = same_Some running other (sym i.is ∙ is) in
           subst Why same
           (by_status (record { header = header; offset = offset; payload = payload; found = found; source = source; is_open_fifo = opens; block = block; read = read; status = status; kind = kind; names = i.named }))) started)
 

@@ -1,6 +1,5 @@
 -- A write of MANAGEMENT_AGENT that is under way at an initiator: the bus knows it under its label, and where its operation is the one under way it is that one's write.
-use Rattle.std.proofs.Common.{arith, ◌≡◌, refl, sym, ◌∙◌, ap, subst, ℕ, suc, ◌+◌, ◌≤◌, ◌==◌, nat_eq, nat_lt, not, Bool, true, false, cond, List, [], ◌∷◌, Option, Some}
-use Rattle.std.proofs.lemmas.Bool.Decides.{nat_tests}
+use Rattle.std.proofs.Common.{arith, ◌≡◌, refl, sym, ◌∙◌, ap, subst, ℕ, suc, ◌+◌, ◌≤◌, ◌==◌, nat_lt, not, Bool, true, false, cond, List, [], ◌∷◌, Option, Some}
 use Rattle.bus_transactions.specs.Rows.{awaits, shape, shape_of}
 use Rattle.bus_transactions.specs.Wire.{transaction}
 use Rattle.bus_transactions.proofs.Facts.{asked_begun, request_asked}
@@ -23,9 +22,8 @@ use Rattle.sbp_initiator.specs.declared.purpose.Purpose.TheVariants as purposes
 use Rattle.sbp_initiator.specs.declared.state.InitiatorState.{InitiatorState}
 use Rattle.sbp_initiator.specs.Effects.{Turn}
 use Rattle.sbp_initiator.specs.Initiators.{new_state}
-use Rattle.sbp_initiator.specs.Seeing.{interrupted, resets_told, see_step, seen_as}
+use Rattle.sbp_initiator.specs.Seeing.{see_step, seen_as}
 use Rattle.sbp_initiator.specs.States.{wanted_body}
-use Rattle.sbp_initiator.proofs.Histories.Effects.{list_drops}
 use Rattle.sbp_world.specs.Hosts.Calls.{behind}
 use Rattle.sbp_world.proofs.Hosts.ActLeft.{ActLeft, HasAsked}
 use Rattle.sbp_world.proofs.Hosts.Aimed.{IsAimed}
@@ -36,19 +34,9 @@ use Rattle.sbp_world.proofs.Hosts.Lives.{At, AskedAt, Called, ask_at, asked_now,
 use Rattle.sbp_world.proofs.Hosts.PointerNotes.{Fit, Told, opens, tame_told}
 use Rattle.sbp_world.proofs.Hosts.Pointing.{asked_generation, at_same, sent_waits}
 use Rattle.sbp_world.proofs.Hosts.Shown.{IsShown}
-use Rattle.sbp_world.proofs.Pointers.WaitActs.{none_seen, seen_layer}
+use Rattle.sbp_world.proofs.Pointers.WaitActs.{none_seen}
 
 -- ---- a later generation
-
-see_layer : (generation id target other : ℕ) (s : InitiatorState) → (see_step generation id target empty_outbox s).1.layer ≡ (see_step generation id other empty_outbox s).1.layer
-unfolding see_step seeing_step
-see_layer generation id target other s = seen_layer (nat_lt s.layer.generation generation) generation id target other s
-
-see_target : (generation id target : ℕ) (s : InitiatorState) → nat_lt s.layer.generation generation ≡ true → (see_step generation id target empty_outbox s).1.target ≡ target
-unfolding see_step seeing_step
-see_target generation id target s e =
-    ap (λ b. (seen_as (cond b (true, seen_in_generation s.layer generation id) (false, s.layer)) target empty_outbox s).1.target) e
-    ∙ (let u = record s { layer = seen_in_generation s.layer generation id } in (list_drops (resets_told u.number u.operation u.states empty_outbox) (interrupted u target)).target)
 
 -- an older one leaves all
 pub see_old : (generation id target : ℕ) (s : InitiatorState) → nat_lt s.layer.generation generation ≡ false → see_step generation id target empty_outbox s ≡ (empty_outbox, s)
@@ -169,9 +157,6 @@ module _ (Own : (act serial : ℕ) → Type 0) where
     where
       not_yet : {kind : ReplyKind} {purpose : Option Purpose} → not_begun ≡ under_way kind purpose → ⊥
       not_yet e = cc
-
-itself : (n : ℕ) → nat_eq n n ≡ true
-itself n = grind (arith, nat_tests)
 
 -- ---- the request of an action
 

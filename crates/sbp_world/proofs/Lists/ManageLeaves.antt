@@ -2,6 +2,7 @@
 -- Else it goes on, or its session is stuck.
 use Rattle.std.proofs.Common.{arith, ◌≡◌, ◌∙◌, ◌⊎◌, inl, inr, refl, sym, ap, subst, ℕ, ◌==◌, Bool, true, false, cond, List, [], length, Option, Some, None, Result, Ok, Err}
 use Rattle.std.proofs.lemmas.Bool.Decides.{nat_tests}
+use Rattle.std.proofs.lemmas.Option.{same_Some}
 use Rattle.async_packet.specs.Packet.{Packet, header_in, lock, lock_response, read_block, read_block_response, read_quadlet, read_quadlet_response, write_block, write_quadlet, write_response}
 use Rattle.config_rom.specs.declared.fault.RomFault.{RomFault}
 use Rattle.config_rom.specs.declared.unit.SbpUnit.{SbpUnit}
@@ -39,6 +40,7 @@ use Rattle.sbp_session.specs.declared.seat.Origin.{Origin}
 use Rattle.sbp_session.specs.declared.seat.Seat.{Seat}
 use Rattle.sbp_session.specs.declared.seat.Seat.TheVariants as seats
 use Rattle.sbp_world.proofs.Lists.ManageTerms.{none_is, untrue}
+use Rattle.sbp_world.proofs.Lists.LiveMoves.{drop_operation}
 
 -- ---- a session that is stuck stays so, but for a reset
 
@@ -151,15 +153,12 @@ module _ (s : InitiatorState) (Why : Running → Type 0) where
       by (inl f) = sym f ∙ e
       by (inr k) = none_is running (sym k.none ∙ e)
 
-  same_one : (a b : Running) → Some a ≡ Some b → a ≡ b
-  same_one a b e = cc
-
   owns_for : (found : Option Running) (act : ℕ) (word : OpWord) (o : OutboxState) (u : InitiatorState) → u.operation ≡ found → ((running : Running) → u.operation ≡ Some running → running.act ≡ act → is_management running.operation ≡ false) → L u → At (end_own_for found act word o u)
   owns_for None act word o u e f h = h
   owns_for (Some running) act word o u e f h =
       owns_if running (running.act == act) word o u
       (λ g other is m n.
-      let same : running ≡ other = same_one running other (sym (same_running u running h e) ∙ is) in
+      let same : running ≡ other = same_Some running other (sym (same_running u running h e) ∙ is) in
       let own : running.act ≡ act = grind (arith, nat_tests) in
       untrue (sym (f running e own) ∙ ap (λ (x : Running). is_management x.operation) same ∙ m)) h
 
@@ -196,10 +195,6 @@ module _ (s : InitiatorState) (Why : Running → Type 0) where
       let v = record u { seat = goes pointed u.seat } in
       let k = moves_on pointed u refl h in pick_state (is_list u.lists.slots.present list) (with_answered v) v (still v (with_answered v) refl (λ e. e) k) k
 
-  drop_operation : (r : Option ℕ × ListState) (o : OutboxState) (u : InitiatorState) → (dropped_as r o u).1.operation ≡ u.operation
-  drop_operation (None, lists) o u = refl
-  drop_operation (Some n, lists) o u = refl
-
   resets : (act : ℕ) (o : OutboxState) (u : InitiatorState) → IsFor operations.AgentReset act u.operation → L u → At (then_step (end_own_step act words.Done) (drop_list_step o u))
   resets act o u f h =
       let d = drop_list_step o u in
@@ -219,7 +214,7 @@ module _ (s : InitiatorState) (Why : Running → Type 0) where
   conflicts_for (Some running) act o u e w h =
       pick_by (running.act == act) _ _
       (λ g. ends running.operation words.Conflict o (moved running.operation conflict u) (λ other is m n.
-      let same : running ≡ other = same_one running other (sym (same_running u running h e) ∙ is) in
+      let same : running ≡ other = same_Some running other (sym (same_running u running h e) ∙ is) in
       let own : running.act ≡ act = grind (arith, nat_tests) in
       w other is (ap (λ (x : Running). x.act) (sym same) ∙ own)) (moves_if (moves_session running.operation) conflict u refl h))
       (λ g. h)

@@ -99,7 +99,7 @@ module _ (start : List Disk) (serial : ℕ) (past : List Moment) (i : ℕ) where
   judged_count judgements.Got = let e = (got_agrees ((terms past).sent serial) serial (terms past)).count in omega (arith, e)
   judged_count (judgements.Ignored cause) = let e = (ignored_agrees ((terms past).sent serial) cause serial (terms past)).count in omega (arith, e)
 
-conflict_is : (rcode : ℕ) → is_conflict rcode ≡ true → rcode ≡ 4
+pub conflict_is : (rcode : ℕ) → is_conflict rcode ≡ true → rcode ≡ 4
 conflict_is rcode e = grind (arith, nat_tests)
 
 pub is_orb : (managed : Option ℕ) (orb : ℕ) → is_orb_of managed orb ≡ true → (place : ℕ) × ((place < 2) × (orb ≡ start_of (windows.Management place)))

@@ -15,6 +15,7 @@ use Rattle.orb_layout.specs.declared.management.ManagementOrb.{ManagementOrb}
 use Rattle.orb_layout.specs.ManagementOrbs.{management_orb}
 use Rattle.orb_layout.specs.Replies.{Answer, payload_of, write_failure}
 use Rattle.sbp_base.specs.Quadlets.{quad}
+use Rattle.sbp_world.proofs.Common.{none_is}
 
 -- an operation that a reply takes on
 pub record GoesOn (before : Option Operation) (now : Operation) : Type 0 where
@@ -24,15 +25,12 @@ pub record GoesOn (before : Option Operation) (now : Operation) : Type 0 where
   pub orb : was.orb ≡ now.orb
   pub not_over : was.phase ≡ phases.Status → ⊥
 
-none_some : {A : Type 0} (now : Operation) → None ≡ Some now → A
-none_some now e = absurd (let no : None ≡ Some now = e in cc)
-
 module _ (m : Machine) (own : Operation) (is : m.operation ≡ Some own) where
   abbrev Kept : Option Operation → Type 0
   Kept left = (now : Operation) → left ≡ Some now → GoesOn m.operation now
 
   ended : Kept None
-  ended now e = none_some now e
+  ended now e = none_is now e
 
   module _ (open_one : own.phase ≡ phases.Status → ⊥) where
     on_in : (phase : Phase) → Kept (Some (record own { phase = phase }))
@@ -91,7 +89,7 @@ module _ (m : Machine) (own : Operation) (is : m.operation ≡ Some own) where
     phase_kept phases.Status e answer = status_kept (write_failure answer)
 
 replies_by : (m : Machine) (t : Table) (keys : List (List ℕ)) (answer : Answer) (operation : Option Operation) → m.operation ≡ operation → (now : Operation) → (reply_to operation m t keys answer).1.0.operation ≡ Some now → GoesOn m.operation now
-replies_by m t keys answer None e now f = none_some now (sym e ∙ f)
+replies_by m t keys answer None e now f = none_is now (sym e ∙ f)
 replies_by m t keys answer (Some own) e now f = phase_kept m own e t keys own.phase refl answer now f
 
 pub reply_goes : (m : Machine) (t : Table) (keys : List (List ℕ)) (answer : Answer) (now : Operation) → (reply_step m t keys answer).1.0.operation ≡ Some now → GoesOn m.operation now

@@ -36,7 +36,7 @@ pays_keeps : (owed : Option Owed) (found : ℕ → Option Sending) (s : ℕ) (q 
 pays_keeps None found s q t = record { sent = refl; generation = refl; ids = refl; news = refl; current = refl }
 pays_keeps (Some owed) found s q t = let k = gives_keeps (asked_in (found owed.serial)) (rcode_of q.bytes) t in record { sent = k.sent; generation = k.generation; ids = k.ids; news = k.news; current = k.current }
 
-pays_owes : (owed : Option Owed) (found : ℕ → Option Sending) (s : ℕ) (q : Sending) (t : Terms) → t.owes ≡ owed → (pays owed found s q t).owes ≡ None
+pub pays_owes : (owed : Option Owed) (found : ℕ → Option Sending) (s : ℕ) (q : Sending) (t : Terms) → t.owes ≡ owed → (pays owed found s q t).owes ≡ None
 pays_owes None found s q t e = e
 pays_owes (Some owed) found s q t e = refl
 
@@ -123,7 +123,7 @@ pub record Opens (t u : Terms) : Type 0 where
   pub news : u.news ≡ t.news
   pub owes : u.owes ≡ t.owes
 
-later_ids : (ids : ℕ → ℕ → ℕ) (bus g : ℕ) (new : ℕ → ℕ) (node : ℕ) → g ≤ bus → upd ids (bus + 1) new g node ≡ ids g node
+pub later_ids : (ids : ℕ → ℕ → ℕ) (bus g : ℕ) (new : ℕ → ℕ) (node : ℕ) → g ≤ bus → upd ids (bus + 1) new g node ≡ ids g node
 later_ids ids bus g new node l = ap (λ b. (cond b new (ids g)) node) (let x : nat_eq g (bus + 1) ≡ false = grind (arith, nat_tests) in x)
 
 pub opened_terms : (event : Event) (t : Terms) → Opens t (opened event t)

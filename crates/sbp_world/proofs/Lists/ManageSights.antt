@@ -19,6 +19,7 @@ use Rattle.sbp_world.proofs.Lists.ManageNotes.{none_taken}
 use Rattle.sbp_world.proofs.Lists.ManageOffices.{Settles, none_left, office_at, rested, sees_none, sight_settles, stays}
 use Rattle.sbp_world.proofs.Lists.ManageStays.{Calms, Had, calm_busy, calm_free}
 use Rattle.sbp_world.proofs.Lists.ManageTerms.{none_is, untrue}
+use Rattle.sbp_world.proofs.Common.{turned}
 
 -- ---- another node sees a generation
 
@@ -27,9 +28,6 @@ upd_other f n m g e = ap (λ b. cond b g (f m)) e
 
 upd_same : (f : ℕ → ℕ) (n m g : ℕ) → nat_eq m n ≡ true → g ≡ f n → upd f n g m ≡ f m
 upd_same f n m g e h = let x : m ≡ n = grind (arith, nat_tests) in ap (λ b. cond b g (f m)) e ∙ h ∙ ap f (sym x)
-
-turned : (n m : ℕ) → nat_eq n m ≡ false → nat_eq m n ≡ false
-turned n m e = grind (arith, nat_tests)
 
 module _ (start : List Disk) (node generation : ℕ) (past : List Moment) (i : ℕ) (own_generation : (terms (said (notes.Seen node generation) ∷ past)).generation (suc i) ≡ (terms past).generation (suc i)) (none : (terms past).owes ≡ None) where
   abbrev now : List Moment

@@ -1,15 +1,15 @@
 -- What the bytes of a request of a transaction layer say that it asks for.
-use Rattle.std.proofs.Common.{arith, ◌≡◌, refl, sym, ◌∙◌, ap, ℕ, ◌+◌, ◌<◌, List, [], ◌∷◌, length, Option, Some, None}
+use Rattle.std.proofs.Common.{arith, ◌≡◌, refl, sym, ◌∙◌, ap, ℕ, ◌<◌, length, Option, Some, None}
+use Rattle.std.proofs.lemmas.Option.{same_Some}
 use Rattle.async_packet.specs.Canon.{IsValid, canon}
 use Rattle.async_packet.specs.Packet.{Packet}
 use Rattle.async_packet.specs.Reading.{reading}
 use Rattle.label_table.specs.declared.judgement.Asked.{Asked}
-use Rattle.label_table.specs.declared.place.Place.{Place}
 use Rattle.label_table.specs.Bodies.{Body, header_to, request_with}
 use Rattle.label_table.specs.Laws.{relabelled}
 use Rattle.label_table.specs.Layer.{Layer, asked_at, asking_in, asking_step, peer_at, peer_place, unlabelled}
 use Rattle.label_table.specs.Peers.{begun_for}
-use Rattle.label_table.specs.Table.{begin_at, begin_step, lowest_from, serves}
+use Rattle.label_table.specs.Table.{begin_at, begin_step, lowest_from}
 use Rattle.label_table.proofs.Calls.{after_kept}
 use Rattle.label_table.proofs.Rewritten.{writes_labels}
 use Rattle.label_table.specs.Requests.{with_label}
@@ -17,17 +17,7 @@ use Rattle.sbp_initiator.specs.declared.purpose.Purpose.{Purpose}
 use Rattle.sbp_journal.specs.Addresses.{access_of}
 use Rattle.sbp_laws.specs.Packets.{access_in, access_in_bytes, spelled_by as read_by}
 use Rattle.bus_transactions.specs.Fitting.{IsLayer}
-use Rattle.sbp_world.proofs.Pointers.Spelled.{read_canon, same_access}
-use Rattle.sbp_world.proofs.Hosts.Asked.{below_by}
-
-below : (number : ℕ) (bytes : List ℕ) (places : List Place) (n : ℕ) → lowest_from number bytes places ≡ Some n → n < number + length places
-unfolding lowest_from
-below number bytes [] n e = cc
-below number bytes (place ∷ places) n e =
-    below_by (serves number bytes place) number (length places) n (lowest_from (number + 1) bytes places) e (λ f. below (number + 1) bytes places n f)
-
-asked_is : (a b : Asked) → Some a ≡ Some b → a ≡ b
-asked_is a b e = cc
+use Rattle.sbp_world.proofs.Pointers.Spelled.{read_canon, same_access, below}
 
 module _ (layer : Layer Purpose) (peer : ℕ) (body : Body) (purpose : Purpose) (c : IsLayer layer) (v : IsValid (request_with (header_to layer.node peer 0) body)) where
   -- the packet under a label
@@ -40,7 +30,7 @@ module _ (layer : Layer Purpose) (peer : ℕ) (body : Body) (purpose : Purpose) 
 
   found_spelled : (k : ℕ) (number : Option ℕ) → ((n : ℕ) → number ≡ Some n → n < 64) → (asked : Asked) → (asked_at k layer (begun_for (peer_at layer k) peer purpose (begin_at number (peer_at layer k).table (unlabelled layer peer body)))).0 ≡ Some asked → access_in_bytes asked.bytes ≡ access_of (request_with (header_to 0 0 0) body)
   found_spelled k None s asked e = cc
-  found_spelled k (Some number) s asked e = ap (λ (a : Asked). access_in_bytes a.bytes) (sym (asked_is _ asked e)) ∙ under_label number (s number refl)
+  found_spelled k (Some number) s asked e = ap (λ (a : Asked). access_in_bytes a.bytes) (sym (same_Some _ asked e)) ∙ under_label number (s number refl)
 
   full : (k : ℕ) → length (peer_at layer k).table.places ≡ 64
   full k = ap (λ (l : Layer Purpose). length (peer_at l k).table.places) (sym c.layer_is) ∙ (after_kept c.first c.calls).parts.full k

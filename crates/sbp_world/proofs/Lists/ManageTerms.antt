@@ -135,11 +135,11 @@ judges_news : (v : Option Transaction) (cause : Option Cause) (s : ℕ) (q : Sen
 judges_news None cause s q t = refl
 judges_news (Some v) cause s q t = refl
 
-closes_if_news : (b : Bool) (s : ℕ) (v : Transaction) (rcode : ℕ) (t : Terms) → (closes_if b s v rcode t).news ≡ t.news
+pub closes_if_news : (b : Bool) (s : ℕ) (v : Transaction) (rcode : ℕ) (t : Terms) → (closes_if b s v rcode t).news ≡ t.news
 closes_if_news true s v rcode t = refl
 closes_if_news false s v rcode t = refl
 
-closes_news : (held : Held) (v : Transaction) (kind : Kind) (rcode : ℕ) (t : Terms) → (closes held v kind rcode t).news ≡ t.news
+pub closes_news : (held : Held) (v : Transaction) (kind : Kind) (rcode : ℕ) (t : Terms) → (closes held v kind rcode t).news ≡ t.news
 closes_news (waits k own) v kind rcode t = closes_if_news (is_same_kind k kind) own v rcode t
 closes_news free v kind rcode t = refl
 closes_news rests v kind rcode t = refl
@@ -172,11 +172,11 @@ judges_owes (Some v) cause s q t owed e =
     let same : record { serial = s; cause = cause } ≡ owed = same_some (record { serial = s; cause = cause }) owed e in
     inr (ap (λ (o : Owed). o.serial) (sym same), ap (λ (o : Owed). o.cause) (sym same))
 
-closes_if_owes : (b : Bool) (s : ℕ) (v : Transaction) (rcode : ℕ) (t : Terms) → (closes_if b s v rcode t).owes ≡ t.owes
+pub closes_if_owes : (b : Bool) (s : ℕ) (v : Transaction) (rcode : ℕ) (t : Terms) → (closes_if b s v rcode t).owes ≡ t.owes
 closes_if_owes true s v rcode t = refl
 closes_if_owes false s v rcode t = refl
 
-closes_owes : (held : Held) (v : Transaction) (kind : Kind) (rcode : ℕ) (t : Terms) → (closes held v kind rcode t).owes ≡ t.owes
+pub closes_owes : (held : Held) (v : Transaction) (kind : Kind) (rcode : ℕ) (t : Terms) → (closes held v kind rcode t).owes ≡ t.owes
 closes_owes (waits k own) v kind rcode t = closes_if_owes (is_same_kind k kind) own v rcode t
 closes_owes free v kind rcode t = refl
 closes_owes rests v kind rcode t = refl
@@ -227,7 +227,7 @@ that_owes (Some q) cause s t owed e = ignores_owes cause s q (arrives s t) owed 
 pub ignored_owes : (serial : ℕ) (cause : Cause) (past : List Moment) (owed : Owed) → (terms (said (notes.Ignored serial cause) ∷ past)).owes ≡ Some owed → ((terms past).owes ≡ Some owed) ⊎ HasCause owed
 ignored_owes serial cause past owed e = that_owes ((terms past).sent serial) cause serial (terms past) owed e
 
-late_owes : (begun : Option Transaction) (t : Terms) → (times_out begun t).owes ≡ t.owes
+pub late_owes : (begun : Option Transaction) (t : Terms) → (times_out begun t).owes ≡ t.owes
 late_owes None t = refl
 late_owes (Some v) t = refl
 

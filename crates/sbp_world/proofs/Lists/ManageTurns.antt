@@ -1,7 +1,7 @@
 -- What is in hand of an initiator's management stays as it lets a transaction time out.
 use Rattle.std.proofs.Common.{arith, ◌≡◌, ◌∙◌, ◌⊎◌, inl, inr, refl, sym, ap, subst, ℕ, ◌≤◌, Bool, true, false, List, ◌∷◌, Option, Some, None}
 use Rattle.async_packet.specs.Labels.{LabelParts}
-use Rattle.label_table.specs.Layer.{Layer, expiring_step, peer_place}
+use Rattle.label_table.specs.Layer.{Layer, expiring_step}
 use Rattle.rbc_disk.specs.Disk.{Disk}
 use Rattle.sbp_initiator.specs.declared.purpose.Purpose.{Purpose}
 use Rattle.sbp_initiator.specs.declared.purpose.Running.{Running}
@@ -20,7 +20,7 @@ use Rattle.sbp_world.proofs.Hosts.Held.{timed_waits}
 use Rattle.sbp_world.proofs.Hosts.Hosted.{Cored, expires_fit}
 use Rattle.sbp_world.proofs.Hosts.Layered.{AreTame, Left as LayerOf}
 use Rattle.sbp_world.proofs.Hosts.Lives.{expire_at}
-use Rattle.sbp_world.proofs.Hosts.Pointed.{expired_called}
+use Rattle.sbp_world.proofs.Hosts.Pointed.{expired_called, expiring_stays}
 use Rattle.sbp_world.proofs.Hosts.Pointing.{called_of}
 use Rattle.sbp_world.proofs.Hosts.Shown.{IsShown}
 use Rattle.sbp_world.specs.Lists.Managing.{IsFree}
@@ -33,13 +33,8 @@ use Rattle.sbp_world.proofs.Lists.ManageMoments.{Hands, quiet_calm}
 use Rattle.sbp_world.proofs.Lists.ManageSights.{told_busy, told_free, told_hands}
 use Rattle.sbp_world.proofs.Lists.ManageStays.{Calms, calm_busy, calm_free}
 use Rattle.sbp_world.proofs.Lists.ManageTerms.{none_is, same_some}
-use Rattle.sbp_world.proofs.Hosts.Pointed.{expires_in}
 
 -- ---- a transaction times out
-
-expiring_stays : (layer : Layer Purpose) (peer : ℕ) (label : LabelParts) → (expiring_step layer peer label).1.generation ≡ layer.generation
-unfolding expiring_step
-expiring_stays layer peer label = expires_in (peer_place peer layer) layer label
 
 module _ (ready : Bool) (start : List Disk) (serial : ℕ) (label : LabelParts) (past : List Moment) (i : ℕ) (s : InitiatorState) (after : IsShown (said (notes.TimedOut serial) ∷ past) i s.target (expiring_step s.layer s.target label).1) (cored : Cored ready past i s) (h : InHand start past i s) where
   abbrev t : Turn

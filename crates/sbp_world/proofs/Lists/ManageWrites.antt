@@ -54,6 +54,7 @@ use Rattle.sbp_world.proofs.Hosts.Requested.{done_sends}
 use Rattle.sbp_world.specs.Pointers.Moments.{managed_write, manages}
 use Rattle.sbp_world.proofs.Lists.ManageSpelled.{spelled_by}
 use Rattle.sbp_world.proofs.Lists.ManageTerms.{none_is, same_some, untrue}
+use Rattle.sbp_world.proofs.Pointers.Asks.{no_packet}
 
 -- the write of the address of the ORB in the next place
 pub record HasPlace (past : List Moment) (i : ℕ) (bytes : List ℕ) : Type 0 where
@@ -92,9 +93,6 @@ pub record HasBytes (action : Action) (s : InitiatorState) (packet : Outgoing) :
 
 same_packet : (a b : Outgoing) → a ∷ [] ≡ b ∷ [] → a ≡ b
 same_packet a b e = cc
-
-no_packet : {A : Type 0} (packet : Outgoing) → [] ≡ packet ∷ [] → A
-no_packet packet e = absurd (let no : [] ≡ packet ∷ [] = e in cc)
 
 module _ (action : Action) (s : InitiatorState) (packet : Outgoing) where
   asked_bytes : (demand : Demand) → demand_of action s ≡ Some demand → (r : Option Asked × Layer Purpose) → asked_for demand s ≡ r → (asked_as r action empty_outbox s).0 ≡ None → (asked_as r action empty_outbox s).1.0.packets ≡ packet ∷ [] → HasBytes action s packet

@@ -1,6 +1,7 @@
 -- What is told of an ORB that an agent has: the note of a run and of an end, as the law of lists has it.
 use Rattle.std.proofs.Common.{◌≡◌, ◌∙◌, refl, sym, ap, subst, ℕ, suc, nat_eq, Bool, true, false, cond, List, ◌∷◌, length, take, Option, Some, None, arith}
 use Rattle.std.proofs.lemmas.Bool.Decides.{nat_tests}
+use Rattle.std.proofs.lemmas.Option.{none-some}
 use Rattle.orb_layout.specs.declared.status.StatusKind.{StatusKind}
 use Rattle.orb_layout.specs.declared.command.CommandOrb.{CommandOrb}
 use Rattle.page_table.specs.declared.segment.Segment.{Segment}
@@ -60,21 +61,18 @@ module _ (wild : ℕ → Bool) (ms : List Moment) (i n k : ℕ) where
       by true e = refl
       by false e = absurd (f (t e))
 
-  none_some : (x : ℕ) → None ≡ Some x → ⊥
-  none_some x e = cc
-
   some_same : (x y : ℕ) → Some x ≡ Some y → y ≡ x
   some_same x y e = cc
 
   pub order_ran : (x y : Option ℕ) (unit : ℕ) (cdb bytes : List ℕ) (check : Option Sense) → (wild i ≡ false → IsTurn x y) → (wild i ≡ false → RunsNext ms i n k cdb bytes) → PassAt wild (said (notes.Ran i x y unit cdb bytes check)) ms
-  order_ran None y unit cdb bytes check t r = unnamed None y (λ u. none_some n u.list) t
-  order_ran (Some x) None unit cdb bytes check t r = unnamed (Some x) None (λ u. none_some k u.number) t
+  order_ran None y unit cdb bytes check t r = unnamed None y (λ u. none-some n u.list) t
+  order_ran (Some x) None unit cdb bytes check t r = unnamed (Some x) None (λ u. none-some k u.number) t
   order_ran (Some x) (Some y) unit cdb bytes check t r = λ own.
       subst (λ z. RunsNext ms i z y cdb bytes) (some_same x n (t own).list) (subst (λ z. RunsNext ms i n z cdb bytes) (some_same y k (t own).number) (r own))
 
   pub order_ended : (x y : Option ℕ) (status : StatusKind) → (wild i ≡ false → IsTurn x y) → (wild i ≡ false → EndsNext ms i n k status) → PassAt wild (said (notes.Ended i x y status)) ms
-  order_ended None y status t r = unnamed None y (λ u. none_some n u.list) t
-  order_ended (Some x) None status t r = unnamed (Some x) None (λ u. none_some k u.number) t
+  order_ended None y status t r = unnamed None y (λ u. none-some n u.list) t
+  order_ended (Some x) None status t r = unnamed (Some x) None (λ u. none-some k u.number) t
   order_ended (Some x) (Some y) status t r = λ own.
       subst (λ z. EndsNext ms i z y status) (some_same x n (t own).list) (subst (λ z. EndsNext ms i n z status) (some_same y k (t own).number) (r own))
 

@@ -1,5 +1,6 @@
 -- An ORB that was brought of a slot that it had then was read as the laws have it, behind its append; and where its list was open as its read was sent, whole.
 use Rattle.std.proofs.Common.{arith, ◌≡◌, ◌∙◌, refl, sym, ap, subst, append_assoc, ◌<◌, ◌+◌, ℕ, suc, Bool, false, List, [], ◌∷◌, ◌++◌, Some}
+use Rattle.std.proofs.lemmas.Option.{same_Some}
 use Rattle.bus_transactions.specs.Packets.{SerialsCount}
 use Rattle.orb_layout.specs.declared.command.CommandOrb.{CommandOrb}
 use Rattle.rbc_disk.specs.Disk.{Disk}
@@ -24,9 +25,6 @@ use Rattle.sbp_world.proofs.Lists.AsGot.{AsGot}
 use Rattle.sbp_world.proofs.Lists.OpenGots.{OpenAsGot}
 use Rattle.sbp_world.proofs.Lists.OpenSends.{AreOpenReads}
 
-same_number : (a b : ℕ) → Some a ≡ Some b → a ≡ b
-same_number a b e = cc
-
 -- the ORB has this name
 pub record IsOfName (start : List Disk) (past : List Moment) (place address : ℕ) (orb : CommandOrb) (i n k : ℕ) (x : IsNamedBrought start past place address orb) : Type 0 where
   pub initiator : x.i ≡ i
@@ -39,7 +37,7 @@ module _ (start : List Disk) (past : List Moment) (place i n k : ℕ) (orb : Com
 
   of_it : initiator_at (over (target_at start b.earlier)) (terms b.earlier) place ≡ i
   of_it =
-      let e = same_number (initiator_at (over (target_at start b.earlier)) (terms b.earlier) place + 1) (suc x.i) (sym b.asked.to ∙ x.to) in
+      let e = same_Some (initiator_at (over (target_at start b.earlier)) (terms b.earlier) place + 1) (suc x.i) (sym b.asked.to ∙ x.to) in
       let f = name.initiator in
       omega (arith, e, f)
 

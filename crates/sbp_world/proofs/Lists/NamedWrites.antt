@@ -1,12 +1,12 @@
 -- A write of ORB_POINTER that the target got is one that its initiator named for a list, whose first ORB its slot held as the write was got: as no ORB of the list had
 -- ended then, and no status of it was taken.
-use Rattle.std.proofs.Common.{arith, ◌≡◌, ◌∙◌, refl, sym, ap, subst, ℕ, zero, suc, ◌<◌, ◌≤◌, ◌+◌, ◌==◌, nat_eq, Bool, true, false, cond, List, [], ◌∷◌, ◌++◌, length, Option, Some, None}
-use Rattle.std.proofs.lemmas.Bool.Decides.{nat_tests}
+use Rattle.std.proofs.Common.{arith, ◌≡◌, ◌∙◌, refl, sym, ap, subst, ℕ, ◌<◌, ◌≤◌, ◌+◌, Bool, true, false, List, [], ◌∷◌, ◌++◌, length, Option, Some, None}
+use Rattle.std.proofs.lemmas.Bool.{false≢true}
 use Rattle.bus_memory.specs.Windows.{slot_of, start}
 use Rattle.bus_memory.proofs.Found.{slot_of_law}
-use Rattle.bus_transactions.specs.Judging.{AreJudged, facts_of, may_get}
+use Rattle.bus_transactions.specs.Judging.{AreJudged, may_get}
 use Rattle.bus_transactions.specs.Packets.{SerialsCount}
-use Rattle.label_table.specs.Judging.{Facts, row_of}
+use Rattle.label_table.specs.Judging.{row_of}
 use Rattle.rbc_disk.specs.Disk.{Disk}
 use Rattle.sbp_journal.specs.Run.{Moment, asked, said}
 use Rattle.sbp_journal.specs.Transactions.{Sending}
@@ -21,7 +21,6 @@ use Rattle.sbp_world.specs.Runs.{Run, beginning}
 use Rattle.sbp_world.specs.Wire.History.{IsOfWire}
 use Rattle.sbp_world.specs.Worlds.{Scene, WorldState}
 use Rattle.sbp_world.proofs.Agents.Management.Still.{hist}
-use Rattle.sbp_world.proofs.Hosts.Remaining.{remains, serials_behind}
 use Rattle.sbp_world.proofs.Hosts.SentMoments.{sent_below, serials_from}
 use Rattle.sbp_world.specs.Pointers.Pointers.{PointersAt, pointed_list}
 use Rattle.sbp_world.specs.Lists.Begun.{AreBegun}
@@ -37,55 +36,18 @@ use Rattle.sbp_world.proofs.Lists.OpenLasting.{lasts}
 use Rattle.sbp_world.proofs.Lists.OpenNews.{got_more}
 use Rattle.sbp_world.proofs.Lists.Passing.{PassLaw}
 use Rattle.sbp_world.proofs.Lists.Walks.{Turn, Walks}
-
-no : false ≡ true → ⊥
-no e = cc
+use Rattle.sbp_world.proofs.Lists.BufferGets.{judged_from}
+use Rattle.sbp_world.proofs.Common.{cond_off}
+use Rattle.sbp_world.proofs.Lists.OpenedMoments.{pointed_remains}
+use Rattle.sbp_world.proofs.Hosts.PointerNotes.{older}
+use Rattle.sbp_world.proofs.Lists.StatusKnown.{got_by}
 
 -- ---- the list of a write stays
-other_serial : (x serial count : ℕ) → x ≤ count → serial ≡ count + 1 → nat_eq x serial ≡ false
-other_serial x serial count l e = by (nat_eq x serial) refl
-  where
-    by : (b : Bool) → nat_eq x serial ≡ b → b ≡ false
-    by true f = let same : x ≡ serial = grind (arith, nat_tests) in absurd (omega (arith, same, l, e))
-    by false f = refl
-
-apart : {A : Type 0} (b : Bool) (x y : A) → b ≡ false → cond b x y ≡ y
-apart true x y e = absurd (no (sym e))
-apart false x y e = refl
-
-pointed_step : (m : Moment) (past : List Moment) (s i : ℕ) → SerialsCount (m ∷ past) → s ≤ (terms past).count → pointed_list (m ∷ past) s i ≡ pointed_list past s i
-pointed_step (said (notes.Sent serial generation (suc j) to bytes)) past s i c l = apart (nat_eq s serial) _ (pointed_list past s i) (other_serial s serial (terms past).count l c.0)
-pointed_step (said (notes.Sent serial generation zero to bytes)) past s i c l = refl
-pointed_step (said note) past s i c l = refl
-pointed_step (asked line event) past s i c l = refl
-
-pointed_stays : (later past : List Moment) (s i : ℕ) → SerialsCount (later ++ past) → s ≤ (terms past).count → pointed_list (later ++ past) s i ≡ pointed_list past s i
-pointed_stays [] past s i c l = refl
-pointed_stays (m ∷ later) past s i c l =
-    let whole = later ++ past in
-    let rest : SerialsCount whole = serials_behind m whole c in
-    let more = (remains later past rest).count in
-    pointed_step m whole s i c (omega (arith, l, more)) ∙ pointed_stays later past s i rest l
 
 -- ---- a packet that is got is of the receiver's generation
 current_at : (c n r a x : Bool) → may_get (row_of (record { is_current = c; is_for_node = n; is_response = r; is_awaited = a; is_repeated = x })) ≡ true → c ≡ true
 current_at true n r a x e = refl
-current_at false n r a x e = absurd (no e)
-
-current_of : (f : Facts) → may_get (row_of f) ≡ true → f.is_current ≡ true
-current_of f e = current_at f.is_current f.is_for_node f.is_response f.is_awaited f.is_repeated e
-
-judged_from : (later past : List Moment) → AreJudged (later ++ past) → AreJudged past
-judged_from [] past h = h
-judged_from (said (notes.Got serial) ∷ later) past h = judged_from later past h.1
-judged_from (said (notes.Ignored serial cause) ∷ later) past h = judged_from later past h.1
-judged_from (asked line event ∷ later) past h = judged_from later past h
-judged_from (said note ∷ later) past h = judged_from later past h
-
-got_current : (serial : ℕ) (past : List Moment) (packet : Sending) → AreJudged (said (notes.Got serial) ∷ past) → (terms past).sent serial ≡ Some packet → packet.generation ≡ (terms past).generation packet.to
-got_current serial past packet h e =
-    let same : (packet.generation == (terms past).generation packet.to) ≡ true = current_of (facts_of (terms past) packet) (h.0 packet e) in
-    grind (arith, nat_tests)
+current_at false n r a x e = absurd (false≢true e)
 
 -- ---- a line that begins changes nothing of it
 pub record Like (before earlier : List Moment) : Type 0 where
@@ -132,7 +94,7 @@ module _ (wild : ℕ → Bool) (i : ℕ) (own : wild i ≡ false) (before : List
         let same = joined later ∙ e in
         let c : SerialsCount ((later ++ one) ++ earlier) = subst SerialsCount (sym same) counted in
         subst (λ ms. pointed_list ms serial i ≡ pointed_list earlier serial i) same
-        (pointed_stays (later ++ one) earlier serial i c (sent_below earlier serial sent (serials_from (later ++ one) earlier c) sent_is))
+        (pointed_remains (later ++ one) earlier serial i c (sent_below earlier serial sent (serials_from (later ++ one) earlier c) sent_is))
 
     list_now : pointed_list now serial i ≡ pointed_list earlier serial i
     list_now = list_stays front now wire.serials is
@@ -168,7 +130,7 @@ module _ (wild : ℕ → Bool) (i : ℕ) (own : wild i ≡ false) (before : List
 
       current : sent.generation ≡ (terms before).generation 0
       current =
-          got_current serial earlier sent (judged_from front (said (notes.Got serial) ∷ earlier) (subst AreJudged (sym is) wire.judged)) sent_is
+          got_by serial earlier sent (judged_from front (said (notes.Got serial) ∷ earlier) (subst AreJudged (sym is) wire.judged)) sent_is
           ∙ (ap (λ k. (terms earlier).generation k) pointed.to_is ∙ ap (λ (f : ℕ → ℕ). f 0) like.generation)
 
       none : ends before i n ≡ 0

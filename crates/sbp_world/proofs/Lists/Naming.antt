@@ -1,5 +1,5 @@
 -- In every run an ORB of an initiator's latest list of which no status was taken stands in its slot, and is the one that its address names.
-use Rattle.std.proofs.Common.{◌≡◌, ◌∙◌, refl, sym, ap, subst, ℕ, suc, ◌<◌, ◌≤◌, nat_lt, Bool, true, false, cond, List, ◌∷◌, ◌++◌, map, length, Option, Some, None, arith}
+use Rattle.std.proofs.Common.{◌≡◌, ◌∙◌, refl, sym, ap, subst, ℕ, suc, ◌<◌, ◌≤◌, nat_lt, Bool, true, cond, List, ◌∷◌, ◌++◌, map, length, Option, Some, None, arith}
 use Rattle.std.proofs.lemmas.Bool.Decides.{nat_tests}
 use Rattle.bus_memory.proofs.Found.{slot_of_law}
 use Rattle.orb_list.specs.Lists.{last_at, last_in}
@@ -29,8 +29,8 @@ use Rattle.sbp_world.specs.Lists.Names.{AreNamed, NamesLaw}
 use Rattle.sbp_world.specs.Lists.Needs.{IsNamed, initiator_in}
 use Rattle.sbp_world.proofs.Lists.Passing.{PassLaw}
 use Rattle.sbp_world.proofs.Lists.Histories.{after_lines, between}
-use Rattle.sbp_world.proofs.Lists.Named.{no}
 use Rattle.sbp_world.proofs.Lists.Stands.{standing}
+use Rattle.sbp_world.proofs.Lists.OrbSteps.{yes}
 
 -- a line that delivers one packet after the other, by how many it delivers at most
 pub record Most (event : Event) : Type 0 where
@@ -55,9 +55,6 @@ most_of (events.Key unit key) d = absurd d
 -- no initiator is asked about
 abbrev pub all_wild : ℕ → Bool
 all_wild i = true
-
-pub none_of : {A : Type 0} → true ≡ false → A
-none_of e = absurd (no (sym e))
 
 listed_as : (last : Option TicketParts) (n k : ℕ) → name_in last ≡ Some (orb n k) → list_in last ≡ Some n
 listed_as None n k e = ap terms.list_in e
@@ -96,7 +93,7 @@ module _ (line : ℕ) (run : Run) (r : IsRun run) (has : 0 < run.units) (small :
   named_after : AreNamed (history_of line run) last.world
   named_after =
       all_named (history_of line run) last.world
-      (after_lines all_wild line run r has small size (λ i e. none_of e) (λ i e. none_of e)).law
+      (after_lines all_wild line run r has small size (λ i e. yes e) (λ i e. yes e)).law
       (λ i b. (run_law.rows line run r i (inside i b)).rows)
 
   module _ (next : ℕ) (event : Event) (d : DeliversMore event) (told : List (Option Told)) (m : MayAll told (begun last)) where
@@ -118,7 +115,7 @@ module _ (line : ℕ) (run : Run) (r : IsRun run) (has : 0 < run.units) (small :
     named_between : AreNamed ms end
     named_between =
         all_named ms end
-        (between all_wild line run r has small size next event d told m (λ i e. none_of e) (λ i e. none_of e)).law
+        (between all_wild line run r has small size next event d told m (λ i e. yes e) (λ i e. yes e)).law
         (λ i b. (host_at i b).rows)
 
 pub names_law : NamesLaw

@@ -1,6 +1,7 @@
 -- Where the management of the target asks to write, and where the write that it waits for begins, over the moments of a history: as its ORBs name it, where what a reply brings to it is good.
 use Rattle.std.proofs.Common.{◌≡◌, ◌∙◌, refl, sym, ap, subst, inl, inr, ◌⊎◌, ◌==◌, not, ℕ, zero, Bool, true, false, cond, List, [], ◌∷◌, Option, Some, None, Result, Ok, Err, arith, nat_eq, nat_le, length, ◌++◌, map}
 use Rattle.std.specs.Prelude.{is_none, position, unwrap_or}
+use Rattle.std.proofs.lemmas.Option.{same_Some}
 use Rattle.label_table.specs.Bodies.{Body, block_write, block_read, quadlet_read}
 use Rattle.login_table.specs.Table.{Table}
 use Rattle.mgmt_agent.specs.declared.operation.Busy.{Busy}
@@ -205,8 +206,6 @@ module _ (whose : ℕ) (May : ℕ → Type 0) where
 
   -- ---- over a moment
   module _ (start : List Disk) where
-    some_access : (a b : Access) → Some a ≡ Some b → a ≡ b
-    some_access a b e = cc
 
     waits_on : (m : Moment) (past : List Moment) → SerialsCount (m ∷ past) → ContentAt start m past → OfficeSo start past → Moves (office_of (target_at start past)) (office_of (target_at start (m ∷ past))) m → HasOpOf whose (target_at start (m ∷ past)).manager → (r : ℕ) → (target_at start (m ∷ past)).manages ≡ Some r → (access : Access) → access_at (terms (m ∷ past)) r ≡ Some access → access.is_write ≡ true → May access.offset
     waits_on m past c content o (keeps manager decided manages) has r e access is w =
@@ -227,7 +226,7 @@ module _ (whose : ℕ) (May : ℕ → Type 0) where
         let same : serial ≡ r = same_some serial r (sym manages ∙ e) in
         let there : access_at (terms (m ∷ past)) r ≡ Some (access_for a.body) =
         ap (λ x. access_at (terms (x ∷ past)) r) at ∙ (ap (λ n. access_at (terms (sent ∷ past)) n) (sym same) ∙ (ap (λ so. access_in (packet_in so)) (sent_there past serial generation zero to bytes) ∙ a.access)) in
-        let of_body : access ≡ access_for a.body = some_access access (access_for a.body) (sym is ∙ there) in
+        let of_body : access ≡ access_for a.body = same_Some access (access_for a.body) (sym is ∙ there) in
         subst (λ (x : Access). May x.offset) (sym of_body) (body_so t.manager_asks t.manager.outgoing a.body (o.asks_may (subst (HasOpOf whose) manager has)) a.asks (ap (λ (x : Access). x.is_write) (sym of_body) ∙ w))
 
     moves : (m : Moment) (past : List Moment) → SerialsCount (m ∷ past) → Moves (office_of (target_at start past)) (office_of (target_at start (m ∷ past))) m

@@ -2,6 +2,7 @@
 -- the target; and one write of ORB_POINTER was for that list.
 use Rattle.std.proofs.Common.{arith, ◌≡◌, ◌∙◌, refl, sym, ap, subst, ◌<◌, ◌≤◌, ◌+◌, ℕ, suc, nat_eq, Bool, true, false, List, ◌∷◌, ◌++◌, map, length, Some, Ok}
 use Rattle.std.proofs.lemmas.Bool.Decides.{nat_tests}
+use Rattle.std.proofs.lemmas.Option.{same_Some}
 use Rattle.async_packet.specs.Packet.{Packet}
 use Rattle.async_packet.specs.Reading.{reading}
 use Rattle.rbc_disk.specs.Disk.{Disk}
@@ -42,9 +43,6 @@ use Rattle.sbp_world.proofs.Lists.OpenPlacing.{one_place}
 use Rattle.sbp_world.proofs.Lists.OpenProved.{opens_law}
 use Rattle.sbp_world.proofs.Lists.OpenTurns.{up_state}
 
-some_same : {A : Type 0} (x y : A) → Some x ≡ Some y → x ≡ y
-some_same x y e = cc
-
 module _ (start : List Disk) (past : List Moment) (w : WorldState) (opened : AreOpened past w) (held : AreHeldAt start past w) (caught : HaveCaught start past w) (once : (i : ℕ) → i < length w.initiators → (n serial other : ℕ) → pointed_list past serial i ≡ Some n → pointed_list past other i ≡ Some n → serial ≡ other) (open_for : AreAllOpenFor past w) where
   module _ (i place other : ℕ) (calm : IsCalm past i) (b : place < 8) (c : other < 8) (up : IsUp w i place) (up_other : IsUp w i other) where
     is_opened : IsOpened past w place
@@ -74,7 +72,7 @@ module _ (start : List Disk) (past : List Moment) (w : WorldState) (opened : Are
         by : (x : Bool) → nat_eq ((terms past).generation 0) ((terms past).generation (suc i)) ≡ x → two.list ≡ one.list
         by true e =
             let same : (terms past).generation 0 ≡ (terms past).generation (suc i) = grind (arith, nat_tests) in
-            some_same two.list one.list (sym (two.present same) ∙ one.present same)
+            same_Some two.list one.list (sym (two.present same) ∙ one.present same)
         by false e =
             let h = not_behind in
             let ahead : (terms past).generation 0 < (terms past).generation (suc i) = grind (arith, nat_tests) in
@@ -86,7 +84,7 @@ module _ (start : List Disk) (past : List Moment) (w : WorldState) (opened : Are
     serials_same = once i inside one.list two.serial one.serial (two.pointed ∙ ap (λ n. Some n) lists_same) one.pointed
 
     packets_same : two.packet ≡ one.packet
-    packets_same = some_same two.packet one.packet (sym two.sent ∙ (ap (terms past).sent serials_same ∙ one.sent))
+    packets_same = same_Some two.packet one.packet (sym two.sent ∙ (ap (terms past).sent serials_same ∙ one.sent))
 
     read_same : two.at.packet ≡ one.at.packet
     read_same = let both : Ok two.at.packet ≡ Ok one.at.packet = sym two.at.read ∙ (ap (λ (k : Sending). reading k.bytes) packets_same ∙ one.at.read) in cc

@@ -1,9 +1,10 @@
 -- What a call of the target leaves of the places whose lists are open, where it points to none: cuts, decisions, resets and seconds. A place with an open list
 -- has a live login, and no other login that leaves or is taken back has its ID.
-use Rattle.std.proofs.Common.{arith, ◌≡◌, ◌⊎◌, inl, inr, ◌≢◌, ◌∙◌, refl, sym, ap, subst, ◌<◌, ℕ, zero, suc, ◌+◌, nat_eq, nat_lt, not, Bool, true, false, cond, List, [], ◌∷◌, ◌++◌, length, map, Option, Some, None}
+use Rattle.std.proofs.Common.{arith, ◌≡◌, ◌⊎◌, inl, inr, ◌≢◌, ◌∙◌, refl, sym, ap, subst, ◌<◌, ℕ, zero, suc, ◌+◌, nat_eq, not, Bool, true, false, cond, List, [], ◌∷◌, ◌++◌, length, map, Option, Some, None}
 use Rattle.std.specs.Prelude.{slice_index_or, slice_set}
 use Rattle.std.proofs.lemmas.Bool.Decides.{nat_tests}
 use Rattle.std.proofs.Math.ListN.{length-set}
+use Rattle.std.proofs.lemmas.Bool.{false≢true}
 use Rattle.login_table.specs.declared.login.Login.{Login}
 use Rattle.login_table.specs.Sound.{IsSound}
 use Rattle.login_table.specs.Table.{is_live, place_at}
@@ -41,9 +42,7 @@ use Rattle.sbp_bus.specs.Places.{holder_at, or_nobody}
 use Rattle.sbp_journal.specs.declared.note.Note.{Note}
 use Rattle.sbp_journal.specs.Run.{Moment, said}
 use Rattle.sbp_laws.specs.OrderLaw.{is_cut as was_cut}
-
-no : false ≡ true → ⊥
-no e = cc
+use Rattle.sbp_world.proofs.Agents.Managed.{in_place}
 
 abbrev pub Here : NodeState → ℕ → Machine
 Here node p = (desk_at node p).agent
@@ -170,9 +169,9 @@ module _ (u : WorldState) (H : ℕ → Holder) (B : ℕ → Type 0) (logins : Li
           let same : p ≡ place = grind (arith, nat_tests) in
           let both : Some o.login ≡ Some h.login = sym o.is ∙ ap (place_at logins) same ∙ h.is in
           let one : o.login ≡ h.login = cc in
-          no (sym h.old ∙ sym (ap is_live one) ∙ o.live)
+          false≢true (sym h.old ∙ sym (ap is_live one) ∙ o.live)
       by false q =
-          let other : p ≢ place = λ same. no (sym q ∙ (let yes : nat_eq p place ≡ true = grind (arith, nat_tests) in yes)) in
+          let other : p ≢ place = λ same. false≢true (sym q ∙ (let yes : nat_eq p place ≡ true = grind (arith, nat_tests) in yes)) in
           (sound.apart p place o.login h.login other o.is h.is).ids (sym o.id_is ∙ e ∙ sym h.id_is)
 
   other_apart : (p place id : ℕ) → p ≢ place → OwnsLogin (B p) logins (H p) p → HasId logins place id → (H p).login ≡ id → ⊥
@@ -180,7 +179,7 @@ module _ (u : WorldState) (H : ℕ → Holder) (B : ℕ → Type 0) (logins : Li
 
   -- ---- cuts
   listless : (m : Machine) → is_up (reset_step m) ≡ true → ⊥
-  listless m e = no (sym (reset_none m) ∙ e)
+  listless m e = false≢true (sym (reset_none m) ∙ e)
 
   -- the agent that is cut has no list
   cut_none : (cause : CutCause) (place : ℕ) (s : Scene) → length s.node.desks ≡ 8 → place < 8 → Listing (cut cause place s).node place → ⊥
@@ -191,7 +190,7 @@ module _ (u : WorldState) (H : ℕ → Holder) (B : ℕ → Type 0) (logins : Li
 
   -- a place has a list, and so it is one of the eight
   far_none : (desks : List Desk) (k : ℕ) → is_up (slice_index_or desks k new_desk).agent ≡ true → k < length desks
-  far_none [] k e = absurd (no e)
+  far_none [] k e = absurd (false≢true e)
   far_none (d ∷ desks) zero e = omega arith
   far_none (d ∷ desks) (suc k) e = let x = far_none desks k e in omega (arith, x)
 
@@ -264,9 +263,6 @@ module _ (u : WorldState) (H : ℕ → Holder) (B : ℕ → Type 0) (logins : Li
   abbrev pub Old : Effect → Type 0
   Old (effects.Entered place replaced) = IsOld replaced logins
   Old effect = Unit {0}
-
-  in_place : (place : ℕ) → place < 8 → place_in place ≡ Some place
-  in_place place b = ap (λ (x : Bool). cond x (Some place) None) (let e : nat_lt place 8 ≡ true = grind (arith, nat_tests) in e)
 
   leaves : (place id : ℕ) (s : Scene) → HasId logins place id → Open s → Open (effect_by (effects.Left place) id s)
   leaves place id s h c =

@@ -1,5 +1,5 @@
 -- In every run with what open lists stand on, they are as the laws of lists need them.
-use Rattle.std.proofs.Common.{◌≡◌, ◌∙◌, refl, sym, ap, subst, ℕ, ◌<◌, ◌≤◌, List, [], ◌∷◌, ◌++◌, map, length, Option, Some, None}
+use Rattle.std.proofs.Common.{◌≡◌, ◌∙◌, refl, sym, ap, subst, ℕ, ◌<◌, ◌≤◌, List, [], ◌∷◌, ◌++◌, map, length, Option, Some}
 use Rattle.bus_transactions.specs.Packets.{SerialsCount}
 use Rattle.rbc_disk.specs.Disk.{Disk}
 use Rattle.rbc_disk.specs.Runs.{Told}
@@ -13,14 +13,13 @@ use Rattle.sbp_world.specs.Making.{ready_logins}
 use Rattle.sbp_world.specs.Runs.{Run, after, beginning}
 use Rattle.sbp_world.specs.Settling.{MayAll, after_all}
 use Rattle.sbp_world.specs.Worlds.{Scene, WorldState, begun}
-use Rattle.sbp_world.specs.Agents.Management.Terms.{DeliversMore}
 use Rattle.sbp_world.proofs.Agents.Management.Holding.{was_sent}
 use Rattle.sbp_world.proofs.Agents.Management.Still.{hist}
 use Rattle.sbp_world.proofs.Agents.Holders.{holders_between_law, holders_law}
 use Rattle.sbp_world.specs.Hosts.Runs.{IsRun, more_deliveries}
 use Rattle.sbp_world.proofs.Hosts.Lasting.{lasting_law}
-use Rattle.sbp_world.proofs.Hosts.Remaining.{remains, serials_behind}
-use Rattle.sbp_world.proofs.Hosts.SentMoments.{sent_below}
+use Rattle.sbp_world.proofs.Hosts.Remaining.{remains}
+use Rattle.sbp_world.proofs.Hosts.SentMoments.{sent_below, serials_from}
 use Rattle.sbp_world.proofs.Hosts.Runs.{count_after, count_between, run_law}
 use Rattle.sbp_world.specs.Pointers.Pointers.{MomentsLaw, PointersLaw}
 use Rattle.sbp_world.specs.Sessions.Caught.{CaughtBetweenLaw, CaughtLaw}
@@ -31,12 +30,10 @@ use Rattle.sbp_world.proofs.Lists.OpenPointed.{AllCome, AllNew, are_listed}
 use Rattle.sbp_world.proofs.Lists.OpenRuns.{Facts}
 use Rattle.sbp_world.proofs.Lists.OpenWires.{wire_after, wire_between}
 use Rattle.sbp_world.proofs.Lists.OpenProved.{After, facts, facts_at, had_after, had_between, opens_law, were_after}
+use Rattle.sbp_world.proofs.Common.{delivers}
 
 -- ---- a packet that was sent stays so
 module _ (past : List Moment) (wire : SerialsCount past) where
-  behind : (later earlier : List Moment) → SerialsCount (later ++ earlier) → SerialsCount earlier
-  behind [] earlier c = c
-  behind (m ∷ later) earlier c = behind later earlier (serials_behind m (later ++ earlier) c)
 
   pub lasts : (later earlier : List Moment) (serial : ℕ) (sent : Sending) → later ++ said (notes.Got serial) ∷ earlier ≡ past → (terms earlier).sent serial ≡ Some sent → (terms past).sent serial ≡ Some sent
   lasts later earlier serial sent e f = by (subst SerialsCount (sym e) wire)
@@ -49,7 +46,7 @@ module _ (past : List Moment) (wire : SerialsCount past) where
       by s =
           let all = subst SerialsCount (sym (joined later)) s in
           let r = remains (later ++ said (notes.Got serial) ∷ []) earlier all in
-          subst (λ ms. (terms ms).sent serial ≡ Some sent) (joined later ∙ e) (r.sent serial (sent_below earlier serial sent (behind (later ++ said (notes.Got serial) ∷ []) earlier all) f) ∙ f)
+          subst (λ ms. (terms ms).sent serial ≡ Some sent) (joined later ∙ e) (r.sent serial (sent_below earlier serial sent (serials_from (later ++ said (notes.Got serial) ∷ []) earlier all) f) ∙ f)
 
 -- ---- a packet that comes
 comes : (units logins : ℕ) (has : 0 < units) (start : List Disk) (past : List Moment) (w : WorldState) → Facts units logins has start past w → AllCome (hist past w) w
@@ -63,9 +60,6 @@ news units logins has start past w f serial sent found to_is label part calm pac
     never_new w f.holds.sound.stands serial sent found to_is label part calm packet judged current
 
 -- ---- runs
-delivers : (most : Option ℕ) → DeliversMore (more_deliveries most)
-delivers (Some count) = tt
-delivers None = tt
 
 module _ (pointers_law : PointersLaw) (moments_law : MomentsLaw) (caught_law : CaughtLaw) (caught_between_law : CaughtBetweenLaw) (line : ℕ) (run : Run) (r : IsRun run) (has : 0 < run.units) (small : run.units ≤ 4) (size : length run.start.disks ≡ run.units) where
   abbrev last : Scene

@@ -1,6 +1,8 @@
 -- The list that is open at an agent is its initiator's latest one, and no other agent has one of that initiator open.
 use Rattle.std.proofs.Common.{arith, ◌≡◌, ◌∙◌, refl, sym, ap, subst, ◌<◌, ◌≤◌, ◌+◌, ℕ, suc, nat_eq, nat_lt, Bool, true, false, cond, List, ◌∷◌, ◌++◌, length, Option, Some, None, Ok}
 use Rattle.std.proofs.lemmas.Bool.Decides.{nat_tests}
+use Rattle.std.proofs.lemmas.Bool.{false≢true}
+use Rattle.std.proofs.lemmas.Option.{same_Some}
 use Rattle.async_packet.specs.Packet.{Packet}
 use Rattle.async_packet.specs.Reading.{reading}
 use Rattle.bus_memory.specs.declared.window.Window.TheVariants as windows
@@ -45,18 +47,12 @@ use Rattle.sbp_laws.specs.OrderLaw.{is_cut}
 use Rattle.sbp_world.specs.Wire.History.{IsOfWire}
 use Rattle.sbp_world.proofs.Lists.OpenTurns.{listing_up, up_state}
 
-no : false ≡ true → ⊥
-no e = cc
-
-some_same : {A : Type 0} (x y : A) → Some x ≡ Some y → x ≡ y
-some_same x y e = cc
-
 -- ---- an ORB of the present list whose status was not taken stands in its slot
 module _ (past : List Moment) (i n k : ℕ) (s : SlotTable) (rows : AreRows past i s) (inside : k < appends past i n) (none : taken_at past i n k ≡ None) where
   in_list : (present : Option PresentList) → s.present ≡ present → present_list past i ≡ present_in present → IfList (terms_at past i) s.slots s.lists present → present_list past i ≡ Some n → StandsThere past i n k
   in_list None e p l f = absurd (let z : None ≡ Some n = sym p ∙ f in cc)
   in_list (Some list) e p l f =
-      let same : list.tail.list ≡ n = some_same list.tail.list n (sym p ∙ f) in
+      let same : list.tail.list ≡ n = same_Some list.tail.list n (sym p ∙ f) in
       let w = l.waits k (subst (λ m. k < appends past i m) (sym same) inside) (subst (λ m. taken_at past i m k ≡ None) (sym same) none) in
       let last = waits_last (slot_in s.slots w.ticket.slot) w.ticket w.waits in
       let fits = last_fits (terms_at past i) s rows.fits w.ticket.slot w.ticket w.small last in
@@ -93,7 +89,7 @@ module _ (past : List Moment) (w : WorldState) (p n k : ℕ) (inside : initiator
   list_of : (t : Option TicketParts) → name_in t ≡ Some (orb n k) → (bus.list_in t ≡ Some n) × (bus.orb_in t ≡ Some k)
   list_of None e = absurd (let z : None ≡ Some (orb n k) = e in cc)
   list_of (Some t) e =
-      let same : orb t.list t.number ≡ orb n k = some_same (orb t.list t.number) (orb n k) e in
+      let same : orb t.list t.number ≡ orb n k = same_Some (orb t.list t.number) (orb n k) e in
       (ap (λ (o : Orb). Some o.list) same, ap (λ (o : Orb). Some o.number) same)
 
   pub is_named : IsNamed past w p n k
@@ -185,7 +181,7 @@ module _ (start : List Disk) (past : List Moment) (w : WorldState) (opens : AreO
 
     -- what was sent stays as it was
     one_packet : (serial : ℕ) (x y : Sending) → (terms past).sent serial ≡ Some x → (terms past).sent serial ≡ Some y → x ≡ y
-    one_packet serial x y e f = some_same x y (sym e ∙ f)
+    one_packet serial x y e f = same_Some x y (sym e ∙ f)
 
     pub one_only : q ≡ p
     one_only =

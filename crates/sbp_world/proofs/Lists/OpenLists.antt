@@ -1,21 +1,14 @@
 -- An initiator's present list is its latest one.
 use Rattle.std.proofs.Common.{arith, ◌≡◌, ◌∙◌, refl, sym, ap, ℕ, suc, ◌==◌, nat_eq, Bool, true, false, cond, List, [], ◌∷◌, Some, None}
 use Rattle.std.proofs.lemmas.Bool.Decides.{nat_tests}
+use Rattle.std.proofs.lemmas.Bool.{false≢true}
+use Rattle.std.proofs.lemmas.Option.{none-some, same_Some}
 use Rattle.sbp_journal.specs.Run.{Moment, asked, said}
 use Rattle.sbp_journal.specs.declared.note.Note.TheVariants as notes
 use Rattle.sbp_laws.specs.Lists.{present_list}
 use Rattle.sbp_laws.specs.Terms.{lists}
 use Rattle.sbp_laws.specs.Turns.{EachMoment}
 use Rattle.sbp_world.specs.Pointers.Moments.{MayAppend, MayStand}
-
-no : false ≡ true → ⊥
-no e = cc
-
-none_some : {A : Type 0} (x : A) → None ≡ Some x → ⊥
-none_some x e = cc
-
-some_same : {A : Type 0} (x y : A) → Some x ≡ Some y → x ≡ y
-some_same x y e = cc
 
 -- ---- the present list is the latest one
 module _ (i n : ℕ) where
@@ -33,18 +26,18 @@ module _ (i n : ℕ) where
       may = a (let z : nat_eq j i ≡ true = grind (arith, nat_tests) in z)
 
       same : m ≡ n
-      same = some_same m n e
+      same = same_Some m n e
 
       by : (c : Bool) → nat_eq k 0 ≡ c → suc n ≡ cond c (suc (lists ms j)) (lists ms j)
       by true z = ap suc (sym same ∙ (may.first (grind (arith, nat_tests))).1 ∙ ap (lists ms) own)
       by false z = f (may.later (grind (arith, nat_tests)) ∙ ap Some same) ∙ ap (lists ms) own
 
   by_drop : (ms : List Moment) (b : Bool) → Latest ms → cond b None (present_list ms i) ≡ Some n → suc n ≡ lists ms i
-  by_drop ms true f e = absurd (none_some n e)
+  by_drop ms true f e = absurd (none-some n e)
   by_drop ms false f e = f e
 
   pub latest : (ms : List Moment) → EachMoment (MayStand i) ms → present_list ms i ≡ Some n → suc n ≡ lists ms i
-  latest [] l e = absurd (none_some n e)
+  latest [] l e = absurd (none-some n e)
   latest (asked line event ∷ ms) l e = latest ms l.1 e
   latest (said (notes.Append j m k cdb buffer) ∷ ms) l e = by_append ms j m k (nat_eq i j) refl l.0 (latest ms l.1) e
   latest (said (notes.Drop j m) ∷ ms) l e = by_drop ms (nat_eq i j) (latest ms l.1) e

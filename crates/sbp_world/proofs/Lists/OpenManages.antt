@@ -3,6 +3,7 @@ use Rattle.std.proofs.Common.{arith, ◌≡◌, refl, sym, ap, subst, ◌<◌, �
 use Rattle.std.specs.Prelude.{is_none, slice_index_or}
 use Rattle.std.proofs.lemmas.List.Elements.{Contains-get_or}
 use Rattle.std.proofs.Math.ListN.{length-map}
+use Rattle.std.proofs.lemmas.Bool.{false≢true}
 use Rattle.async_packet.specs.Packet.{Packet, header_in}
 use Rattle.label_table.specs.Bodies.{Body}
 use Rattle.label_table.specs.declared.judgement.Asked.{Asked}
@@ -38,9 +39,6 @@ use Rattle.sbp_world.proofs.Agents.Granting.{reply_brings}
 use Rattle.sbp_world.proofs.Agents.Sparing.{Spares, reply_spares}
 use Rattle.sbp_world.proofs.Lists.Frees.{HasHeld, reply_frees}
 use Rattle.sbp_world.proofs.Lists.OpenCuts.{Known, Old, Open, cuts_from, decides, expired_more, fewer, held_apart, map_less, same_desks, side_more, tells_failed}
-
-no : false ≡ true → ⊥
-no e = cc
 
 module _ (u : WorldState) (H : ℕ → Holder) (B : ℕ → Type 0) (table : Table) (sound : IsSound table.places) where
   abbrev K : Scene → Type 0
@@ -167,7 +165,7 @@ module _ (u : WorldState) (H : ℕ → Holder) (B : ℕ → Type 0) (table : Tab
   last_old login e = by login.remaining refl e
     where
       by : (left : Option ℕ) → login.remaining ≡ left → is_last left ≡ true → is_live login ≡ false
-      by None q f = absurd (no f)
+      by None q f = absurd (false≢true f)
       by (Some seconds) q f = ap is_none q
 
   held_at : (place id : ℕ) (x : Option Login) → place_at table.places place ≡ x → expired_id x ≡ Some id → HasHeld table.places place id

@@ -2,13 +2,14 @@
 use Rattle.std.proofs.Common.{arith, ◌≡◌, ◌∙◌, ◌<◌, ◌≤◌, ◌+◌, ℕ, nat_eq, refl, sym, ap, subst, Bool, true, false, cond, List, [], ◌∷◌, ◌++◌, Option, Some, None}
 use Rattle.std.proofs.lemmas.Bool.Decides.{nat_tests}
 use Rattle.sbp_journal.specs.Run.{Moment, asked, said}
-use Rattle.sbp_journal.specs.Transactions.{Kind, Part, Sending, Transaction, asked_by, begun_by, no_packet, part_of, request, response}
-use Rattle.sbp_journal.specs.Wire.{Held, Owed, Terms, arrives, begins, closes, closes_if, free, gets, gets_as, gives, ignores, ignores_that, is_news, is_served, judges, judges_if, opened, pays, puts, rests, sends, terms, times_out, waits}
+use Rattle.sbp_journal.specs.Transactions.{Part, Sending, Transaction, asked_by, begun_by, no_packet, part_of, request, response}
+use Rattle.sbp_journal.specs.Wire.{Owed, Terms, arrives, begins, gets, gets_as, gives, ignores, ignores_that, is_news, is_served, judges, judges_if, opened, pays, puts, sends, terms, times_out}
 use Rattle.sbp_journal.specs.declared.cause.Cause.{Cause}
 use Rattle.sbp_journal.specs.declared.cause.Cause.TheVariants as causes
 use Rattle.sbp_journal.specs.declared.event.Event.{Event}
 use Rattle.sbp_journal.specs.declared.event.Event.TheVariants as events
 use Rattle.sbp_journal.specs.declared.note.Note.TheVariants as notes
+use Rattle.sbp_world.proofs.Lists.ManageTerms.{closes_if_news, closes_news}
 
 module _ (r : ℕ) where
   abbrev Grows : Terms → Terms → Type 0
@@ -32,18 +33,9 @@ module _ (r : ℕ) where
   judges_if_same true u s packet t = judges_same u (Some causes.Grammar) s packet t
   judges_if_same false u s packet t = refl
 
-  closes_if_same : (b : Bool) (s : ℕ) (u : Transaction) (rcode : ℕ) (t : Terms) → (closes_if b s u rcode t).news ≡ t.news
-  closes_if_same true s u rcode t = refl
-  closes_if_same false s u rcode t = refl
-
-  closes_same : (held : Held) (u : Transaction) (kind : Kind) (rcode : ℕ) (t : Terms) → (closes held u kind rcode t).news ≡ t.news
-  closes_same (waits kind s) u other rcode t = closes_if_same _ s u rcode t
-  closes_same free u other rcode t = refl
-  closes_same rests u other rcode t = refl
-
   pub gets_as_same : (part : Part) (s : ℕ) (packet : Sending) (t : Terms) → (gets_as part s packet t).news ≡ t.news
   gets_as_same (request label kind) s packet t = judges_same (asked_by packet) None s packet t
-  gets_as_same (response label kind) s packet t = closes_same _ _ kind _ t
+  gets_as_same (response label kind) s packet t = closes_news _ _ kind _ t
   gets_as_same no_packet s packet t = refl
 
   -- ---- one moment

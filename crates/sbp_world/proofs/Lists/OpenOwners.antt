@@ -1,6 +1,7 @@
 -- Who wrote ORB_POINTER: a packet of a node that asks for a register of an agent, and is not barred, is of the initiator of the login of its place, whom the terms have there too.
 use Rattle.std.proofs.Common.{◌≡◌, ◌∙◌, refl, sym, ap, subst, ◌<◌, ◌&&◌, not, nat_eq, is_none, ℕ, suc, ◌+◌, Bool, true, false, cond, List, length, Option, Some, None, Ok, arith}
 use Rattle.std.proofs.lemmas.Bool.Decides.{nat_tests}
+use Rattle.std.proofs.lemmas.Bool.{false≢true}
 use Rattle.async_packet.specs.Packet.{Packet, header_in}
 use Rattle.async_packet.specs.Reading.{reading}
 use Rattle.bus_transactions.specs.Wire.{Node}
@@ -33,9 +34,6 @@ use Rattle.sbp_world.proofs.Agents.Management.Offices.{over_keeps}
 use Rattle.sbp_world.proofs.Agents.Management.Holding.{Holding, is_of, same_id, target_generation}
 use Rattle.sbp_world.proofs.Agents.Management.Still.{hist}
 use Rattle.sbp_world.specs.Agents.Holders.{AreHeldAt}
-
-no : false ≡ true → ⊥
-no e = cc
 
 -- the live login of a node in a place
 pub record IsOwner (node : NodeState) (place source : ℕ) : Type 0 where

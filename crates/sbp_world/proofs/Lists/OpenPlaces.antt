@@ -4,14 +4,12 @@ use Rattle.std.specs.Prelude.{position}
 use Rattle.std.proofs.lemmas.Bool.Decides.{nat_tests}
 use Rattle.std.proofs.lemmas.Grind.{common_steps, get_or-set_at}
 use Rattle.std.proofs.lemmas.List.Quantifiers.{position-Some}
+use Rattle.std.proofs.lemmas.Bool.{false≢true}
 use Rattle.sbp_bus.specs.declared.places.Holder.{Holder}
 use Rattle.sbp_bus.specs.Places.{back_at, back_step, enter_step, has_login, is_free, left_step, opened_by, opened_step, place_in, put_at, taken_by}
 use Rattle.sbp_bus.specs.Telling.{decided_places, managed_places}
 use Rattle.sbp_journal.specs.declared.operation.FunctionWord.{FunctionWord}
 use Rattle.sbp_journal.specs.declared.operation.FunctionWord.TheVariants as words
-
-no : false ≡ true → ⊥
-no e = cc
 
 -- who has a place is this
 abbrev pub Has : List (Option Holder) → ℕ → Holder → Type 0
@@ -21,7 +19,7 @@ set_keeps : (places : List (Option Holder)) (k p : ℕ) (x : Option Holder) (h :
 set_keeps places k p x h f e = get_or-set_other places k p x None f ∙ e
 
 other_place : (test : Option Holder → Bool) (places : List (Option Holder)) (k p : ℕ) (h : Holder) → test (place_in places k) ≡ true → test (Some h) ≡ false → Has places p h → p ≡ k → ⊥
-other_place test places k p h t f e same = no (sym f ∙ (ap test (sym e) ∙ (ap (λ j. test (place_in places j)) same ∙ t)))
+other_place test places k p h t f e same = false≢true (sym f ∙ (ap test (sym e) ∙ (ap (λ j. test (place_in places j)) same ∙ t)))
 
 not_own : (h : Holder) (id : ℕ) → (h.login ≡ id → ⊥) → has_login id (Some h) ≡ false
 not_own h id f = by (nat_eq h.login id) refl

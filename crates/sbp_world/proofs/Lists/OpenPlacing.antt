@@ -1,5 +1,6 @@
 -- The place of the agent whose ORB_POINTER a packet asks for.
-use Rattle.std.proofs.Common.{◌≡◌, ◌∙◌, refl, sym, ap, ℕ, Some}
+use Rattle.std.proofs.Common.{◌≡◌, ◌∙◌, refl, sym, ap, ℕ}
+use Rattle.std.proofs.lemmas.Option.{same_Some}
 use Rattle.async_packet.specs.Packet.{Packet}
 use Rattle.target_base.specs.declared.address.Access.{Access}
 use Rattle.target_base.specs.declared.address.AgentRegister.{AgentRegister}
@@ -7,14 +8,11 @@ use Rattle.target_base.specs.declared.address.Demand.TheVariants as demands
 use Rattle.target_base.specs.Addresses.{demand_of, reached, row_of}
 use Rattle.sbp_target.proofs.Reached.{demand_place}
 
-some_same : {A : Type 0} (x y : A) → Some x ≡ Some y → x ≡ y
-some_same x y e = cc
-
 -- it is one place
 pub one_place : (packet : Packet) (r q a b : ℕ) (x y : Access) → demand_of r packet ≡ demands.Agent a x → demand_of q packet ≡ demands.Agent b y → a ≡ b
 unfolding demand_of
 one_place packet r q a b x y e f =
     let c = demand_place (row_of (reached r packet)) r packet a x refl e in
     let d = demand_place (row_of (reached q packet)) q packet b y refl f in
-    let same : c.found ≡ d.found = some_same c.found d.found (sym c.at ∙ d.at) in
+    let same : c.found ≡ d.found = same_Some c.found d.found (sym c.at ∙ d.at) in
     sym c.own ∙ ap (λ (z : AgentRegister). z.place) same ∙ d.own

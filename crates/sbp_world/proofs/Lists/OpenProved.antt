@@ -2,6 +2,7 @@
 use Rattle.std.proofs.Common.{arith, ◌≡◌, ◌∙◌, refl, sym, ap, subst, ℕ, suc, ◌+◌, ◌^◌, ◌<◌, ◌≤◌, not, Bool, true, false, List, [], ◌∷◌, ◌++◌, map, length, Option, Some, None}
 use Rattle.std.specs.Prelude.{replicate, slice_index_or}
 use Rattle.std.proofs.lemmas.List.{get_or-replicate}
+use Rattle.std.proofs.lemmas.Bool.{false≢true}
 use Rattle.bus_transactions.specs.May.{is_reset}
 use Rattle.rbc_disk.specs.Runs.{Told}
 use Rattle.sbp_bus.specs.Places.{or_nobody}
@@ -50,33 +51,24 @@ use Rattle.sbp_world.proofs.Lists.OpenHad.{WereAt, same_were}
 use Rattle.sbp_world.proofs.Lists.Runs.{kept_after}
 use Rattle.sbp_target.proofs.Histories.Calling.{Good, not_eight}
 use Rattle.sbp_world.proofs.Agents.Management.Holding.{good_of}
+use Rattle.sbp_world.proofs.Lists.JoinLaws.{moments_same, lines_same}
 
-no : false ≡ true → ⊥
-no e = cc
-
-nobody_needs : (A : Type 0) → true ≡ false → A
-nobody_needs A e = absurd (no (sym e))
+pub nobody_needs : (A : Type 0) → true ≡ false → A
+nobody_needs A e = absurd (false≢true (sym e))
 
 -- a new world has no list open
 pub closed : (p : ℕ) → p < 8 → is_up (slice_index_or (replicate 8 new_desk) p new_desk).agent ≡ true → ⊥
-closed p b d = no (sym (ap (λ (x : Desk). is_up x.agent) (get_or-replicate 8 p new_desk new_desk b)) ∙ d)
+closed p b d = false≢true (sym (ap (λ (x : Desk). is_up x.agent) (get_or-replicate 8 p new_desk new_desk b)) ∙ d)
 
 first_were : (line n : ℕ) (is_ready : Bool) (units : ℕ) → AllWere (first_past line n is_ready) (new_world n is_ready units)
 unfolding new_world
-first_were line n is_ready units = record { each = λ p b d. absurd (closed p b d); had = λ i k e. absurd (no e) }
+first_were line n is_ready units = record { each = λ p b d. absurd (closed p b d); had = λ i k e. absurd (false≢true e) }
 
 first_taken : (start : List Disk) (line n : ℕ) (is_ready : Bool) (units : ℕ) → AllTaken start (first_past line n is_ready) (new_world n is_ready units)
 unfolding new_world
 first_taken start line n is_ready units p b d = absurd (closed p b d)
 
 -- ---- runs
-pub moments_same : (line : ℕ) (run : Run) (every entries : List Entry) → moments_behind line (record run { entries = every }) entries ≡ moments_behind line run entries
-moments_same line run every [] = refl
-moments_same line run every (e ∷ before) = ap (λ ms. map said e.notes ++ asked e.line e.event ∷ ms) (moments_same line run every before)
-
-pub lines_same : (run : Run) (every entries : List Entry) → AreLines run entries → AreLines (record run { entries = every }) entries
-lines_same run every [] l = tt
-lines_same run every (e ∷ before) l = (l.0, lines_same run every before l.1)
 
 module _ (line : ℕ) (run : Run) (few : run.initiators ≤ 4) (has : 0 < run.units) (small : run.units ≤ 4) (size : length run.start.disks ≡ run.units) where
   abbrev logins : ℕ

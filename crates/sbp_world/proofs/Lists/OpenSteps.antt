@@ -2,6 +2,7 @@
 use Rattle.std.proofs.Common.{◌≡◌, ◌∙◌, refl, sym, ap, subst, inl, inr, ◌⊎◌, ◌<◌, ℕ, nat_eq, Bool, true, false, cond, List, [], Option, Some, None, Result, Ok, Err, arith}
 use Rattle.std.proofs.lemmas.Bool.Decides.{nat_tests}
 use Rattle.std.proofs.Math.ListN.{length-set}
+use Rattle.std.proofs.lemmas.Bool.{false≢true}
 use Rattle.async_packet.specs.Packet.{Packet, header_in}
 use Rattle.label_table.specs.Layer.{Layer, answering_step}
 use Rattle.login_table.specs.declared.login.Login.{Login}
@@ -45,9 +46,6 @@ use Rattle.sbp_world.proofs.Lists.OpenManages.{answers}
 use Rattle.sbp_world.proofs.Lists.OpenPlaces.{Has, opened_here, opened_there}
 use Rattle.sbp_world.proofs.Lists.OpenSpares.{SameCuts}
 use Rattle.sbp_world.proofs.Lists.OpenTurns.{AreSeated, Before, HasSeat, K, Q, begins, changed_same, first_beside, here, inside, listing_seat, node, of_beside, refused, served_seat, silent_by, sound}
-
-no : false ≡ true → ⊥
-no e = cc
 
 module _ (w : WorldState) (g : Good w.target) (seats : AreSeated w) (u : WorldState) (same : u.places ≡ w.places) (layer : Layer Purpose) where
   abbrev Now : Scene → Type 0
@@ -220,7 +218,7 @@ module _ (w : WorldState) (g : Good w.target) (seats : AreSeated w) (u : WorldSt
             after t k = record { cuts = λ ms i n e. inl (sym (k.is.cuts ms i n) ∙ e); desks = k.desks; kept = λ p c l. kept_at p c (nat_eq p q) refl l; own = λ p c l. own_for p c (nat_eq p q) refl l }
               where
                 apart : (p : ℕ) → nat_eq p q ≡ false → p ≡ q → ⊥
-                apart p y one = no (sym y ∙ (let z : nat_eq p q ≡ true = grind (arith, nat_tests) in z))
+                apart p y one = false≢true (sym y ∙ (let z : nat_eq p q ≡ true = grind (arith, nat_tests) in z))
 
                 before : (p : ℕ) → nat_eq p q ≡ false → Listing t.node p → Listing w.target p
                 before p y l = sym (ap (λ (n : Machine). is_up n) (k.same p (apart p y))) ∙ l

@@ -1,9 +1,9 @@
 -- What a turn of the target leaves of the places whose lists are open: each was open before, and who has it is the same; or the turn is that of a
 -- write of ORB_POINTER, which opens the list of one place.
-use Rattle.std.proofs.Common.{◌≡◌, inl, ◌∙◌, refl, sym, ap, subst, ◌<◌, ◌≤◌, ℕ, zero, suc, nat_eq, nat_lt, not, Bool, true, false, List, [], ◌∷◌, length, Option, Some, None, Ok, Err, arith}
-use Rattle.std.specs.Prelude.{slice_index_or}
+use Rattle.std.proofs.Common.{◌≡◌, inl, ◌∙◌, refl, sym, ap, subst, ◌<◌, ◌≤◌, ℕ, nat_eq, nat_lt, not, Bool, true, false, List, length, Option, Some, None, Err, arith}
 use Rattle.std.proofs.lemmas.Bool.Decides.{nat_tests}
 use Rattle.std.proofs.Math.ListN.{length-set}
+use Rattle.std.proofs.lemmas.Bool.{false≢true}
 use Rattle.async_packet.specs.Labels.{LabelParts}
 use Rattle.label_table.specs.Layer.{Layer}
 use Rattle.login_table.specs.declared.login.Login.{Login}
@@ -11,16 +11,14 @@ use Rattle.login_table.specs.Sound.{IsSound}
 use Rattle.login_table.specs.Table.{is_live, place_at}
 use Rattle.orb_layout.specs.declared.ask.Ask.TheVariants.{Nothing}
 use Rattle.orb_layout.specs.declared.pointer.OrbPointer.{OrbPointer}
-use Rattle.orb_layout.specs.declared.pointer.OrbPointer.TheVariants.{Null, At}
 use Rattle.command_agent.specs.declared.phase.Phase.{Phase}
 use Rattle.command_agent.specs.declared.phase.Phase.TheVariants as phases
-use Rattle.command_agent.specs.declared.step.AgentState.{AgentState}
 use Rattle.command_agent.specs.declared.step.AgentState.TheVariants as states
 use Rattle.command_agent.specs.declared.step.PointRefusal.{PointRefusal}
 use Rattle.command_agent.specs.declared.step.Which.{Which}
 use Rattle.command_agent.specs.declared.step.Which.TheVariants.{Ahead, Main}
 use Rattle.command_agent.specs.Machine.{Machine, is_ahead, is_sent, state_in}
-use Rattle.command_agent.specs.Steps.{doorbell_step, fetch_step, is_reset, point_in, point_step}
+use Rattle.command_agent.specs.Steps.{doorbell_step, is_reset, point_step}
 use Rattle.sbp_bus.specs.declared.places.Holder.{Holder}
 use Rattle.sbp_bus.specs.Places.{or_nobody}
 use Rattle.sbp_journal.specs.Outgoings.{empty_outbox}
@@ -41,13 +39,12 @@ use Rattle.sbp_world.proofs.Lists.OpenCuts.{Here, Listing, is_up, Open, OwnsLogi
 use Rattle.sbp_world.proofs.Lists.OpenFollows.{Beside}
 use Rattle.sbp_world.proofs.Lists.OpenPlaces.{Has}
 use Rattle.sbp_world.proofs.Lists.Turns.{sent_has}
-
-no : false ≡ true → ⊥
-no e = cc
+use Rattle.sbp_world.proofs.Lists.StatusCalls.{none_beyond}
+use Rattle.sbp_world.proofs.Lists.Pointers.{refused_in}
 
 -- ---- an agent that has a list open is not in RESET
 pub listing_up : (phase : Phase) → has_list phase ≡ true → not (is_reset (state_in phase)) ≡ true
-listing_up phases.Reset e = absurd (no e)
+listing_up phases.Reset e = absurd (false≢true e)
 listing_up phases.Dead e = refl
 listing_up phases.Fetching e = refl
 listing_up phases.ReadingTable e = refl
@@ -59,43 +56,28 @@ listing_up phases.ReadingNext e = refl
 listing_up phases.Suspended e = refl
 
 pub up_state : (b : Bool) → not b ≡ true → b ≡ false
-up_state true e = absurd (no e)
+up_state true e = absurd (false≢true e)
 up_state false e = refl
 
 -- one that waits for something has a list open
-ahead_lists : (phase : Phase) (x : Bool) → (is_bare phase ≡ true → x ≡ false) → x ≡ true → has_list phase ≡ true
-ahead_lists phases.Reset x f e = absurd (no (sym (f refl) ∙ e))
-ahead_lists phases.Dead x f e = absurd (no (sym (f refl) ∙ e))
+pub ahead_lists : (phase : Phase) (x : Bool) → (is_bare phase ≡ true → x ≡ false) → x ≡ true → has_list phase ≡ true
+ahead_lists phases.Reset x f e = absurd (false≢true (sym (f refl) ∙ e))
+ahead_lists phases.Dead x f e = absurd (false≢true (sym (f refl) ∙ e))
 ahead_lists _ x f e = refl
 
 -- a doorbell that nobody hears
 pub silent_by : (phase : Phase) (m : Machine) → not (is_reset (state_in phase)) ≡ false → doorbell_step (record m { phase = phase }) ≡ (Nothing, record m { phase = phase })
 unfolding doorbell_step
 silent_by phases.Reset m e = refl
-silent_by phases.Dead m e = absurd (no (sym e))
-silent_by phases.Fetching m e = absurd (no (sym e))
-silent_by phases.ReadingTable m e = absurd (no (sym e))
-silent_by (phases.ReadingData wanted) m e = absurd (no (sym e))
-silent_by phases.Answering m e = absurd (no (sym e))
-silent_by phases.WritingStatus m e = absurd (no (sym e))
-silent_by phases.WritingLastStatus m e = absurd (no (sym e))
-silent_by phases.ReadingNext m e = absurd (no (sym e))
-silent_by phases.Suspended m e = absurd (no (sym e))
-
--- a pointer that is refused leaves the agent as it was
-refused_in : (state : AgentState) (m : Machine) (pointer : OrbPointer) (refusal : PointRefusal) → (point_in state m pointer).0 ≡ Err refusal → (point_in state m pointer).1 ≡ m
-refused_in states.Reset m Null refusal e = refl
-refused_in states.Reset m (At next) refusal e = absurd (differ e)
-  where
-    differ : Ok (fetch_step m next).0.ask ≡ Err refusal → ⊥
-    differ e = cc
-refused_in states.Suspended m Null refusal e = refl
-refused_in states.Suspended m (At next) refusal e = absurd (differ e)
-  where
-    differ : Ok (fetch_step m next).0.ask ≡ Err refusal → ⊥
-    differ e = cc
-refused_in states.Active m pointer refusal e = refl
-refused_in states.Dead m pointer refusal e = refl
+silent_by phases.Dead m e = absurd (false≢true (sym e))
+silent_by phases.Fetching m e = absurd (false≢true (sym e))
+silent_by phases.ReadingTable m e = absurd (false≢true (sym e))
+silent_by (phases.ReadingData wanted) m e = absurd (false≢true (sym e))
+silent_by phases.Answering m e = absurd (false≢true (sym e))
+silent_by phases.WritingStatus m e = absurd (false≢true (sym e))
+silent_by phases.WritingLastStatus m e = absurd (false≢true (sym e))
+silent_by phases.ReadingNext m e = absurd (false≢true (sym e))
+silent_by phases.Suspended m e = absurd (false≢true (sym e))
 
 pub refused : (m : Machine) (pointer : OrbPointer) (refusal : PointRefusal) → (point_step m pointer).0 ≡ Err refusal → (point_step m pointer).1 ≡ m
 unfolding point_step
@@ -127,12 +109,6 @@ module _ (w : WorldState) (g : Good w.target) (seats : AreSeated w) where
 
   pub listing_seat : (p : ℕ) → p < 8 → Listing w.target p → HasSeat w p
   listing_seat p b l = served_seat p (g.mid.served p b (not_eight p b) (up_state (is_reset (state_in (Here w.target p).phase)) l))
-
-  -- the place of an agent that waits for a transaction, and its list
-  none_beyond : (desks : List Desk) (k : ℕ) → length desks ≤ k → slice_index_or desks k new_desk ≡ new_desk
-  none_beyond [] k l = refl
-  none_beyond (d ∷ desks) zero l = absurd (omega (arith, l))
-  none_beyond (d ∷ desks) (suc k) l = none_beyond desks k (omega arith)
 
   pub waits_place : (place peer : ℕ) (label : LabelParts) (which : Which) → which_in (desk_at w.target place) peer label ≡ Some which → place < 8
   waits_place place peer label which e = by (nat_lt place 8) refl
@@ -218,7 +194,7 @@ module _ (w : WorldState) (g : Good w.target) (seats : AreSeated w) where
         where
           before : (p : ℕ) → nat_eq p q ≡ false → Listing s.node p → Listing w.target p
           before p x e =
-              let f : p ≡ q → ⊥ = λ one. no (sym x ∙ (let y : nat_eq p q ≡ true = grind (arith, nat_tests) in y)) in
+              let f : p ≡ q → ⊥ = λ one. false≢true (sym x ∙ (let y : nat_eq p q ≡ true = grind (arith, nat_tests) in y)) in
               sym (ap (λ (m : Machine). is_up m) (k.same p f)) ∙ e
 
           kept_at : (p : ℕ) → p < 8 → (x : Bool) → nat_eq p q ≡ x → Listing s.node p → Has (told_all 0 s.outbox.sides u).places p (holder w p)

@@ -1,5 +1,7 @@
 -- A list whose write of ORB_POINTER was not taken was not cut; and a list that is open was not cut: the write is got once, at one place.
 use Rattle.std.proofs.Common.{arith, ◌≡◌, ◌⊎◌, inl, inr, ◌∙◌, refl, sym, ap, subst, ◌<◌, ◌≤◌, ℕ, Bool, true, false, List, [], ◌∷◌, ◌++◌, Option, Some, None, Ok}
+use Rattle.std.proofs.lemmas.Bool.{false≢true}
+use Rattle.std.proofs.lemmas.Option.{same_Some}
 use Rattle.async_packet.specs.Packet.{Packet}
 use Rattle.async_packet.specs.Reading.{reading}
 use Rattle.bus_memory.specs.Windows.{slot_of}
@@ -23,12 +25,6 @@ use Rattle.sbp_world.proofs.Lists.Later.{joined}
 use Rattle.sbp_world.proofs.Lists.OpenHad.{Was, WasElse}
 use Rattle.sbp_world.proofs.Lists.OpenNews.{got_more, got_news}
 use Rattle.sbp_world.proofs.Lists.OpenPlacing.{one_place}
-
-no : false ≡ true → ⊥
-no e = cc
-
-some_same : {A : Type 0} (x y : A) → Some x ≡ Some y → x ≡ y
-some_same x y e = cc
 
 module _ (past : List Moment) (i : ℕ) (named : AreNamedFor past i) (pointers : PointersAt past i) (lasting : (later earlier : List Moment) (serial : ℕ) (sent : Sending) → later ++ said (notes.Got serial) ∷ earlier ≡ past → (terms earlier).sent serial ≡ Some sent → (terms past).sent serial ≡ Some sent) where
   -- the list that a place had is that of the write
@@ -89,7 +85,7 @@ module _ (past : List Moment) (i : ℕ) (named : AreNamedFor past i) (pointers :
           let same : x.serial ≡ o.serial = pointers.once n x.serial o.serial (had_for n h.had.place x) is_for in
           let one = lasting o.later o.earlier o.serial o.sent o.is o.sent_is in
           let two = lasting x.later x.earlier x.serial x.sent x.is x.sent_is in
-          let sent_same : x.sent ≡ o.sent = some_same x.sent o.sent (sym (subst (λ s. (terms past).sent s ≡ Some x.sent) same two) ∙ one) in
+          let sent_same : x.sent ≡ o.sent = same_Some x.sent o.sent (sym (subst (λ s. (terms past).sent s ≡ Some x.sent) same two) ∙ one) in
           let read : Ok x.pointed.packet ≡ Ok o.pointed.packet = sym x.pointed.read ∙ ap (λ (k : Sending). reading k.bytes) sent_same ∙ o.pointed.read in
           let packet_same : x.pointed.packet ≡ o.pointed.packet = cc in
           h.other (one_place o.pointed.packet x.pointed.rom o.pointed.rom h.had.place p (accesses.Point x.pointed.pointer) (accesses.Point o.pointed.pointer)
@@ -108,7 +104,7 @@ module _ (past : List Moment) (i : ℕ) (named : AreNamedFor past i) (pointers :
 
     spared_in : (n p : ℕ) (list : Option ℕ) → list ≡ Some n → (o : WasOpened past i p list) → ((m : ℕ) → list ≡ Some m → is_cut past i m ≡ true → WasHad o.earlier i m ⊎ WasElse past i m p) → is_cut past i n ≡ false
     spared_in n p None e o f = absurd (let z : None ≡ Some n = e in cc)
-    spared_in n p (Some m) e o f = subst (λ k. is_cut past i k ≡ false) (some_same m n e) (opened_uncut m p o (f m refl))
+    spared_in n p (Some m) e o f = subst (λ k. is_cut past i k ≡ false) (same_Some m n e) (opened_uncut m p o (f m refl))
 
 -- who has a place, by the world
 pub open_uncut : (past : List Moment) (h : Holder) (p n : ℕ) → AreNamedFor past h.initiator → PointersAt past h.initiator → ((later earlier : List Moment) (serial : ℕ) (sent : Sending) → later ++ said (notes.Got serial) ∷ earlier ≡ past → (terms earlier).sent serial ≡ Some sent → (terms past).sent serial ≡ Some sent) → IsCalm past h.initiator → IsOfWire past → h.list ≡ Some n → Was past h p → is_cut past h.initiator n ≡ false

@@ -2,6 +2,7 @@
 use Rattle.std.proofs.Common.{arith, ◌≡◌, ◌∙◌, refl, sym, ap, subst, inl, inr, ◌⊎◌, ◌<◌, ◌||◌, not, ℕ, nat_eq, nat_lt, is_some, Bool, true, false, cond, List, [], ◌∷◌, ◌++◌, map, length, Option, Some, None, Result, Ok, Err}
 use Rattle.std.specs.Prelude.{slice_index_or}
 use Rattle.std.proofs.lemmas.Bool.Decides.{nat_tests}
+use Rattle.std.proofs.lemmas.Bool.{false≢true}
 use Rattle.async_packet.specs.Packet.{Packet}
 use Rattle.async_packet.specs.Reading.{reading}
 use Rattle.async_packet.specs.declared.fault.PacketFault.{PacketFault}
@@ -58,7 +59,6 @@ use Rattle.sbp_initiator.specs.declared.state.InitiatorState.{InitiatorState}
 use Rattle.sbp_initiator.specs.Initiators.{new_state}
 use Rattle.sbp_journal.specs.declared.cause.Judged.{Judged}
 use Rattle.sbp_journal.specs.declared.cause.Judged.TheVariants as judgements
-use Rattle.sbp_journal.specs.declared.note.Note.{Note}
 use Rattle.sbp_journal.specs.declared.note.Note.TheVariants as notes
 use Rattle.sbp_journal.specs.Outgoings.{OutboxState, empty_outbox}
 use Rattle.sbp_journal.specs.Run.{Moment, said}
@@ -101,9 +101,8 @@ use Rattle.sbp_world.proofs.Lists.OpenManages as manages
 use Rattle.sbp_world.proofs.Lists.OpenOwners.{came_from, served_initiator}
 use Rattle.sbp_world.proofs.Lists.OpenPlaces.{Has}
 use Rattle.sbp_world.proofs.Lists.OpenTurns.{AreSeated, Before, begins, sound}
-
-no : false ≡ true → ⊥
-no e = cc
+use Rattle.sbp_world.proofs.Lists.Pointers.{not_taken}
+use Rattle.sbp_world.proofs.Common.{said_split}
 
 abbrev pub AllWere : List Moment → WorldState → Type 0
 AllWere past w = WereAt (hist past w) w
@@ -115,17 +114,13 @@ AllTaken start past w = (p : ℕ) → p < 8 → Listing w.target p → list_take
 pub same_taken : (start : List Disk) (past : List Moment) (w v : WorldState) → v.places ≡ w.places → ((p : ℕ) → Listing v.target p → Listing w.target p) → ((p : ℕ) → list_taken start (hist past v) p ≡ list_taken start (hist past w) p) → AllTaken start past w → AllTaken start past v
 same_taken start past w v places less same o p b l = same p ∙ (o p b (less p l) ∙ ap (λ ps. (holder_at ps p).list) (sym places))
 
-split_notes : (a b : List Note) (past : List Moment) → map said (a ++ b) ++ past ≡ map said a ++ (map said b ++ past)
-split_notes [] b past = refl
-split_notes (n ∷ a) b past = ap (λ ms. said n ∷ ms) (split_notes a b past)
-
 -- a history goes on with notes
 pub record GoesOn (before now : List Moment) : Type 0 where
   pub more : List Moment
   pub is : more ++ before ≡ now
 
 pub hist_on : (past : List Moment) (w v : WorldState) → Extends w.fresh v.fresh → GoesOn (hist past w) (hist past v)
-hist_on past w v e = record { more = map said e.more; is = sym (split_notes e.more w.fresh past) ∙ ap (λ ns. map said ns ++ past) e.is }
+hist_on past w v e = record { more = map said e.more; is = sym (said_split e.more w.fresh past) ∙ ap (λ ns. map said ns ++ past) e.is }
 
 goes_then : (one two three : List Moment) → GoesOn one two → GoesOn two three → GoesOn one three
 goes_then one two three a b = record { more = b.more ++ a.more; is = joined b.more a.more one ∙ ap (λ ms. b.more ++ ms) a.is ∙ b.is }
@@ -138,9 +133,6 @@ judged_cuts serial (judgements.Ignored cause) ms i n = refl
 -- ---- the pointer that is taken
 pub record IsTaken (m now : Machine) (pointer : OrbPointer) : Type 0 where
   pub at : named pointer ≡ Some (orb_of now)
-
-not_taken : (refusal : PointRefusal) (ask : Ask) → Err refusal ≡ Ok ask → ⊥
-not_taken refusal ask e = cc
 
 taken_in : (state : AgentState) (m : Machine) (pointer : OrbPointer) (ask : Ask) → (point_in state m pointer).0 ≡ Ok ask → IsTaken m (point_in state m pointer).1 pointer
 taken_in states.Reset m Null ask e = absurd (not_taken _ ask e)
@@ -317,7 +309,7 @@ module _ (units logins : ℕ) (has : 0 < units) (start : List Disk) {past : List
       list_by true e l =
           let same : (initiator_at u i).lists ≡ (initiator_at w i).lists = ap (λ (is : List InitiatorState). (slice_index_or is i (new_state 0 false)).lists) marks.initiators in
           ap (λ (k : ListState). bus.list_in (last_at k orb)) same ∙ named_list (hist past w) i (initiator_at w i).lists (rows i l) orb
-      list_by false e l = absurd (no (sym e ∙ (let z : nat_lt i (length u.initiators) ≡ true = (let y = ap length marks.initiators in grind (arith, nat_tests)) in z)))
+      list_by false e l = absurd (false≢true (sym e ∙ (let z : nat_lt i (length u.initiators) ≡ true = (let y = ap length marks.initiators in grind (arith, nat_tests)) in z)))
 
       opened_list : i < length w.initiators → bus.list_in (ticket_at u q orb) ≡ list_in (named_in (hist past w) i (slot_of orb))
       opened_list l = ap (λ (k : Holder). bus.list_in (ticket_of u k.initiator orb)) holder_same ∙ list_by (nat_lt i (length u.initiators)) refl l
@@ -382,7 +374,7 @@ module _ (units logins : ℕ) (has : 0 < units) (start : List Disk) {past : List
               let has = subst (λ z. Has (told_all 0 x.1.outbox.sides u).places p (cond z new (holder w p))) y (o.after.0.kept p b l) in
               subst (λ (k : Holder). Was (hist past end) k p) (sym (handed_holder u x.1.outbox p (holder w p) has))
               (was_on whole_on.more (hist past w) (hist past end) (holder w p) p whole_on.is (λ n e z. inl (sym (cuts_end (holder w p).initiator n) ∙ z)) (were.each p b before))
-          by p b l false y (inr same) = absurd (no (sym y ∙ (let z : nat_eq p q ≡ true = grind (arith, nat_tests) in z)))
+          by p b l false y (inr same) = absurd (false≢true (sym y ∙ (let z : nat_eq p q ≡ true = grind (arith, nat_tests) in z)))
 
       points_open : AllWere past end
       points_open = record {
@@ -498,7 +490,7 @@ module _ (units logins : ℕ) (has : 0 < units) (start : List Disk) {past : List
 
       no_kind : (kind : Option ReplyKind) → is_some kind ≡ false → kind ≡ None
       no_kind None e = refl
-      no_kind (Some kind) e = absurd (no (sym e))
+      no_kind (Some kind) e = absurd (false≢true (sym e))
 
       found_noted : (f : Finding Purpose) (now : Layer Purpose) → (judging_step w.target.layer sent.generation sent.bytes).0 ≡ f → IsFound f w.target.layer now sent.bytes → Noted (received_as run sent.bytes f (with_layer now (whole_of w.target s.media))).0
       unfolding request_step is_barred
@@ -555,9 +547,9 @@ module _ (units logins : ℕ) (has : 0 < units) (start : List Disk) {past : List
             let same : spot ≡ p = grind (arith, nat_tests) in
             subst (λ j. listed_by (point_step (mine j) o.pointer) ms (term_initiator T wire j) (Old j) ≡ pointed.list) same list_there
         at_place p small false false e f (inl up) = taken_before p small up
-        at_place p small false false e f (inr same) = absurd (no (sym f ∙ (let z : nat_eq p spot ≡ true = grind (arith, nat_tests) in z)))
-        at_place p small true false e f why = absurd (no (sym f ∙ (let z : nat_eq p spot ≡ true = grind (arith, nat_tests) in z)))
-        at_place p small false true e f why = absurd (no (sym e ∙ (let z : nat_eq spot p ≡ true = grind (arith, nat_tests) in z)))
+        at_place p small false false e f (inr same) = absurd (false≢true (sym f ∙ (let z : nat_eq p spot ≡ true = grind (arith, nat_tests) in z)))
+        at_place p small true false e f why = absurd (false≢true (sym f ∙ (let z : nat_eq p spot ≡ true = grind (arith, nat_tests) in z)))
+        at_place p small false true e f why = absurd (false≢true (sym e ∙ (let z : nat_eq spot p ≡ true = grind (arith, nat_tests) in z)))
 
         points_taken : AllTaken start past (handed_out 0 0 x.1.outbox u)
         points_taken p b l =

@@ -1,6 +1,7 @@
 -- Where the registers of an agent stand: that of AGENT_RESET and of AGENT_STATE at the base of an agent whose ORB_POINTER was written, and what is asked of it there.
 use Rattle.std.proofs.Common.{arith, ◌≡◌, ◌∙◌, refl, sym, ap, ◌<◌, ◌≤◌, ◌+◌, ◌-◌, ◌*◌, ◌/◌, ◌%◌, ◌==◌, ◌||◌, ℕ, nat_le, nat_lt, is_some, Bool, true, false, cond, List, length, Option, Some, None}
 use Rattle.std.proofs.lemmas.Bool.Decides.{nat_tests}
+use Rattle.std.proofs.lemmas.Bool.{false≢true}
 use Rattle.async_packet.specs.declared.packet.Header.{Header}
 use Rattle.async_packet.specs.Packet.{Packet, write_block}
 use Rattle.orb_layout.specs.declared.pointer.OrbPointer.{OrbPointer}
@@ -13,9 +14,6 @@ use Rattle.target_base.specs.declared.address.Register.{Register}
 use Rattle.target_base.specs.declared.address.Register.TheVariants as registers
 use Rattle.target_base.specs.Addresses.{Row, accessed, accessed_at, agent_register, agents_start, by_address, by_register, by_rom, by_type, demand_by, demand_of, is_lock, is_start, length_in, management_start, offset_in, or_nowhere, reached, reads_rom, register_at, register_by, row_of, served, served_by, writes_rom}
 use Rattle.sbp_target.proofs.Reached.{demand_place}
-
-no : false ≡ true → ⊥
-no e = cc
 
 none_some : {A : Type 0} {B : Type 0} (x : A) → None ≡ Some x → B
 none_some x e = absurd (differ x e)
@@ -121,11 +119,11 @@ block_base rom header offset payload place pointer e =
 -- ---- another register of that agent
 row_served : (l e a b s t : Bool) → l ≡ false → e ≡ false → a ≡ false → b ≡ false → s ≡ true → row_of (record { is_lock = l; is_empty = e; writes_rom = a; reads_rom = b; is_served = s; is_start = t }) ≡ by_register
 row_served false false false false true t p q r u v = refl
-row_served true e a b s t p q r u v = absurd (no (sym p))
-row_served false true a b s t p q r u v = absurd (no (sym q))
-row_served false false true b s t p q r u v = absurd (no (sym r))
-row_served false false false true s t p q r u v = absurd (no (sym u))
-row_served false false false false false t p q r u v = absurd (no v)
+row_served true e a b s t p q r u v = absurd (false≢true (sym p))
+row_served false true a b s t p q r u v = absurd (false≢true (sym q))
+row_served false false true b s t p q r u v = absurd (false≢true (sym r))
+row_served false false false true s t p q r u v = absurd (false≢true (sym u))
+row_served false false false false false t p q r u v = absurd (false≢true v)
 
 pub demand_served : (size : ℕ) (p : Packet) (demand : Demand) → is_lock p ≡ false → (length_in p == 0) ≡ false → writes_rom size p ≡ false → reads_rom size p ≡ false → served (offset_in p) p ≡ Some demand → demand_of size p ≡ demand
 unfolding demand_of

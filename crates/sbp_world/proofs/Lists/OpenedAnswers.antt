@@ -2,6 +2,7 @@
 -- complete, the target had served it: neither had injected a packet.
 use Rattle.std.proofs.Common.{arith, ◌≡◌, ◌∙◌, refl, sym, ap, subst, ◌<◌, ◌==◌, ◌&&◌, ℕ, suc, not, Bool, true, false, cond, List, ◌∷◌, Option, Some, None, Ok}
 use Rattle.std.proofs.lemmas.Bool.Decides.{nat_tests}
+use Rattle.std.proofs.lemmas.Bool.{false≢true}
 use Rattle.async_packet.specs.Fields.{rcode_of}
 use Rattle.async_packet.specs.Packet.{Packet, lock, lock_response, read_block, read_block_response, read_quadlet, read_quadlet_response, write_block, write_quadlet, write_response}
 use Rattle.async_packet.specs.Reading.{reading}
@@ -36,9 +37,6 @@ use Rattle.sbp_world.proofs.Wire.Bus.{holds}
 use Rattle.sbp_world.proofs.Agents.Management.Holding.{past_terms, was_sent}
 use Rattle.sbp_world.proofs.Agents.Management.Still.{hist}
 use Rattle.sbp_world.proofs.Lists.Heard.{awaited_to}
-
-no : false ≡ true → ⊥
-no e = cc
 
 -- ---- which transaction ends
 pub record EndsAs (packet : Sending) (v : Transaction) : Type 0 where
@@ -207,7 +205,7 @@ module _ {past : List Moment} (w : WorldState) (h : Stands past w) (i serial : �
     honest = by q.injected refl
       where
         by : (b : Bool) → q.injected ≡ b → b ≡ false
-        by true e = absurd (no (sym from_fair ∙ (on.facts.honest serial q sent_there).bold e))
+        by true e = absurd (false≢true (sym from_fair ∙ (on.facts.honest serial q sent_there).bold e))
         by false e = refl
 
     comes : Comes t v serial

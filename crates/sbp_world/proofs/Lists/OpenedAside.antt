@@ -2,6 +2,8 @@
 -- node sees; and the target sends nothing in it.
 use Rattle.std.proofs.Common.{arith, ◌≡◌, ◌∙◌, refl, sym, ap, ◌<◌, ◌≤◌, ◌+◌, ℕ, suc, nat_eq, Bool, true, false, cond, List, [], ◌∷◌, ◌++◌, map, Option, Some, None}
 use Rattle.std.proofs.lemmas.Bool.Decides.{nat_tests}
+use Rattle.std.proofs.lemmas.Bool.{false≢true}
+use Rattle.std.proofs.lemmas.Option.{same_Some}
 use Rattle.sbp_journal.specs.Run.{Moment, asked, said}
 use Rattle.sbp_journal.specs.Transactions.{Kind, Part, Sending, Transaction, asked_by, no_packet, part_of, request, response}
 use Rattle.sbp_journal.specs.Wire.{Held, Terms, arrives, closes, closes_if, free, gets, gets_as, ignores, ignores_that, is_news, is_served, judges, judges_if, opened, rests, terms, times_out, waits}
@@ -24,16 +26,13 @@ use Rattle.sbp_world.proofs.Lists.OpenedMoments.{Same, all_same, all_weaker, is_
 use Rattle.sbp_world.proofs.Lists.OpenedTurns.{Grown, Known, NoneUp, WasUp}
 use Rattle.sbp_world.proofs.Lists.Rises.{Rises}
 
-no : false ≡ true → ⊥
-no e = cc
-
 -- ---- how often a packet was taken, and served, but for the one that comes
 pub record Kept (s : ℕ) (t u : Terms) : Type 0 where
   pub served : u.served s ≡ t.served s
   pub news : u.news s ≡ t.news s
 
 other : {A : Type 0} (b : Bool) (x y : A) → b ≡ false → cond b x y ≡ y
-other true x y e = absurd (no (sym e))
+other true x y e = absurd (false≢true (sym e))
 other false x y e = refl
 
 module _ (s serial : ℕ) (apart : nat_eq s serial ≡ false) where
@@ -149,9 +148,6 @@ module _ (H : List Moment) where
   kept_first _ (late_first serial) s f = late_kept s _ (terms H)
   kept_first _ (saw_first j generation) s f = record { served = refl; news = refl }
 
-sending_same : (x y : Sending) → Some x ≡ Some y → x ≡ y
-sending_same x y e = cc
-
 module _ (i : ℕ) (H : List Moment) (w v : WorldState) (m : Moment) (first : IsOthers H m) (more : List Note) (all : AllOf of_others more) where
   abbrev now : List Moment
   now = map said more ++ m ∷ H
@@ -193,7 +189,7 @@ module _ (i : ℕ) (H : List Moment) (w v : WorldState) (m : Moment) (first : Is
     of_served s packet e to =
         ap (λ (g : ℕ → ℕ). g s) later.served
         ∙ (kept_first H m first s (λ serial j other f g same.
-        let one : packet ≡ other = sending_same packet other (sym e ∙ (ap (terms H).sent same ∙ f)) in
+        let one : packet ≡ other = same_Some packet other (sym e ∙ (ap (terms H).sent same ∙ f)) in
         let z : packet.to ≡ suc j = ap (λ (q : Sending). q.to) one ∙ g in
         omega (arith, z, to))).served
 

@@ -19,7 +19,7 @@ beside_line notes line event past beside = tame_or_few_before (asked line event 
 more_beside : (old new : List Note) (past : List Moment) → Extends old new → IsTameOrFew (map said new ++ past) → IsTameOrFew (map said old ++ past)
 more_beside old new past e beside = tame_or_few_before (map said e.more) (map said old ++ past) (subst IsTameOrFew (ap (λ ns. map said ns ++ past) (sym e.is) ∙ split e.more old past) beside)
 
-next_extends : (one : Option Told) (s : Scene) → Extends s.world.fresh (delivered_next one s).world.fresh
+pub next_extends : (one : Option Told) (s : Scene) → Extends s.world.fresh (delivered_next one s).world.fresh
 unfolding delivered_next
 next_extends one s = by (lowest s.world)
   where

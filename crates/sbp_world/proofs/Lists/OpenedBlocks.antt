@@ -1,6 +1,7 @@
 -- Which request drops the list of an initiator as it hears it: a status block 00 of its target alone, at an open FIFO, for the management ORB of its operation, which ends lists.
 use Rattle.std.proofs.Common.{arith, ◌≡◌, ◌∙◌, refl, sym, ap, subst, ℕ, ◌==◌, ◌&&◌, not, Bool, true, false, cond, List, Option, Some, None, Result, Ok, Err}
 use Rattle.std.proofs.lemmas.Bool.Decides.{nat_tests}
+use Rattle.std.proofs.lemmas.Bool.{not-false}
 use Rattle.async_packet.specs.declared.packet.Header.{Header}
 use Rattle.async_packet.specs.Packet.{Packet, lock, lock_response, read_block, read_block_response, read_quadlet, read_quadlet_response, write_block, write_quadlet, write_response}
 use Rattle.initiator_base.specs.declared.fifos.Fifo.{Fifo}
@@ -45,10 +46,6 @@ pub record IsDoneFor (s : InitiatorState) (generation : ℕ) (bytes : List ℕ) 
   pub is : s.operation ≡ Some running
   pub names : is_orb_of running.managed block.orb ≡ true
   pub cuts : ends_list (Some running.operation) ≡ true
-
-not_not : (b : Bool) → not b ≡ false → b ≡ true
-not_not true e = refl
-not_not false e = untrue (sym e)
 
 -- the operation that a status block is of
 record IsPresent (orb : ℕ) (operation : Option Running) (running : Running) : Type 0 where
@@ -156,7 +153,7 @@ module _ (j : ℕ) (s : InitiatorState) (generation : ℕ) (bytes : List ℕ) wh
 
     -- of the target
     own_write : (source : ℕ) → not (source == s.target) ≡ false → source ≡ s.target
-    own_write source e = let x = not_not (source == s.target) e in grind (arith, nat_tests)
+    own_write source e = let x = not-false (source == s.target) e in grind (arith, nat_tests)
 
     reaches : (p : Packet) → (judging_step s.layer generation bytes).0 ≡ of_request p → is_foreign p u ≡ false → Says (addressed p bytes empty_outbox u)
     reaches (read_quadlet header offset) found f = serves (read_quadlet header offset)

@@ -34,7 +34,7 @@ use Rattle.sbp_world.proofs.Hosts.Carried.{between_runs, of_runs}
 use Rattle.sbp_world.proofs.Hosts.Carries.{Carries, is_apart}
 use Rattle.sbp_world.proofs.Hosts.Layered.{AreTame, expire_left, is_tame, receive_left}
 use Rattle.sbp_world.proofs.Hosts.OrbTells as tell
-use Rattle.sbp_world.proofs.Hosts.OrbTerms.{AreStill, is_left}
+use Rattle.sbp_world.proofs.Hosts.OrbTerms.{AreStill}
 use Rattle.sbp_world.proofs.Hosts.PointSees.{see_left}
 use Rattle.sbp_world.proofs.Hosts.PointerNotes.{Fit}
 use Rattle.sbp_world.proofs.Hosts.Pointed.{stale_is}
@@ -49,6 +49,7 @@ use Rattle.sbp_world.proofs.Pointers.GuardDoes.{Ready}
 use Rattle.sbp_world.proofs.Pointers.Guarding.{first_guarded, guarded_carried, ready_known}
 use Rattle.sbp_world.proofs.Lists.OpenedEnds.{Drops, drops_by_sight, heard_drops}
 use Rattle.sbp_world.proofs.Hosts.Pointed.{judged_fit}
+use Rattle.sbp_world.proofs.Pointers.Passing.{turn_same}
 
 -- at each drop of its list
 abbrev pub DropAt : ℕ → Moment → List Moment → Type 0
@@ -61,20 +62,6 @@ AllDrops i past = EachMoment (DropAt i) past
 -- ---- notes
 itself : {A : Type 0} (i : ℕ) → not (nat_eq i i) ≡ true → A
 itself i e = let f : nat_eq i i ≡ true = grind (arith, nat_tests) in untrue (sym (ap not f) ∙ e)
-
--- of the notes that an initiator tells as it hears something none begins a turn
-turn_same : (note : Note) (past : List Moment) → is_tame note ≡ true → ((j : ℕ) → is_left j note ≡ true) → turn_of (said note ∷ past) ≡ turn_of past
-turn_same (notes.Append j n k cdb buffer) past e l = itself j (l j)
-turn_same (notes.Low j n k) past e l = itself j (l j)
-turn_same (notes.Linked j n k) past e l = itself j (l j)
-turn_same (notes.Dummied j n k) past e l = itself j (l j)
-turn_same (notes.Drop j n) past e l = refl
-turn_same (notes.Rung j n k) past e l = refl
-turn_same (notes.Taken j n k status answer) past e l = refl
-turn_same (notes.Op j operation word) past e l = refl
-turn_same (notes.Stuck j) past e l = refl
-turn_same (notes.Told j) past e l = refl
-turn_same _ past e l = untrue e
 
 -- and each leaves it fit
 fit_before : (note : Note) (past : List Moment) → is_tame note ≡ true → Fit (said note ∷ past) → Fit past
@@ -107,11 +94,11 @@ one_kept : (note : Note) (past : List Moment) (i : ℕ) → (is_drop i (sides.Ow
 one_kept (notes.Drop j n) past i d = d
 one_kept note past i d = tt
 
-either : (a b : Bool) → a ≡ true → (a || b) ≡ true
+pub either : (a b : Bool) → a ≡ true → (a || b) ≡ true
 either true b e = refl
 either false b e = untrue e
 
-or_else : (a b : Bool) → b ≡ true → (a || b) ≡ true
+pub or_else : (a b : Bool) → b ≡ true → (a || b) ≡ true
 or_else true b e = refl
 or_else false b e = e
 

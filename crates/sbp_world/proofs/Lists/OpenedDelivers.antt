@@ -2,6 +2,7 @@
 use Rattle.std.proofs.Common.{arith, ◌≡◌, ◌⊎◌, inl, inr, ◌∙◌, refl, sym, ap, subst, ◌<◌, ◌||◌, ◌&&◌, not, ℕ, suc, nat_eq, nat_lt, Bool, true, false, cond, List, [], ◌∷◌, ◌++◌, map, length, Option, Some, None, Ok}
 use Rattle.std.specs.Prelude.{slice_index_or}
 use Rattle.std.proofs.lemmas.Bool.Decides.{nat_tests}
+use Rattle.std.proofs.lemmas.Bool.{false≢true}
 use Rattle.async_packet.specs.Reading.{reading}
 use Rattle.bus_memory.specs.Windows.{slot_of}
 use Rattle.bus_transactions.specs.Wire.{as_sending}
@@ -56,13 +57,10 @@ use Rattle.sbp_world.proofs.Lists.OpenWorlds.{named_list, taken}
 use Rattle.sbp_world.proofs.Lists.OpenedGrown.{got_remains}
 use Rattle.sbp_world.proofs.Lists.OpenedTurns.{Opens, WasUp}
 
-no : false ≡ true → ⊥
-no e = cc
-
 both_so : (a b : Bool) (new old : Option AsGot) → a ≡ true → b ≡ true → cond (a && b) new old ≡ new
 both_so true true new old e f = refl
-both_so true false new old e f = absurd (no f)
-both_so false b new old e f = absurd (no e)
+both_so true false new old e f = absurd (false≢true f)
+both_so false b new old e f = absurd (false≢true e)
 
 module _ (units logins : ℕ) (has : 0 < units) (start : List Disk) {past : List Moment} {lines : ℕ} (w : WorldState) (h : Holding units logins start past lines w) (held : AreHeldAt start (hist past w) w) where
   abbrev pub good : Good w.target
@@ -148,19 +146,19 @@ module _ (units logins : ℕ) (has : 0 < units) (start : List Disk) {past : List
 
       -- the place of another agent has the list that it had
       other_list : (p : ℕ) (z : Bool) → nat_eq p q ≡ z → z ≡ false → (cond z new (holder w p)).list ≡ (holder w p).list
-      other_list p true e f = absurd (no (sym f))
+      other_list p true e f = absurd (false≢true (sym f))
       other_list p false e f = refl
 
       own_list : (p : ℕ) (z : Bool) → nat_eq p q ≡ z → p ≡ q → (cond z new (holder w p)).list ≡ new.list
       own_list p true e same = refl
-      own_list p false e same = absurd (no (sym e ∙ (let x : nat_eq p q ≡ true = grind (arith, nat_tests) in x)))
+      own_list p false e same = absurd (false≢true (sym e ∙ (let x : nat_eq p q ≡ true = grind (arith, nat_tests) in x)))
 
       -- and that of the one which is pointed has the list of the ORB that is named
       list_by : (b : Bool) → nat_lt i (length told.initiators) ≡ b → i < length w.initiators → bus.list_in (cond b (last_at (initiator_at told i).lists orb) None) ≡ list_in (named_in (hist past w) i (slot_of orb))
       list_by true e l =
           let same : (initiator_at told i).lists ≡ (initiator_at w i).lists = ap (λ (is : List InitiatorState). (slice_index_or is i (new_state 0 false)).lists) marks.initiators in
           ap (λ (k : ListState). bus.list_in (last_at k orb)) same ∙ named_list (hist past w) i (initiator_at w i).lists (rows l) orb
-      list_by false e l = absurd (no (sym e ∙ (let z : nat_lt i (length told.initiators) ≡ true = (let y = ap length marks.initiators in grind (arith, nat_tests)) in z)))
+      list_by false e l = absurd (false≢true (sym e ∙ (let z : nat_lt i (length told.initiators) ≡ true = (let y = ap length marks.initiators in grind (arith, nat_tests)) in z)))
 
       new_list : (holder w q).initiator ≡ i → i < length w.initiators → new.list ≡ list_in (named_in (hist past w) i (slot_of orb))
       new_list own l =

@@ -2,6 +2,8 @@
 -- generation that the target has not seen.
 use Rattle.std.proofs.Common.{arith, ◌≡◌, ◌∙◌, refl, sym, ap, subst, ◌<◌, ◌==◌, ℕ, suc, nat_eq, Bool, true, false, cond, List, [], ◌∷◌, ◌++◌, map, Some, None}
 use Rattle.std.proofs.lemmas.Bool.Decides.{nat_tests}
+use Rattle.std.proofs.lemmas.Bool.{false≢true}
+use Rattle.std.proofs.lemmas.Option.{none-some, same_Some}
 use Rattle.sbp_journal.specs.Run.{Moment, said}
 use Rattle.sbp_journal.specs.Wire.{terms}
 use Rattle.sbp_journal.specs.declared.note.Note.{Note}
@@ -13,15 +15,6 @@ use Rattle.sbp_world.specs.Pointers.Moments.{MayAppend, MayStand, turn_of}
 use Rattle.sbp_world.specs.Lists.Opened.{AllOf, Ends, ends_by_reset, ends_by_sight, ends_by_state, ends_by_status, EndsAt, of_rest}
 use Rattle.sbp_world.proofs.Lists.Joins.{Begins}
 use Rattle.sbp_world.proofs.Lists.OpenedMoments.{all_same, all_weaker, of_others, others_rest}
-
-no : false ≡ true → ⊥
-no e = cc
-
-none_some : {A : Type 0} (x : A) → None ≡ Some x → ⊥
-none_some x e = cc
-
-some_same : {A : Type 0} (x y : A) → Some x ≡ Some y → x ≡ y
-some_same x y e = cc
 
 -- ---- why a list is dropped: a packet is got, or a generation is seen
 pub data Because (past : List Moment) : Type 0 where
@@ -38,8 +31,8 @@ note_same : (a b : Note) (past earlier : List Moment) → said a ∷ past ≡ sa
 note_same a b past earlier e = cc
 
 not_because : (note : Note) (past : List Moment) → of_others note ≡ true → Because (said note ∷ past) → ⊥
-not_because note past a (by_got serial earlier e) = no (sym (ap of_others (note_same note (notes.Got serial) past earlier e)) ∙ a)
-not_because note past a (by_seen node generation earlier e) = no (sym (ap of_others (note_same note (notes.Seen node generation) past earlier e)) ∙ a)
+not_because note past a (by_got serial earlier e) = false≢true (sym (ap of_others (note_same note (notes.Got serial) past earlier e)) ∙ a)
+not_because note past a (by_seen node generation earlier e) = false≢true (sym (ap of_others (note_same note (notes.Seen node generation) past earlier e)) ∙ a)
 
 module _ (i : ℕ) (m : Moment) (H : List Moment) where
   abbrev At : List Note → List Moment
@@ -73,7 +66,7 @@ module _ (i : ℕ) (m : Moment) (H : List Moment) where
         a = may (let z : nat_eq j i ≡ true = grind (arith, nat_tests) in z)
 
         by : (c : Bool) → nat_eq k 0 ≡ c → (Some l ≡ Some n) × (cond c (suc (lists past j)) (lists past j) ≡ lists H i)
-        by true z = absurd (none_some n (sym (a.first (grind (arith, nat_tests))).0 ∙ h.present))
+        by true z = absurd (none-some n (sym (a.first (grind (arith, nat_tests))).0 ∙ h.present))
         by false z = (sym (a.later (grind (arith, nat_tests))) ∙ h.present, ap (lists past) (sym own) ∙ h.begun)
 
     drops : (past : List Moment) (j l : ℕ) → Holds past → ((j == i) ≡ true → ⊥) → (b : Bool) → nat_eq i j ≡ b → cond b None (present_list past i) ≡ Some n

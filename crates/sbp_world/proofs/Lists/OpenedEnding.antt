@@ -2,10 +2,9 @@
 use Rattle.std.proofs.Common.{arith, ◌≡◌, ◌∙◌, refl, sym, ap, subst, ◌<◌, not, ℕ, suc, Bool, true, false, List, [], ◌∷◌, ◌++◌, map, Option, Some}
 use Rattle.async_packet.specs.Packet.{write_block}
 use Rattle.bus_transactions.proofs.Facts.{asked_begun, request_asked}
-use Rattle.bus_transactions.proofs.PacketParts.{asking_read, part_read, request_read}
-use Rattle.label_table.specs.Requests.{is_write}
+use Rattle.bus_transactions.proofs.PacketParts.{part_read}
 use Rattle.sbp_journal.specs.Run.{Moment, asked, said}
-use Rattle.sbp_journal.specs.Transactions.{Sending, between, part_of, request, writing}
+use Rattle.sbp_journal.specs.Transactions.{Sending, between, writing}
 use Rattle.sbp_journal.specs.Wire.{terms}
 use Rattle.sbp_journal.specs.declared.note.Note.TheVariants as notes
 use Rattle.sbp_laws.specs.Turns.{EachMoment}
@@ -28,7 +27,7 @@ use Rattle.sbp_world.proofs.Pointers.Guarding.{first_guarded, guarded_carried, r
 use Rattle.sbp_world.specs.Lists.Closes.{Always}
 use Rattle.sbp_world.specs.Lists.Opened.{AreEnds, Ends, EndsAt, IsDoneNow, ends_by_reset, ends_by_sight, ends_by_state, ends_by_status}
 use Rattle.sbp_world.proofs.Lists.Calm.{injects_before}
-use Rattle.sbp_world.proofs.Lists.ManageKnown.{OfWire, before_it, current_of}
+use Rattle.sbp_world.proofs.Lists.ManageKnown.{OfWire, before_it, current_of, write_of}
 use Rattle.sbp_world.proofs.Lists.ManageTerms.{got_more, got_rests, untrue}
 use Rattle.sbp_world.proofs.Lists.ManageWire.{WireMoments, wire_moments}
 use Rattle.sbp_world.proofs.Lists.OpenedCauses.{AllDrops, DropAt, drops_after, drops_between}
@@ -44,9 +43,6 @@ of_turn (said (notes.Drop j n) ∷ past) w = of_turn past (before_it (said (note
 of_turn (said (notes.Op j operation word) ∷ past) w = of_turn past (before_it (said (notes.Op j operation word)) past w)
 of_turn (said (notes.Stuck j) ∷ past) w = of_turn past (before_it (said (notes.Stuck j)) past w)
 of_turn (moment ∷ past) w = w
-
-write_of : (bytes : List ℕ) (l : ℕ) → part_of bytes ≡ request l writing → is_write bytes ≡ true
-write_of bytes l e = let r = request_read bytes l writing e in (asking_read bytes r.packet l writing r.read r.is).writes
 
 -- ---- a status block that is got
 module _ (serial i : ℕ) (earlier : List Moment) (w : OfWire (said (notes.Got serial) ∷ earlier)) (d : IsBlockGot earlier serial i) where

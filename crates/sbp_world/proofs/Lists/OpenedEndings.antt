@@ -81,8 +81,7 @@ use Rattle.sbp_world.proofs.Lists.OpenCuts.{Listing}
 use Rattle.sbp_world.proofs.Lists.OpenTurns.{HasSeat, listing_seat}
 use Rattle.sbp_world.proofs.Lists.OpenedCuts.{Hits, manage_down}
 use Rattle.sbp_world.proofs.Lists.OpenedDelivers.{delivery_up, end, good, marks, seats, told, turn}
-use Rattle.sbp_world.proofs.Lists.Generations.{is_sight}
-use Rattle.sbp_world.proofs.Lists.OpenedFirst.{generation_same, is_first, operation_same}
+use Rattle.sbp_world.proofs.Lists.OpenedFirst.{generation_same, operation_same}
 use Rattle.sbp_world.proofs.Lists.OpenedHosts.{IsSame}
 use Rattle.sbp_world.proofs.Lists.OpenedMoments.{of_target}
 use Rattle.sbp_world.proofs.Lists.OpenedNotes.{Behind, target_handed}
@@ -92,6 +91,7 @@ use Rattle.sbp_world.proofs.Lists.OpenedReplied.{IsResolved, Wrote, reply_wrote,
 use Rattle.sbp_world.proofs.Lists.OpenedSends.{IsWritten, Tells, telling, written}
 use Rattle.sbp_world.proofs.Lists.OpenedTurns.{NoneUp, Opens, WasUp}
 use Rattle.sbp_world.proofs.Lists.OpenedWorlds.{Here, turn_is}
+use Rattle.sbp_world.proofs.Lists.OpenedTelling.{judged_first, judged_still}
 
 -- ---- what is known of the management of an initiator, before a turn
 pub record Manages (x : View) (w : WorldState) (i : ℕ) : Type 0 where
@@ -121,14 +121,6 @@ not_orb op other e f g = absurd (differ (sym f ∙ (ap (λ (x : Operation). x.ph
 judged_for : (start : List Disk) (serial : ℕ) (judged : Judged) (past : List Moment) (s : ℕ) → managed_for start (said (judged_note serial judged) ∷ past) s ≡ managed_for start past s
 judged_for start serial judgements.Got past s = refl
 judged_for start serial (judgements.Ignored cause) past s = refl
-
-judged_begins : (serial : ℕ) (j : Judged) → is_first (said (judged_note serial j)) ≡ true
-judged_begins serial judgements.Got = refl
-judged_begins serial (judgements.Ignored cause) = refl
-
-judged_still : (serial node : ℕ) (j : Judged) → is_sight node (said (judged_note serial j)) ≡ false
-judged_still serial node judgements.Got = refl
-judged_still serial node (judgements.Ignored cause) = refl
 
 -- a decision with status 00 on an ORB that ends lists hits the place of the login
 module _ (p : ℕ) (b : p < 8) (orb : ManagementOrb) (source eui : ℕ) (table : Table) (keys : List (List ℕ)) (own : Login) (there : place_at table.places p ≡ Some own) (only : (place : ℕ) (login : Login) → place_at table.places place ≡ Some login → is_live login ≡ true → login.node ≡ source → place ≡ p) where
@@ -190,13 +182,13 @@ module _ (units logins : ℕ) (has : 0 < units) (start : List Disk) {past : List
   same = turn_is b.more (judged_note serial T.0) w.fresh D.fresh past (ap (λ ns. b.more ++ ns) (sym first) ∙ b.is)
 
   generation : (node : ℕ) → (terms E).generation node ≡ (terms H).generation node
-  generation node = ap (λ ms. (terms ms).generation node) (sym same) ∙ generation_same i b.more m H b.all (judged_begins serial T.0) node (judged_still serial node T.0)
+  generation node = ap (λ ms. (terms ms).generation node) (sym same) ∙ generation_same i b.more m H b.all (judged_first serial T.0) node (judged_still serial node T.0)
 
   same_nodes : (view H i).target ≡ (view H i).own
   same_nodes = sym (generation 0) ∙ (r.same ∙ generation (suc i))
 
   was : IsSame (view H i).operation r.underway
-  was = operation_same i b.more m H b.all (judged_begins serial T.0) r.underway (ap (λ ms. (host_at ms i).operation) same ∙ r.is)
+  was = operation_same i b.more m H b.all (judged_first serial T.0) r.underway (ap (λ ms. (host_at ms i).operation) same ∙ r.is)
 
   manages : is_management was.was.operation ≡ true
   manages = ap is_management was.operation ∙ r.manages

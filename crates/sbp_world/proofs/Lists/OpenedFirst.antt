@@ -1,5 +1,6 @@
 -- What the first moment of a turn leaves of the lists of an initiator and of its operation, and what stands behind that in a turn of the target.
 use Rattle.std.proofs.Common.{arith, ◌≡◌, ◌⊎◌, inl, inr, ◌∙◌, refl, ap, ◌<◌, ℕ, Bool, true, false, List, ◌∷◌, ◌++◌, map, Some}
+use Rattle.std.proofs.lemmas.Bool.{false≢true}
 use Rattle.sbp_journal.specs.Run.{Moment, asked, said}
 use Rattle.sbp_journal.specs.Wire.{terms}
 use Rattle.sbp_journal.specs.declared.note.Note.{Note}
@@ -10,9 +11,6 @@ use Rattle.sbp_world.proofs.Lists.Generations.{is_sight, moment_generation}
 use Rattle.sbp_world.proofs.Lists.OpenedHosts.{Goes, IsLaterAt, IsSame, goes_then, one}
 use Rattle.sbp_world.proofs.Lists.OpenedMoments.{SameLists, all_hosts, all_lists, all_same, all_weaker, of_target, target_rest}
 
-no : false ≡ true → ⊥
-no e = cc
-
 -- a moment that begins a turn, or a line
 abbrev pub is_first : Moment → Bool
 is_first (said (notes.Begin initiators ready)) = false
@@ -22,15 +20,15 @@ is_first (said (notes.Sent serial generation from to bytes)) = false
 is_first _ = true
 
 pub first_lists : (m : Moment) (past : List Moment) (i : ℕ) → is_first m ≡ true → SameLists i past (m ∷ past)
-first_lists (said (notes.Begin initiators ready)) past i e = absurd (no e)
-first_lists (said (notes.Append j n k cdb buffer)) past i e = absurd (no e)
-first_lists (said (notes.Drop j n)) past i e = absurd (no e)
-first_lists (said (notes.Sent serial generation from to bytes)) past i e = absurd (no e)
+first_lists (said (notes.Begin initiators ready)) past i e = absurd (false≢true e)
+first_lists (said (notes.Append j n k cdb buffer)) past i e = absurd (false≢true e)
+first_lists (said (notes.Drop j n)) past i e = absurd (false≢true e)
+first_lists (said (notes.Sent serial generation from to bytes)) past i e = absurd (false≢true e)
 first_lists (said note) past i e = record { present = refl; begun = refl }
 first_lists (asked line event) past i e = record { present = refl; begun = refl }
 
 first_later : (n i : ℕ) (m : Moment) → is_first m ≡ true → IsLaterAt n i m
-first_later n i (said (notes.Sent serial generation from to bytes)) e = absurd (no e)
+first_later n i (said (notes.Sent serial generation from to bytes)) e = absurd (false≢true e)
 first_later n i (said note) e = tt
 first_later n i (asked line event) e = tt
 

@@ -1,6 +1,7 @@
 -- What a history says of an initiator grows as it goes on.
 use Rattle.std.proofs.Common.{arith, ◌≡◌, ◌∙◌, refl, sym, ap, ◌<◌, ◌≤◌, ◌&&◌, ℕ, suc, nat_eq, Bool, true, false, cond, List, [], ◌∷◌, ◌++◌, Option, Some}
 use Rattle.std.proofs.lemmas.Bool.Decides.{nat_tests}
+use Rattle.std.proofs.lemmas.Bool.{false≢true}
 use Rattle.bus_transactions.specs.Packets.{SerialsCount}
 use Rattle.sbp_journal.specs.Run.{Moment, asked, said}
 use Rattle.sbp_journal.specs.Wire.{terms}
@@ -9,8 +10,8 @@ use Rattle.sbp_journal.specs.declared.event.Event.TheVariants as events
 use Rattle.sbp_journal.specs.declared.note.Note.{Note}
 use Rattle.sbp_journal.specs.declared.note.Note.TheVariants as notes
 use Rattle.sbp_bus.specs.Packets.{end_note}
-use Rattle.sbp_world.proofs.Hosts.Remaining.{remains, serials_behind}
-use Rattle.sbp_world.proofs.Hosts.SentMoments.{sent_below}
+use Rattle.sbp_world.proofs.Hosts.Remaining.{remains}
+use Rattle.sbp_world.proofs.Hosts.SentMoments.{sent_below, serials_from}
 use Rattle.sbp_world.specs.Lists.Opened.{AsGot, got_as, view}
 use Rattle.sbp_world.proofs.Lists.Generations.{not_lower}
 use Rattle.sbp_world.proofs.Lists.OpenNews.{all_grow}
@@ -36,16 +37,10 @@ not_fallen node (m ∷ later) past r =
     let b = not_lower node m (later ++ past) r.0 in
     omega (arith, a, b)
 
-serials_of : (later past : List Moment) → SerialsCount (later ++ past) → SerialsCount past
-serials_of [] past c = c
-serials_of (m ∷ later) past c = serials_of later past (serials_behind m (later ++ past) c)
-
 -- ---- what a packet was as it was got first
-no : false ≡ true → ⊥
-no e = cc
 
 got_not : (a b : Bool) (new old : Option AsGot) → (a ≡ true → b ≡ false) → cond (a && b) new old ≡ old
-got_not true true new old f = absurd (no (sym (f refl)))
+got_not true true new old f = absurd (false≢true (sym (f refl)))
 got_not true false new old f = refl
 got_not false b new old f = refl
 
@@ -77,7 +72,7 @@ module _ (i : ℕ) (later past : List Moment) (serials : SerialsCount (later ++ 
         told = λ s l. told_remains later past s i serials l;
         answered = answered;
         news = λ s. all_grow s later past;
-        below = λ s packet e. sent_below past s packet (serials_of later past serials) e;
+        below = λ s packet e. sent_below past s packet (serials_from later past serials) e;
         unserved = unserved;
         target = not_fallen 0 later past rises;
         own = not_fallen (suc i) later past rises;

@@ -1,6 +1,7 @@
 -- What others than the target do keeps it, for which list an agent is out of RESET, where no list is dropped that such an agent has.
 use Rattle.std.proofs.Common.{arith, ◌≡◌, ◌⊎◌, inl, inr, ◌∙◌, refl, sym, ap, subst, ◌<◌, ◌≤◌, ℕ, suc, nat_eq, nat_lt, Bool, true, false, Some}
 use Rattle.std.proofs.lemmas.Bool.Decides.{nat_tests}
+use Rattle.std.proofs.lemmas.Option.{same_Some}
 use Rattle.bus_memory.specs.declared.window.Window.TheVariants as windows
 use Rattle.bus_memory.specs.Windows.{start}
 use Rattle.sbp_journal.specs.Transactions.{Sending}
@@ -12,9 +13,6 @@ use Rattle.sbp_world.specs.Worlds.{WorldState}
 use Rattle.sbp_world.specs.Lists.Opened.{AreOpenFor, as_got, IsDoneBlock, IsOpenFor, IsServedReset, IsToldDone, IsToldReset, IsUp, View}
 use Rattle.sbp_world.proofs.Lists.OpenedHosts.{IsSame}
 use Rattle.sbp_world.proofs.Lists.OpenedTurns.{Grown, WasUp}
-
-some_same : {A : Type 0} (x y : A) → Some x ≡ Some y → x ≡ y
-some_same x y e = cc
 
 -- a list of an agent stays the present one, and no list begins
 pub record Keeps (x y : View) (n : ℕ) : Type 0 where

@@ -1,6 +1,7 @@
 -- An agent that has a list open has the list for which the write that opened it was named: the present one, or the latest one while its initiator is ahead.
 use Rattle.std.proofs.Common.{arith, ◌≡◌, ◌∙◌, refl, sym, ap, ◌&&◌, ℕ, suc, nat_eq, Bool, true, false, cond, List, [], ◌∷◌, ◌++◌, Option, Some, None}
 use Rattle.std.proofs.lemmas.Bool.Decides.{nat_tests}
+use Rattle.std.proofs.lemmas.Option.{same_Some}
 use Rattle.bus_memory.specs.Windows.{slot_of}
 use Rattle.sbp_journal.specs.Run.{Moment, asked, said}
 use Rattle.sbp_journal.specs.Transactions.{Sending}
@@ -15,9 +16,6 @@ use Rattle.sbp_world.specs.Lists.Needs.{initiator_in, is_open_at, machine_at}
 use Rattle.sbp_world.specs.Lists.Opened.{AreAllOpenFor, AreOpenFor, AsGot, IsOpenFor, IsUp, as_got, got_as, view}
 use Rattle.sbp_world.specs.Lists.Places.{AreNamedFor}
 use Rattle.sbp_world.proofs.Lists.OpenTurns.{listing_up}
-
-some_same : {A : Type 0} (x y : A) → Some x ≡ Some y → x ≡ y
-some_same x y e = cc
 
 -- ---- when a packet was got first
 record WasGot (past : List Moment) (serial i address : ℕ) (packet : Option Sending) (list : Option ℕ) : Type 0 where
@@ -34,10 +32,10 @@ one_more : (m : Moment) (past : List Moment) (serial i address : ℕ) (packet : 
 one_more m past serial i address packet list g = record { later = m ∷ g.later; earlier = g.earlier; is = ap (λ ms. m ∷ ms) g.is; sent = g.sent; list_is = g.list_is }
 
 packet_same : (a b : Option Sending) (x y : Option ℕ) → as_got a x ≡ as_got b y → a ≡ b
-packet_same a b x y e = ap (λ (g : AsGot). g.packet) (some_same _ _ e)
+packet_same a b x y e = ap (λ (g : AsGot). g.packet) (same_Some _ _ e)
 
 list_same : (a b : Option Sending) (x y : Option ℕ) → as_got a x ≡ as_got b y → x ≡ y
-list_same a b x y e = ap (λ (g : AsGot). g.list) (some_same _ _ e)
+list_same a b x y e = ap (λ (g : AsGot). g.list) (same_Some _ _ e)
 
 got_here : (serial s i address : ℕ) (past : List Moment) (packet : Option Sending) (list : Option ℕ) (a b : Bool) → nat_eq s serial ≡ a → cond (a && b) (as_got ((terms past).sent serial) (list_in (named_in past i (slot_of address)))) (got_as past s i address) ≡ as_got packet list → (got_as past s i address ≡ as_got packet list → WasGot past s i address packet list) → WasGot (said (notes.Got serial) ∷ past) s i address packet list
 got_here serial s i address past packet list true true f e rest =
@@ -79,7 +77,7 @@ module _ (past : List Moment) (w : WorldState) (i : ℕ) (o : AreOpenFor (view p
         f.present same ∙ sym (has_list place f);
     ahead = λ place n b open_there own l is.
         let f = o.each place b (is_up place open_there own) in
-        let e : f.list ≡ n = some_same f.list n (sym (has_list place f) ∙ is) in
+        let e : f.list ≡ n = same_Some f.list n (sym (has_list place f) ∙ is) in
         ap suc (sym e) ∙ f.ahead l;
   }
 

@@ -1,7 +1,7 @@
 -- The operation of an initiator is the one that was under way, or began since.
 use Rattle.std.proofs.Common.{arith, ◌≡◌, ◌⊎◌, inl, inr, ◌∙◌, refl, sym, ap, subst, ◌<◌, ◌≤◌, ◌==◌, ◌&&◌, ℕ, zero, suc, nat_lt, not, Bool, true, false, cond, List, [], ◌∷◌, ◌++◌, Option, Some, None}
+use Rattle.std.proofs.lemmas.Option.{none-some}
 use Rattle.bus_transactions.specs.Packets.{SerialsCount}
-use Rattle.orb_layout.specs.Replies.{Answer, Done}
 use Rattle.sbp_journal.specs.Run.{Moment, asked, said}
 use Rattle.sbp_journal.specs.Transactions.{Part, no_packet, part_of, request, response}
 use Rattle.sbp_journal.specs.Wire.{Terms, terms}
@@ -14,14 +14,12 @@ use Rattle.sbp_journal.specs.declared.note.Note.TheVariants as notes
 use Rattle.sbp_journal.specs.declared.operation.Operation.{Operation}
 use Rattle.sbp_journal.specs.declared.operation.Operation.TheVariants as operations
 use Rattle.sbp_journal.specs.declared.operation.OpWord.{OpWord}
-use Rattle.sbp_laws.specs.Hosts.{Host, Underway, acted, begin_operation, begun, got_by, goes_on, host_at, host_by, is_serial, known_host, list_begins, op_ended, operation_of, pointer_answered, ready_host, reset_seen, ring, sent_as, sent_in}
+use Rattle.sbp_laws.specs.Hosts.{Host, Underway, acted, begin_operation, begun, got_by, goes_on, host_at, host_by, is_serial, known_host, list_begins, op_ended, operation_of, ready_host, reset_seen, ring, sent_as, sent_in}
 use Rattle.sbp_laws.specs.Lists.{present_list}
 use Rattle.sbp_laws.specs.Packets.{answered_at, receiver_in, sender_in}
 use Rattle.sbp_laws.specs.Turns.{event_of}
 use Rattle.sbp_world.proofs.Hosts.Remaining.{remains, serials_behind}
-
-none_some : {A : Type 0} (x : A) → None ≡ Some x → ⊥
-none_some x e = cc
+use Rattle.sbp_world.proofs.Lists.ManageFirsts.{pointer_operation}
 
 -- the operation is the one that there was, but for its latest request
 pub record IsSame (before : Option Underway) (now : Underway) : Type 0 where
@@ -43,7 +41,7 @@ module _ (n : ℕ) where
   like h k e = record { operation = λ u g. inl (same_one h.operation u (sym e ∙ g)) }
 
   none_now : (h k : Host) → k.operation ≡ None → Goes n h k
-  none_now h k e = record { operation = λ u g. absurd (none_some u (sym e ∙ g)) }
+  none_now h k e = record { operation = λ u g. absurd (none-some u (sym e ∙ g)) }
 
   then_op : (a b : Option Underway) (u : Underway) → ((v : Underway) → b ≡ Some v → IsSame a v ⊎ (n < v.first)) → IsSame b u ⊎ (n < u.first) → IsSame a u ⊎ (n < u.first)
   then_op a b u f (inr l) = inr l
@@ -143,10 +141,6 @@ module _ (n : ℕ) where
     sends_as no_packet event i list h = self h
 
   -- ---- a packet is got
-  pointer_operation : (answer : Answer) (own : Bool) (h : Host) → (pointer_answered answer own h).operation ≡ h.operation
-  pointer_operation Done true h = refl
-  pointer_operation Done false h = refl
-  pointer_operation _ own h = refl
 
   gets : (own : Option ℕ) (wire : Terms) (serial : ℕ) (present : Option ℕ) (h : Host) → Goes n h (got_by own wire serial present h)
   gets (Some own) wire serial present h = like h (got_by (Some own) wire serial present h) (pointer_operation _ _ h)

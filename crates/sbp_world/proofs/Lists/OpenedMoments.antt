@@ -2,6 +2,7 @@
 -- how often packets were taken and served.
 use Rattle.std.proofs.Common.{arith, ◌≡◌, ◌∙◌, refl, sym, ap, ◌≤◌, ◌==◌, ℕ, zero, suc, nat_eq, not, Bool, true, false, cond, List, [], ◌∷◌, ◌++◌, map, Option, Some, None}
 use Rattle.std.proofs.lemmas.Bool.Decides.{nat_tests}
+use Rattle.std.proofs.lemmas.Bool.{false≢true}
 use Rattle.bus_transactions.specs.Packets.{SerialsCount}
 use Rattle.sbp_journal.specs.Run.{Moment, asked, said}
 use Rattle.sbp_journal.specs.Transactions.{Sending, Transaction, begun_by}
@@ -18,9 +19,9 @@ use Rattle.sbp_world.specs.Pointers.Moments.{state_list}
 use Rattle.sbp_world.specs.Lists.Opened.{AllOf, of_rest}
 use Rattle.sbp_world.proofs.Lists.OpenedHosts.{Goes, IsLaterAt, goes_then, like, one}
 use Rattle.sbp_world.proofs.Hosts.Remaining.{other_serial}
-
-no : false ≡ true → ⊥
-no e = cc
+use Rattle.sbp_world.proofs.Common.{cond_off}
+use Rattle.sbp_world.proofs.Sessions.BlockNotes.{begins_sent}
+use Rattle.sbp_world.proofs.Hosts.Held.{pays_sent}
 
 -- ---- which notes stand behind the first moment of a turn of the target, and of another turn
 abbrev pub of_target : Note → Bool
@@ -100,29 +101,17 @@ sends_same s packet t =
     let first : Same t put = record { generation = refl; news = refl; served = refl; closed = refl } in
     same_then t b (sends s packet t) (same_then t put b first (begins_same (begun_by packet) s packet put)) (pays_same t.owes t.sent s packet b)
 
-begins_sent : (u : Option Transaction) (s : ℕ) (packet : Sending) (t : Terms) → (begins u s packet t).sent ≡ t.sent
-begins_sent None s packet t = refl
-begins_sent (Some u) s packet t = refl
-
-gives_sent : (u : Option Transaction) (rcode : ℕ) (t : Terms) → (gives u rcode t).sent ≡ t.sent
-gives_sent None rcode t = refl
-gives_sent (Some u) rcode t = refl
-
-pays_sent : (owed : Option Owed) (sent : ℕ → Option Sending) (s : ℕ) (packet : Sending) (t : Terms) → (pays owed sent s packet t).sent ≡ t.sent
-pays_sent None sent s packet t = refl
-pays_sent (Some owed) sent s packet t = gives_sent _ _ t
-
 pub sends_sent : (s : ℕ) (packet : Sending) (t : Terms) → (sends s packet t).sent ≡ upd t.sent s (Some packet)
 sends_sent s packet t =
     let put = puts (begun_by packet) s packet t in
     pays_sent t.owes t.sent s packet (begins (begun_by packet) s packet put) ∙ begins_sent (begun_by packet) s packet put
 
 pub rest_same : (note : Note) (past : List Moment) → of_rest note ≡ true → Same (terms past) (terms (said note ∷ past))
-rest_same (notes.Begin initiators ready) past e = absurd (no e)
-rest_same (notes.Got serial) past e = absurd (no e)
-rest_same (notes.Ignored serial cause) past e = absurd (no e)
-rest_same (notes.TimedOut serial) past e = absurd (no e)
-rest_same (notes.Seen node generation) past e = absurd (no e)
+rest_same (notes.Begin initiators ready) past e = absurd (false≢true e)
+rest_same (notes.Got serial) past e = absurd (false≢true e)
+rest_same (notes.Ignored serial cause) past e = absurd (false≢true e)
+rest_same (notes.TimedOut serial) past e = absurd (false≢true e)
+rest_same (notes.Seen node generation) past e = absurd (false≢true e)
 rest_same (notes.Sent serial generation from to bytes) past e = sends_same serial _ (terms past)
 rest_same _ past e = record { generation = refl; news = refl; served = refl; closed = refl }
 
@@ -138,13 +127,13 @@ pub record SameLists (i : ℕ) (past now : List Moment) : Type 0 where
   pub begun : lists now i ≡ lists past i
 
 told_lists : (note : Note) (past : List Moment) (i : ℕ) → of_target note ≡ true → SameLists i past (said note ∷ past)
-told_lists (notes.Begin initiators ready) past i e = absurd (no e)
-told_lists (notes.Got serial) past i e = absurd (no e)
-told_lists (notes.Ignored serial cause) past i e = absurd (no e)
-told_lists (notes.TimedOut serial) past i e = absurd (no e)
-told_lists (notes.Seen node generation) past i e = absurd (no e)
-told_lists (notes.Append j n k cdb buffer) past i e = absurd (no e)
-told_lists (notes.Drop j n) past i e = absurd (no e)
+told_lists (notes.Begin initiators ready) past i e = absurd (false≢true e)
+told_lists (notes.Got serial) past i e = absurd (false≢true e)
+told_lists (notes.Ignored serial cause) past i e = absurd (false≢true e)
+told_lists (notes.TimedOut serial) past i e = absurd (false≢true e)
+told_lists (notes.Seen node generation) past i e = absurd (false≢true e)
+told_lists (notes.Append j n k cdb buffer) past i e = absurd (false≢true e)
+told_lists (notes.Drop j n) past i e = absurd (false≢true e)
 told_lists _ past i e = record { present = refl; begun = refl }
 
 pub all_lists : (more : List Note) (past : List Moment) (i : ℕ) → AllOf of_target more → SameLists i past (map said more ++ past)
@@ -167,13 +156,9 @@ all_hosts n (note ∷ more) past i a =
 
 -- ---- packets
 
-kept_by : {A : Type 0} (b : Bool) (x y : A) → b ≡ false → cond b x y ≡ y
-kept_by true x y e = absurd (no (sym e))
-kept_by false x y e = refl
-
-pointed_step : (m : Moment) (past : List Moment) (s i : ℕ) → SerialsCount (m ∷ past) → s ≤ (terms past).count → pointed_list (m ∷ past) s i ≡ pointed_list past s i
+pub pointed_step : (m : Moment) (past : List Moment) (s i : ℕ) → SerialsCount (m ∷ past) → s ≤ (terms past).count → pointed_list (m ∷ past) s i ≡ pointed_list past s i
 pointed_step (said (notes.Sent serial generation (suc j) to bytes)) past s i c l =
-    kept_by (nat_eq s serial) _ (pointed_list past s i) (other_serial s serial (terms past).count l c.0)
+    cond_off (nat_eq s serial) _ (pointed_list past s i) (other_serial s serial (terms past).count l c.0)
 pointed_step (said (notes.Sent serial generation zero to bytes)) past s i c l = refl
 pointed_step (said note) past s i c l = refl
 pointed_step (asked line event) past s i c l = refl
@@ -189,7 +174,7 @@ pointed_remains (m ∷ later) past s i c l =
 -- and so does the list that a read tells of
 told_step : (m : Moment) (past : List Moment) (s i : ℕ) → SerialsCount (m ∷ past) → s ≤ (terms past).count → state_list (m ∷ past) s i ≡ state_list past s i
 told_step (said (notes.Sent serial generation (suc j) to bytes)) past s i c l =
-    kept_by (nat_eq s serial) _ (state_list past s i) (other_serial s serial (terms past).count l c.0)
+    cond_off (nat_eq s serial) _ (state_list past s i) (other_serial s serial (terms past).count l c.0)
 told_step (said (notes.Sent serial generation zero to bytes)) past s i c l = refl
 told_step (said note) past s i c l = refl
 told_step (asked line event) past s i c l = refl
@@ -209,7 +194,7 @@ is_leaving moment = false
 
 pub moment_sent : (m : Moment) (past : List Moment) → is_leaving m ≡ false → (terms (m ∷ past)).sent ≡ (terms past).sent
 moment_sent (asked line event) past e = (opened_same event (terms past)).sent
-moment_sent (said (notes.Sent s generation from to bytes)) past e = absurd (no (sym e))
+moment_sent (said (notes.Sent s generation from to bytes)) past e = absurd (false≢true (sym e))
 moment_sent (said (notes.Got s)) past e = (gets_same ((terms past).sent s) s (terms past)).sent
 moment_sent (said (notes.Ignored s cause)) past e = (ignores_that_same ((terms past).sent s) cause s (terms past)).sent
 moment_sent (said (notes.TimedOut s)) past e = (times_out_same _ (terms past)).sent
@@ -225,18 +210,18 @@ some_from : (a b : Sending) → Some a ≡ Some b → a.from ≡ b.from
 some_from a b e = let same : a ≡ b = cc in ap (λ (q : Sending). q.from) same
 
 sent_by : (b : Bool) (new packet : Sending) (old : Option Sending) → cond b (Some new) old ≡ Some packet → not (new.from == 0) ≡ true → packet.from ≡ 0 → old ≡ Some packet
-sent_by true new packet old e f z = absurd (let a : new.from ≡ packet.from = some_from new packet e in let b : (new.from == 0) ≡ true = grind (arith, nat_tests) in no (ap not (sym b) ∙ f))
+sent_by true new packet old e f z = absurd (let a : new.from ≡ packet.from = some_from new packet e in let b : (new.from == 0) ≡ true = grind (arith, nat_tests) in false≢true (ap not (sym b) ∙ f))
 sent_by false new packet old e f z = e
 
 others_step : (note : Note) (past : List Moment) (s : ℕ) (packet : Sending) → of_others note ≡ true → packet.from ≡ 0 → (terms (said note ∷ past)).sent s ≡ Some packet → (terms past).sent s ≡ Some packet
 others_step (notes.Sent serial generation from to bytes) past s packet a z e =
     let new : Sending = record { generation = generation; from = from; to = to; bytes = bytes; injected = (terms past).injected serial } in
     sent_by (nat_eq s serial) new packet ((terms past).sent s) (ap (λ (g : ℕ → Option Sending). g s) (sym (sends_sent serial new (terms past))) ∙ e) a z
-others_step (notes.Begin initiators ready) past s packet a z e = absurd (no a)
-others_step (notes.Got serial) past s packet a z e = absurd (no a)
-others_step (notes.Ignored serial cause) past s packet a z e = absurd (no a)
-others_step (notes.TimedOut serial) past s packet a z e = absurd (no a)
-others_step (notes.Seen node generation) past s packet a z e = absurd (no a)
+others_step (notes.Begin initiators ready) past s packet a z e = absurd (false≢true a)
+others_step (notes.Got serial) past s packet a z e = absurd (false≢true a)
+others_step (notes.Ignored serial cause) past s packet a z e = absurd (false≢true a)
+others_step (notes.TimedOut serial) past s packet a z e = absurd (false≢true a)
+others_step (notes.Seen node generation) past s packet a z e = absurd (false≢true a)
 others_step _ past s packet a z e = e
 
 pub others_sent : (more : List Note) (past : List Moment) (s : ℕ) (packet : Sending) → AllOf of_others more → packet.from ≡ 0 → (terms (map said more ++ past)).sent s ≡ Some packet → (terms past).sent s ≡ Some packet

@@ -1,5 +1,6 @@
 -- A packet that an initiator gets drops no list that an agent of the target is out of RESET for: the target had told of it before, and none was so since.
 use Rattle.std.proofs.Common.{arith, ◌≡◌, ◌∙◌, refl, sym, ap, subst, ◌<◌, ℕ, suc, true, List, ◌∷◌, Some}
+use Rattle.std.proofs.lemmas.Option.{same_Some}
 use Rattle.async_packet.specs.Reading.{reading}
 use Rattle.bus_transactions.specs.Wire.{as_sending}
 use Rattle.label_table.specs.Requests.{is_write}
@@ -21,9 +22,6 @@ use Rattle.sbp_world.specs.Lists.Opened.{AreOpenFor, Ends, IsAnswered, IsDoneNow
 use Rattle.sbp_world.proofs.Lists.OpenedAnswers.{answers, complete_rcode, from_target, served_once, was_asked}
 use Rattle.sbp_world.proofs.Lists.OpenedTurns.{NoneUp}
 
-sending_same : (x y : Sending) → Some x ≡ Some y → x ≡ y
-sending_same x y e = cc
-
 -- what the AGENT_RESET under way writes
 abbrev pub ResetsWrite : List Moment → ℕ → Type 0
 ResetsWrite H i = (underway : Underway) (packet : Sending) → (view H i).operation ≡ Some underway → underway.operation ≡ operations.AgentReset → (view H i).sent underway.first ≡ Some packet → is_write packet.bytes ≡ true
@@ -35,7 +33,7 @@ module _ {past : List Moment} (w : WorldState) (h : Stands past w) (i serial : �
   -- the packet that is got
   module _ (request value : ℕ) (a : IsAnswered H serial i request value) where
     packet_is : a.packet ≡ as_sending sent
-    packet_is = sending_same a.packet (as_sending sent) (sym a.sent ∙ was_sent w h serial sent found)
+    packet_is = same_Some a.packet (as_sending sent) (sym a.sent ∙ was_sent w h serial sent found)
 
     by_reset : IsResetting H i request → NoneUp w i
     by_reset r =

@@ -1,5 +1,6 @@
 -- What a node hands out stands behind the notes of a line: the target's tells and packets, or those of another node.
 use Rattle.std.proofs.Common.{◌≡◌, ◌∙◌, refl, ap, subst, ℕ, ◌+◌, ◌==◌, not, Bool, true, false, List, [], ◌∷◌, ◌++◌, map, Option, Some, None}
+use Rattle.std.proofs.lemmas.Bool.{false≢true}
 use Rattle.async_packet.specs.Labels.{LabelParts}
 use Rattle.sbp_bus.specs.Generations.{node_of}
 use Rattle.sbp_journal.specs.Outgoings.{OutboxState}
@@ -18,18 +19,12 @@ use Rattle.sbp_world.proofs.Agents.Peers.{all_sent_places}
 use Rattle.sbp_world.specs.Hosts.Handing.{AreOthers, IsOther}
 use Rattle.sbp_world.specs.Lists.Opened.{AllOf}
 use Rattle.sbp_world.proofs.Lists.OpenedMoments.{of_others, of_target}
-
-no : false ≡ true → ⊥
-no e = cc
+use Rattle.sbp_world.proofs.Common.{notes_joined}
 
 pub record Behind (A : Note → Bool) (old new : List Note) : Type 0 where
   pub more : List Note
   pub is : more ++ old ≡ new
   pub all : AllOf A more
-
-joined : (a b c : List Note) → (a ++ b) ++ c ≡ a ++ (b ++ c)
-joined [] b c = refl
-joined (m ∷ a) b c = ap (λ ns. m ∷ ns) (joined a b c)
 
 both_all : (A : Note → Bool) (a b : List Note) → AllOf A a → AllOf A b → AllOf A (a ++ b)
 both_all A [] b x y = y
@@ -42,7 +37,7 @@ module _ (A : Note → Bool) where
   pub behind_then : (one two three : List Note) → Behind A one two → Behind A two three → Behind A one three
   behind_then one two three a b = record {
     more = b.more ++ a.more;
-    is = joined b.more a.more one ∙ ap (λ ns. b.more ++ ns) a.is ∙ b.is;
+    is = notes_joined b.more a.more one ∙ ap (λ ns. b.more ++ ns) a.is ∙ b.is;
     all = both_all A b.more a.more b.all a.all;
   }
 

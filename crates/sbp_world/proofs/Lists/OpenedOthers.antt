@@ -2,6 +2,7 @@
 use Rattle.std.proofs.Common.{arith, ◌≡◌, ◌∙◌, refl, sym, ap, subst, ◌==◌, ◌+◌, ◌-◌, not, ℕ, suc, nat_eq, nat_lt, Bool, true, false, cond, List, ◌∷◌, ◌++◌, map, length, Option, Some, None}
 use Rattle.std.specs.Prelude.{slice_index_or, slice_set}
 use Rattle.std.proofs.lemmas.Bool.Decides.{nat_tests}
+use Rattle.std.proofs.lemmas.Bool.{false≢true}
 use Rattle.bus_transactions.specs.Wire.{as_sending}
 use Rattle.packet_store.specs.declared.sent.Sent.{Sent}
 use Rattle.packet_store.specs.Kept.{found_sent}
@@ -48,9 +49,6 @@ use Rattle.sbp_world.proofs.Lists.OpenedNever.{never}
 use Rattle.sbp_world.proofs.Lists.OpenedNotes.{all_new, own_handed, own_places}
 use Rattle.sbp_world.proofs.Lists.OpenedTurns.{NoneUp, WasUp}
 use Rattle.sbp_world.proofs.Lists.OpenedWorlds.{Here, Then, Wired, alike_up, aside_turn, saw_never, turn_is, wired}
-
-no : false ≡ true → ⊥
-no e = cc
 
 not_zero : (j : ℕ) → nat_eq (suc j) 0 ≡ false
 not_zero j = grind (arith, nat_tests)

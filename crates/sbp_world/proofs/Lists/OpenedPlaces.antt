@@ -1,5 +1,6 @@
 -- What is known at a place of a run, for which list an agent is out of RESET.
-use Rattle.std.proofs.Common.{arith, ◌≡◌, ◌∙◌, refl, sym, ap, subst, ℕ, suc, ◌+◌, ◌<◌, ◌≤◌, true, List, ◌∷◌, ◌++◌, map, length, Option, Some, None}
+use Rattle.std.proofs.Common.{arith, ◌≡◌, ◌∙◌, refl, sym, ap, subst, ℕ, suc, ◌+◌, ◌<◌, ◌≤◌, true, List, ◌∷◌, ◌++◌, map, length, Option, Some}
+use Rattle.std.proofs.lemmas.Option.{same_Some}
 use Rattle.bus_transactions.proofs.PacketParts.{asking_read, request_read}
 use Rattle.label_table.specs.Requests.{is_write}
 use Rattle.rbc_disk.specs.Disk.{Disk}
@@ -17,7 +18,6 @@ use Rattle.sbp_world.specs.Worlds.{Scene, WorldState, begun, initiator_at}
 use Rattle.sbp_world.specs.Wire.History.{IsOfWire}
 use Rattle.sbp_world.proofs.Wire.Starts.{laws_of}
 use Rattle.sbp_world.specs.Agents.Holders.{AreHeldAt}
-use Rattle.sbp_world.specs.Agents.Management.Terms.{DeliversMore}
 use Rattle.sbp_world.proofs.Agents.Management.Still.{hist}
 use Rattle.sbp_world.proofs.Agents.Holders.{holders_between_law, holders_law}
 use Rattle.sbp_world.specs.Hosts.Runs.{IsRun, more_deliveries}
@@ -49,9 +49,7 @@ use Rattle.sbp_world.proofs.Lists.OpenedEnding.{ends_law}
 use Rattle.sbp_world.proofs.Lists.OpenedEndings.{Manages}
 use Rattle.sbp_world.proofs.Lists.OpenedSends.{Tells, judged_first}
 use Rattle.sbp_world.proofs.Lists.OpenedWorlds.{Here, Then}
-
-sending_same : (x y : Sending) → Some x ≡ Some y → x ≡ y
-sending_same x y e = cc
+use Rattle.sbp_world.proofs.Common.{delivers}
 
 -- ---- what is known of an initiator
 module _ (start : List Disk) (H : List Moment) (w : WorldState) (i : ℕ) (calm : IsCalm H i) (pointers : PointersAt H i) (begun : AreBegun H i) (first : (serial : ℕ) (sent : Sending) (place address : ℕ) → (terms H).sent serial ≡ Some sent → IsPointedBy sent i place address → IsFirst H i serial address) (bases : AreBased H i) (unrefused : AreUnrefused H i) (opened : AreOpened H w) (held : AreHeldAt start H w) (caught : HaveCaught start H w) (rows : i < length w.initiators → AreRows H i (initiator_at w i).lists.slots) where
@@ -69,7 +67,7 @@ module _ (start : List Disk) (H : List Moment) (w : WorldState) (i : ℕ) (calm 
   writes_there serial packet place address sent pointed =
       let f = first serial packet place address sent pointed in
       let k = pointers.each f.list serial f.pointed in
-      subst (λ (q : Sending). Writes q.bytes) (sending_same k.packet packet (sym k.sent ∙ sent)) (writes_of k.packet.bytes _ k.spelled refl)
+      subst (λ (q : Sending). Writes q.bytes) (same_Some k.packet packet (sym k.sent ∙ sent)) (writes_of k.packet.bytes _ k.spelled refl)
 
   is_writing : (bytes : List ℕ) → Writes bytes → is_write bytes ≡ true
   is_writing bytes x = let r = request_read bytes x.label writing x.part in (asking_read bytes r.packet x.label writing r.read r.is).writes
@@ -88,15 +86,15 @@ module _ (start : List Disk) (H : List Moment) (w : WorldState) (i : ℕ) (calm 
     written = writes_there;
     resets = λ underway packet is resets sent.
         let a = bases.reset underway is resets in
-        is_writing packet.bytes (subst (λ (q : Sending). Writes q.bytes) (sending_same a.packet packet (sym a.sent ∙ sent)) (writes_of a.packet.bytes _ a.spelled refl));
+        is_writing packet.bytes (subst (λ (q : Sending). Writes q.bytes) (same_Some a.packet packet (sym a.sent ∙ sent)) (writes_of a.packet.bytes _ a.spelled refl));
     agent = (host_at H i).login.agent;
     pointer = λ n serial packet present pointed sent.
         let a = bases.pointer unrefused n serial present pointed in
-        (start_of (windows.Orb (slot_at H i n 0)), ap (λ (q : Sending). access_in_bytes q.bytes) (sym (sending_same a.packet packet (sym a.sent ∙ sent))) ∙ a.spelled);
+        (start_of (windows.Orb (slot_at H i n 0)), ap (λ (q : Sending). access_in_bytes q.bytes) (sym (same_Some a.packet packet (sym a.sent ∙ sent))) ∙ a.spelled);
     reset = λ underway packet is resets sent.
-        let a = bases.reset underway is resets in ap (λ (q : Sending). access_in_bytes q.bytes) (sym (sending_same a.packet packet (sym a.sent ∙ sent))) ∙ a.spelled;
+        let a = bases.reset underway is resets in ap (λ (q : Sending). access_in_bytes q.bytes) (sym (same_Some a.packet packet (sym a.sent ∙ sent))) ∙ a.spelled;
     states = λ n serial packet present told sent.
-        let a = bases.states unrefused n serial present told in ap (λ (q : Sending). access_in_bytes q.bytes) (sym (sending_same a.packet packet (sym a.sent ∙ sent))) ∙ a.spelled;
+        let a = bases.states unrefused n serial present told in ap (λ (q : Sending). access_in_bytes q.bytes) (sym (same_Some a.packet packet (sym a.sent ∙ sent))) ∙ a.spelled;
   }
 
 -- ---- at a place of a run
@@ -130,10 +128,6 @@ pub record IsPlace (start : List Disk) (n : ℕ) (ms : List Moment) (w : WorldSt
   pub minded : (i : ℕ) → i < n → IsCalm ms i → IsMinded start ms w i
   pub opened : AreOpened ms w
   pub bases : (i : ℕ) → i < n → AreBased ms i
-
-delivers : (most : Option ℕ) → DeliversMore (more_deliveries most)
-delivers (Some count) = tt
-delivers None = tt
 
 module _ (laws : Laws) (management : ManagementLaw) (line : ℕ) (run : Run) (r : IsRun run) (has : 0 < run.units) (small : run.units ≤ 4) (size : length run.start.disks ≡ run.units) where
   abbrev last : Scene

@@ -15,7 +15,6 @@ use Rattle.sbp_world.specs.Settling.{MayAll, after_all, is_settled}
 use Rattle.sbp_world.specs.Wire.Lines.{AreLines}
 use Rattle.sbp_world.specs.Worlds.{Scene, WorldState, begun, without_notes}
 use Rattle.sbp_world.proofs.Wire.ToldBytes.{happened_fits}
-use Rattle.sbp_world.specs.Agents.Management.Terms.{DeliversMore}
 use Rattle.sbp_world.proofs.Agents.Management.Begins.{first_holds, first_past}
 use Rattle.sbp_world.proofs.Agents.Management.Holding.{Holding}
 use Rattle.sbp_world.proofs.Agents.Management.Lines.{line_holds, opens}
@@ -40,10 +39,7 @@ use Rattle.sbp_world.proofs.Lists.OpenedTargets.{Telling}
 use Rattle.sbp_world.proofs.Lists.OpenedTurns.{none_open}
 use Rattle.sbp_world.proofs.Lists.Runs.{as_front, lines_same, moments_same}
 use Rattle.sbp_world.proofs.Lists.OpenedWorlds.{alike_up, wired}
-
-delivers : (most : Option ℕ) → DeliversMore (more_deliveries most)
-delivers (Some count) = tt
-delivers None = tt
+use Rattle.sbp_world.proofs.Common.{delivers}
 
 module _ (telling : (units logins : ℕ) (has : 0 < units) (start : List Disk) → Telling units logins has start) (laws : Laws) (management : ManagementLaw) (line : ℕ) (run : Run) (few : run.initiators ≤ 4) (has : 0 < run.units) (small : run.units ≤ 4) (size : length run.start.disks ≡ run.units) where
   abbrev n : ℕ

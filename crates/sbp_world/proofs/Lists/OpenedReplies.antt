@@ -1,5 +1,6 @@
 -- A turn of the target in which a packet comes: what it answers answers that packet, and its packets are those that it hands out.
 use Rattle.std.proofs.Common.{arith, ◌≡◌, inl, inr, ◌∙◌, refl, sym, ap, subst, ◌<◌, ◌≤◌, ◌+◌, ℕ, nat_eq, Bool, true, false, cond, List, [], ◌∷◌, Option, Some, None}
+use Rattle.std.proofs.lemmas.Option.{same_Some}
 use Rattle.async_packet.specs.Labels.{LabelParts}
 use Rattle.sbp_bus.specs.Generations.{node_of}
 use Rattle.sbp_bus.specs.Packets.{judged_note}
@@ -110,12 +111,6 @@ module _ (count serial : ℕ) (packets : List Outgoing) where
   abbrev P : Terms → Type 0
   P t = Answering count serial packets t
 
-  some_packet : (a b : Sending) → Some a ≡ Some b → a ≡ b
-  some_packet a b e = cc
-
-  some_number : (a b : ℕ) → Some a ≡ Some b → a ≡ b
-  some_number a b e = cc
-
   -- the terms in which the packet is put
   record Put (t v : Terms) : Type 0 where
     owes : v.owes ≡ t.owes
@@ -130,7 +125,7 @@ module _ (count serial : ℕ) (packets : List Outgoing) where
     answers : (reply x : ℕ) → count < reply → v.answers reply ≡ Some x → x ≡ serial
 
   upd_answer : (b : Bool) (owed : ℕ) (old : Option ℕ) (x : ℕ) → owed ≡ serial → (old ≡ Some x → x ≡ serial) → cond b (Some owed) old ≡ Some x → x ≡ serial
-  upd_answer true owed old x e f g = sym (some_number owed x g) ∙ e
+  upd_answer true owed old x e f g = sym (same_Some owed x g) ∙ e
   upd_answer false owed old x e f g = f g
 
   pays_as : (o : Option Owed) (s : ℕ) (packet : Sending) (t v : Terms) → t.owes ≡ o → Put t v → P t → Paid s t (pays o t.sent s packet v)
@@ -144,7 +139,7 @@ module _ (count serial : ℕ) (packets : List Outgoing) where
   }
 
   upd_sent : (b : Bool) (packet : Sending) (old : Option Sending) (x : Sending) → IsIn packet.bytes packets → (old ≡ Some x → IsIn x.bytes packets) → cond b (Some packet) old ≡ Some x → IsIn x.bytes packets
-  upd_sent true packet old x m f g = subst (λ (y : Sending). IsIn y.bytes packets) (some_packet packet x g) m
+  upd_sent true packet old x m f g = subst (λ (y : Sending). IsIn y.bytes packets) (same_Some packet x g) m
   upd_sent false packet old x m f g = f g
 
   sends_answering : (s : ℕ) (packet : Sending) (t : Terms) → IsIn packet.bytes packets → P t → P (sends s packet t)

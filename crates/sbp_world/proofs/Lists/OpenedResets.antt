@@ -1,6 +1,8 @@
 -- As the target serves an AGENT_RESET that is under way, the agents of its initiator come to RESET: they are the one at which it is written.
 use Rattle.std.proofs.Common.{arith, ◌≡◌, ◌∙◌, refl, sym, ap, subst, ◌<◌, ◌≤◌, ◌+◌, ◌%◌, ◌^◌, ◌==◌, ◌&&◌, is_some, nat_le, nat_lt, ℕ, Bool, true, false, cond, List, [], length, Option, Some, None, Ok}
 use Rattle.std.proofs.lemmas.Bool.Decides.{nat_tests}
+use Rattle.std.proofs.lemmas.Bool.{false≢true}
+use Rattle.std.proofs.lemmas.Option.{same_Some}
 use Rattle.async_packet.specs.declared.packet.Header.{Header}
 use Rattle.async_packet.specs.Packet.{Packet, lock, lock_response, read_block, read_block_response, read_quadlet, read_quadlet_response, write_block, write_quadlet, write_response}
 use Rattle.async_packet.specs.Reading.{reading}
@@ -35,12 +37,6 @@ use Rattle.sbp_world.proofs.Lists.Follows.{set_here}
 use Rattle.sbp_world.proofs.Lists.OpenCuts.{Here, Listing, is_up}
 use Rattle.sbp_world.proofs.Lists.OpenedAddresses.{IsBase, IsNear, block_base, demand_served, near_register}
 
-no : false ≡ true → ⊥
-no e = cc
-
-access_same : (a b : Access) → Some a ≡ Some b → a ≡ b
-access_same a b e = cc
-
 and_false : (b : Bool) → (b && false) ≡ false
 and_false true = refl
 and_false false = refl
@@ -57,11 +53,11 @@ pub record IsQuadlet (q : Packet) (at : ℕ) : Type 0 where
   pub offset_is : offset ≡ at
 
 quadlet_of : (q : Packet) (a : Access) → access_of q ≡ Some a → a.is_write ≡ true → a.is_block ≡ false → IsQuadlet q a.offset
-quadlet_of (write_quadlet header offset value) a e w b = record { header = header; offset = offset; value = value; is = refl; offset_is = ap (λ (x : Access). x.offset) (access_same _ a e) }
-quadlet_of (write_block header offset payload) a e w b = absurd (no (sym b ∙ sym (ap (λ (x : Access). x.is_block) (access_same _ a e))))
-quadlet_of (read_quadlet header offset) a e w b = absurd (no (ap (λ (x : Access). x.is_write) (access_same _ a e) ∙ w))
-quadlet_of (read_block header offset count) a e w b = absurd (no (ap (λ (x : Access). x.is_write) (access_same _ a e) ∙ w))
-quadlet_of (lock header offset extended payload) a e w b = absurd (no (ap (λ (x : Access). x.is_write) (access_same _ a e) ∙ w))
+quadlet_of (write_quadlet header offset value) a e w b = record { header = header; offset = offset; value = value; is = refl; offset_is = ap (λ (x : Access). x.offset) (same_Some _ a e) }
+quadlet_of (write_block header offset payload) a e w b = absurd (false≢true (sym b ∙ sym (ap (λ (x : Access). x.is_block) (same_Some _ a e))))
+quadlet_of (read_quadlet header offset) a e w b = absurd (false≢true (ap (λ (x : Access). x.is_write) (same_Some _ a e) ∙ w))
+quadlet_of (read_block header offset count) a e w b = absurd (false≢true (ap (λ (x : Access). x.is_write) (same_Some _ a e) ∙ w))
+quadlet_of (lock header offset extended payload) a e w b = absurd (false≢true (ap (λ (x : Access). x.is_write) (same_Some _ a e) ∙ w))
 quadlet_of (write_response header rcode) a e w b = absurd (differ e)
   where
     differ : None ≡ Some a → ⊥
@@ -88,11 +84,11 @@ pub record IsBlock (q : Packet) (at : ℕ) : Type 0 where
   pub offset_is : offset ≡ at
 
 block_of : (q : Packet) (a : Access) → access_of q ≡ Some a → a.is_write ≡ true → a.is_block ≡ true → IsBlock q a.offset
-block_of (write_block header offset payload) a e w b = record { header = header; offset = offset; payload = payload; is = refl; offset_is = ap (λ (x : Access). x.offset) (access_same _ a e) }
-block_of (write_quadlet header offset value) a e w b = absurd (no (ap (λ (x : Access). x.is_block) (access_same _ a e) ∙ b))
-block_of (read_quadlet header offset) a e w b = absurd (no (ap (λ (x : Access). x.is_write) (access_same _ a e) ∙ w))
-block_of (read_block header offset count) a e w b = absurd (no (ap (λ (x : Access). x.is_write) (access_same _ a e) ∙ w))
-block_of (lock header offset extended payload) a e w b = absurd (no (ap (λ (x : Access). x.is_write) (access_same _ a e) ∙ w))
+block_of (write_block header offset payload) a e w b = record { header = header; offset = offset; payload = payload; is = refl; offset_is = ap (λ (x : Access). x.offset) (same_Some _ a e) }
+block_of (write_quadlet header offset value) a e w b = absurd (false≢true (ap (λ (x : Access). x.is_block) (same_Some _ a e) ∙ b))
+block_of (read_quadlet header offset) a e w b = absurd (false≢true (ap (λ (x : Access). x.is_write) (same_Some _ a e) ∙ w))
+block_of (read_block header offset count) a e w b = absurd (false≢true (ap (λ (x : Access). x.is_write) (same_Some _ a e) ∙ w))
+block_of (lock header offset extended payload) a e w b = absurd (false≢true (ap (λ (x : Access). x.is_write) (same_Some _ a e) ∙ w))
 block_of (write_response header rcode) a e w b = absurd (differ e)
   where
     differ : None ≡ Some a → ⊥
@@ -132,7 +128,7 @@ cut_closes : (cause : CutCause) (place : ℕ) (s : TargetScene) → length s.nod
 unfolding cut
 cut_closes cause place s size b e =
     let x : desk_at (cut_node place s.node) place ≡ reset_desk (desk_at s.node place) = set_here (record s.node { layer = (cut_node place s.node).layer }) place (reset_desk (desk_at s.node place)) (omega (arith, size, b)) in
-    no (sym (reset_none (Here s.node place)) ∙ (sym (ap (λ (d : Desk). is_up d.agent) x) ∙ e))
+    false≢true (sym (reset_none (Here s.node place)) ∙ (sym (ap (λ (d : Desk). is_up d.agent) x) ∙ e))
 
 -- ---- the target serves the write
 module _ (node : NodeState) (size : length node.desks ≡ 8) (rom : length node.rom ≤ 1024) (bytes : List ℕ) (generation : ℕ) (run : Option Told) (all : Whole) (same : all.node.desks ≡ node.desks) (same_rom : all.node.rom ≡ node.rom) (place : ℕ) (small : place < 8) (agent : ℕ) (writes : access_in_bytes bytes ≡ Some (register_write agent 0x04)) (base : IsBase ((agent + 8) % 2 ^ 48) place) where
@@ -188,5 +184,5 @@ module _ (node : NodeState) (size : length node.desks ≡ 8) (rom : length node.
       differ e = cc
   closes (of_response q label purpose) k got up =
       let x = quadlet q k.read in
-      no (ap (λ (z : Packet). is_some (reply_kind z)) (sym x.is) ∙ k.kind)
+      false≢true (ap (λ (z : Packet). is_some (reply_kind z)) (sym x.is) ∙ k.kind)
   closes (of_request q) k got up = by_bar q (is_barred all.node q) k.1.read got up

@@ -2,6 +2,7 @@
 use Rattle.std.proofs.Common.{arith, ◌≡◌, ◌∙◌, refl, sym, ap, subst, ℕ, zero, suc, ◌<◌, ◌≤◌, ◌==◌, nat_eq, nat_lt, Bool, true, false, cond, List, [], ◌∷◌, ◌++◌, map, length, Option, Some, None}
 use Rattle.std.specs.Prelude.{slice_index_or, slice_set}
 use Rattle.std.proofs.lemmas.Bool.Decides.{nat_tests}
+use Rattle.std.proofs.lemmas.Bool.{false≢true}
 use Rattle.bus_transactions.specs.May.{is_reset}
 use Rattle.packet_store.specs.declared.sent.Sent.{Sent}
 use Rattle.packet_store.specs.Kept.{found_sent}
@@ -48,9 +49,6 @@ use Rattle.sbp_world.proofs.Lists.OpenedSends.{Tells}
 use Rattle.sbp_world.proofs.Lists.OpenedTargets.{Telling, delivery_keeps, key_keeps, lapse_keeps, sight_keeps, tick_keeps}
 use Rattle.sbp_world.proofs.Lists.OpenedTurns.{Known}
 use Rattle.sbp_world.proofs.Lists.OpenedWorlds.{Here, Then, Wired, alike_up}
-
-no : false ≡ true → ⊥
-no e = cc
 
 -- ---- a line begins
 pub here_asked : (line : ℕ) (event : Event) (H : List Moment) (w : WorldState) (i : ℕ) → Here H w i → Here (asked line event ∷ H) (without_notes w) i

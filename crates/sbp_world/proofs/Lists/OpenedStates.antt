@@ -2,6 +2,8 @@
 use Rattle.std.proofs.Common.{arith, ◌≡◌, ◌⊎◌, inl, inr, ◌∙◌, refl, sym, ap, subst, ◌<◌, ◌≤◌, ◌+◌, ◌%◌, ◌^◌, ◌==◌, ◌&&◌, not, is_some, nat_le, ℕ, Bool, true, false, cond, List, [], ◌∷◌, ◌++◌, length, Option, Some, None, Ok}
 use Rattle.std.specs.Prelude.{slice_index_or}
 use Rattle.std.proofs.lemmas.Bool.Decides.{nat_tests}
+use Rattle.std.proofs.lemmas.Bool.{false≢true}
+use Rattle.std.proofs.lemmas.Option.{same_Some}
 use Rattle.async_packet.specs.Canon.{IsValid, canon}
 use Rattle.async_packet.specs.declared.packet.Header.{Header}
 use Rattle.async_packet.specs.Packet.{Packet, header_in, lock, lock_response, read_block, read_block_response, read_quadlet, read_quadlet_response, write_block, write_quadlet, write_response}
@@ -47,12 +49,6 @@ use Rattle.sbp_world.proofs.Lists.OpenCuts.{Listing, is_up}
 use Rattle.sbp_world.proofs.Lists.OpenedAddresses.{IsBase, demand_served, near_register}
 use Rattle.sbp_world.proofs.Lists.OpenedResets.{asks_for, near}
 
-no : false ≡ true → ⊥
-no e = cc
-
-access_same : (a b : Access) → Some a ≡ Some b → a ≡ b
-access_same a b e = cc
-
 and_false : (b : Bool) → (b && false) ≡ false
 and_false true = refl
 and_false false = refl
@@ -65,11 +61,11 @@ pub record IsReading (q : Packet) (at : ℕ) : Type 0 where
   pub offset_is : offset ≡ at
 
 reading_of : (q : Packet) (a : Access) → access_of q ≡ Some a → a.is_write ≡ false → a.is_block ≡ false → IsReading q a.offset
-reading_of (read_quadlet header offset) a e w b = record { header = header; offset = offset; is = refl; offset_is = ap (λ (x : Access). x.offset) (access_same _ a e) }
-reading_of (write_quadlet header offset value) a e w b = absurd (no (sym w ∙ sym (ap (λ (x : Access). x.is_write) (access_same _ a e))))
-reading_of (write_block header offset payload) a e w b = absurd (no (sym w ∙ sym (ap (λ (x : Access). x.is_write) (access_same _ a e))))
-reading_of (read_block header offset count) a e w b = absurd (no (sym b ∙ sym (ap (λ (x : Access). x.is_block) (access_same _ a e))))
-reading_of (lock header offset extended payload) a e w b = absurd (no (sym b ∙ sym (ap (λ (x : Access). x.is_block) (access_same _ a e))))
+reading_of (read_quadlet header offset) a e w b = record { header = header; offset = offset; is = refl; offset_is = ap (λ (x : Access). x.offset) (same_Some _ a e) }
+reading_of (write_quadlet header offset value) a e w b = absurd (false≢true (sym w ∙ sym (ap (λ (x : Access). x.is_write) (same_Some _ a e))))
+reading_of (write_block header offset payload) a e w b = absurd (false≢true (sym w ∙ sym (ap (λ (x : Access). x.is_write) (same_Some _ a e))))
+reading_of (read_block header offset count) a e w b = absurd (false≢true (sym b ∙ sym (ap (λ (x : Access). x.is_block) (same_Some _ a e))))
+reading_of (lock header offset extended payload) a e w b = absurd (false≢true (sym b ∙ sym (ap (λ (x : Access). x.is_block) (same_Some _ a e))))
 reading_of (write_response header rcode) a e w b = absurd (differ e)
   where
     differ : None ≡ Some a → ⊥
@@ -130,7 +126,7 @@ quad_is value small = ap (λ xs. big_number 4 xs) (sym (append_none (big_bytes 4
     append_none (x ∷ xs) = ap (λ ys. x ∷ ys) (append_none xs)
 
 state_not : (state : AgentState) → not (is_reset state) ≡ true → state_number state ≡ 0 → ⊥
-state_not states.Reset e f = no e
+state_not states.Reset e f = false≢true e
 state_not states.Active e f = absurd (omega (arith, f))
 state_not states.Suspended e f = absurd (omega (arith, f))
 state_not states.Dead e f = absurd (omega (arith, f))
@@ -208,5 +204,5 @@ module _ (node : NodeState) (id_small : node.layer.node < 2 ^ 16) (rom : length 
       let gives : Gives (read_quadlet x.header x.offset) rcode [] = subst (λ p. Gives p rcode []) x.is r.1.gives in
       one_answer q rcode [] out r.0 r.1 (λ e f. no_length (gives e)) (answers_in q rcode [] out m) z
   tells_not (of_response q label purpose) out k r m z =
-      let x = quadlet q r in no (ap (λ (p : Packet). is_some (reply_kind p)) (sym x.is) ∙ k.kind)
+      let x = quadlet q r in false≢true (ap (λ (p : Packet). is_some (reply_kind p)) (sym x.is) ∙ k.kind)
   tells_not (of_request q) out k r m z = by_bar q (is_barred all.node q) out r m z

@@ -1,5 +1,6 @@
 -- A turn of the target, by its moments: what it takes of the lists of an initiator, and what it answers.
 use Rattle.std.proofs.Common.{◌≡◌, ◌⊎◌, ◌∙◌, refl, ◌<◌, ℕ, suc, true, false, List, [], ◌∷◌, ◌++◌, map, Option, Some, None}
+use Rattle.std.proofs.lemmas.Bool.{false≢true}
 use Rattle.sbp_journal.specs.Run.{Moment, said}
 use Rattle.sbp_journal.specs.Transactions.{Sending, Transaction, begun_by}
 use Rattle.sbp_journal.specs.Wire.{Owed, Terms, begins, pays, puts, terms}
@@ -12,9 +13,6 @@ use Rattle.sbp_world.proofs.Lists.Generations.{is_sight}
 use Rattle.sbp_world.proofs.Lists.OpenedFirst.{generation_same, is_first, lists_same, operation_same}
 use Rattle.sbp_world.proofs.Lists.OpenedMoments.{of_target}
 use Rattle.sbp_world.proofs.Lists.OpenedTurns.{Grown, IsNews, Known, NoneUp, Opens, WasUp, turn_keeps}
-
-no : false ≡ true → ⊥
-no e = cc
 
 module _ (i : ℕ) (H : List Moment) (w v : WorldState) (m : Moment) (first : is_first m ≡ true) (still : is_sight (suc i) m ≡ false) (more : List Note) (all : AllOf of_target more) where
   abbrev now : List Moment
@@ -50,11 +48,11 @@ pays_quiet (Some owed) sent s packet t e f = absurd (differ e)
     differ g = cc
 
 note_quiet : (note : Note) (past : List Moment) → of_rest note ≡ true → (terms past).owes ≡ None → Quiet (terms past) (terms (said note ∷ past))
-note_quiet (notes.Begin initiators ready) past a e = absurd (no a)
-note_quiet (notes.Got serial) past a e = absurd (no a)
-note_quiet (notes.Ignored serial cause) past a e = absurd (no a)
-note_quiet (notes.TimedOut serial) past a e = absurd (no a)
-note_quiet (notes.Seen node generation) past a e = absurd (no a)
+note_quiet (notes.Begin initiators ready) past a e = absurd (false≢true a)
+note_quiet (notes.Got serial) past a e = absurd (false≢true a)
+note_quiet (notes.Ignored serial cause) past a e = absurd (false≢true a)
+note_quiet (notes.TimedOut serial) past a e = absurd (false≢true a)
+note_quiet (notes.Seen node generation) past a e = absurd (false≢true a)
 note_quiet (notes.Sent serial generation from to bytes) past a e =
     let t = terms past in
     let packet : Sending = record { generation = generation; from = from; to = to; bytes = bytes; injected = t.injected serial } in

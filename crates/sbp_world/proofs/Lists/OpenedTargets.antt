@@ -2,6 +2,7 @@
 use Rattle.std.proofs.Common.{arith, ◌≡◌, ◌⊎◌, inl, ◌∙◌, refl, sym, ap, subst, ◌<◌, ℕ, suc, nat_eq, nat_lt, Bool, true, false, cond, List, ◌∷◌, ◌++◌, map, length, Option, Some, None, Result, Ok, Err}
 use Rattle.std.proofs.lemmas.Bool.Decides.{nat_tests}
 use Rattle.std.proofs.Math.ListN.{get_or-map}
+use Rattle.std.proofs.lemmas.Bool.{false≢true}
 use Rattle.label_table.specs.declared.reply.Stale.{Stale}
 use Rattle.label_table.specs.Layer.{Layer, expiring_step, seeing_step, seen_in_generation}
 use Rattle.login_table.specs.declared.login.Login.{Login}
@@ -65,9 +66,6 @@ use Rattle.sbp_world.proofs.Lists.OpenedSends.{Tells, written}
 use Rattle.sbp_world.proofs.Lists.OpenedTarget.{none_answered, target_turn}
 use Rattle.sbp_world.proofs.Lists.OpenedTurns.{IsNews, IsTelling, NoneUp, Opens, WasUp}
 use Rattle.sbp_world.proofs.Lists.OpenedWorlds.{Here, Then, alike_up, grown_turn, turn_is, wired}
-
-no : false ≡ true → ⊥
-no e = cc
 
 -- ---- the first moment of a turn of the target
 -- at which no packet comes
@@ -164,7 +162,7 @@ module _ (units logins : ℕ) (has : 0 < units) (start : List Disk) {past : List
   -- the management has nothing to send then
   no_block : (u : WorldState) (outbox : OutboxState) (others : AreOthers outbox.sides) (note : Note) (first : u.fresh ≡ note ∷ w.fresh) → ((s : ℕ) → managed_for start (said note ∷ H) s ≡ managed_for start H s) → (target_at start (said note ∷ H)).manager_asks ≡ asks.Nothing → Tells start (hist past (handed_out 0 0 outbox u)) i → (r : IsToldDone (view (hist past (handed_out 0 0 outbox u)) i) i) → (view H i).count < r.serial → ⊥
   no_block u outbox others note first old_for quiet k r l =
-      no (sym (written start past w u outbox others note first (laws_of past w h.sound.stands).serials old_for i k r l).asked ∙ ap (λ a. is_nothing a) quiet)
+      false≢true (sym (written start past w u outbox others note first (laws_of past w h.sound.stands).serials old_for i k r l).asked ∙ ap (λ a. is_nothing a) quiet)
 
   -- a time-out
   module _ (line serial : ℕ) (request : Request) (zero_node : request.node ≡ 0) where
@@ -236,7 +234,7 @@ module _ (units logins : ℕ) (has : 0 < units) (start : List Disk) {past : List
       where
         by : (x : Option Login) → held_login x ≡ Some login → ⊥
         by None f = absurd (let z : None ≡ Some login = f in cc)
-        by (Some old) f = no (ap live_of f ∙ l)
+        by (Some old) f = false≢true (ap live_of f ∙ l)
           where
             live_of : Option Login → Bool
             live_of None = true
@@ -245,7 +243,7 @@ module _ (units logins : ℕ) (has : 0 < units) (start : List Disk) {past : List
     -- each login that it has behind a later one is held
     held_all_dead : (r : Bool × Layer Purpose) (s : TargetScene) (p : ℕ) (login : Login) → r.0 ≡ true → login_at (reset_by r s).1.node p ≡ Some login → is_live login ≡ true → ⊥
     held_all_dead (true, layer) s p login e f l = dead (cut_all cuts.Reset None (scene (cleared_node layer s.node) s.outbox)).node.logins.places p login f l
-    held_all_dead (false, layer) s p login e f l = no e
+    held_all_dead (false, layer) s p login e f l = false≢true e
 
     sees_dead : (generation id : ℕ) (s : TargetScene) (p : ℕ) (login : Login) → s.node.layer.generation < generation → login_at (seen generation id s).1.node p ≡ Some login → is_live login ≡ true → ⊥
     unfolding seen

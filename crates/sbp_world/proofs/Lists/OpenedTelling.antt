@@ -2,6 +2,8 @@
 -- AGENT_STATE that says something of the present list.
 use Rattle.std.proofs.Common.{arith, ◌≡◌, ◌⊎◌, inl, inr, ◌∙◌, refl, sym, ap, subst, ◌<◌, ◌≤◌, ◌+◌, ◌%◌, ◌^◌, ℕ, suc, nat_eq, Bool, true, false, cond, List, [], ◌∷◌, ◌++◌, map, Option, Some, None}
 use Rattle.std.proofs.lemmas.Bool.Decides.{nat_tests}
+use Rattle.std.proofs.lemmas.Bool.{false≢true}
+use Rattle.std.proofs.lemmas.Option.{same_Some}
 use Rattle.async_packet.specs.Packet.{Packet}
 use Rattle.bus_transactions.specs.Wire.{as_sending}
 use Rattle.bus_transactions.proofs.FitJudged.{found_as}
@@ -59,12 +61,6 @@ use Rattle.sbp_world.proofs.Lists.OpenedTurns.{Grown, IsTelling, NoneUp, Opens, 
 use Rattle.sbp_world.proofs.Lists.OpenedWorlds.{Here, Then, grown_turn, turn_is, wired}
 use Rattle.sbp_laws.specs.Actions.{cuts_list, running_operation}
 
-no : false ≡ true → ⊥
-no e = cc
-
-some_same : {A : Type 0} (x y : A) → Some x ≡ Some y → x ≡ y
-some_same x y e = cc
-
 -- ---- what is ignored, but for the cause slot, is not served
 abbrev NotSlot : Judged → Type 0
 NotSlot judgements.Got = Unit {0}
@@ -112,11 +108,11 @@ found_not run bytes (of_response p label purpose) all = tt
 found_not run bytes (of_again p rcode) all = tt
 found_not run bytes (of_request p) all = barred_not (is_barred all.node p) p bytes all
 
-judged_first : (serial : ℕ) (j : Judged) → is_first (said (judged_note serial j)) ≡ true
+pub judged_first : (serial : ℕ) (j : Judged) → is_first (said (judged_note serial j)) ≡ true
 judged_first serial judgements.Got = refl
 judged_first serial (judgements.Ignored cause) = refl
 
-judged_still : (serial node : ℕ) (j : Judged) → is_sight node (said (judged_note serial j)) ≡ false
+pub judged_still : (serial node : ℕ) (j : Judged) → is_sight node (said (judged_note serial j)) ≡ false
 judged_still serial node judgements.Got = refl
 judged_still serial node (judgements.Ignored cause) = refl
 
@@ -214,7 +210,7 @@ module _ (units logins : ℕ) (has : 0 < units) (start : List Disk) {past : List
     resets_by p c up (inr new) =
         let f = here.known.first new.serial new.packet p new.address new.sent new.at in
         let q = here.known.waits f.list new.serial new.packet f.pointed new.sent (new.current ∙ same_nodes r.same) new.fresh in
-        no (sym q.uncut ∙ cut)
+        false≢true (sym q.uncut ∙ cut)
 
     resets_none : NoneUp D i
     resets_none p c up = resets_by p c up (ups p c up)
@@ -264,7 +260,7 @@ module _ (units logins : ℕ) (has : 0 < units) (start : List Disk) {past : List
     states_by p c (inr new) =
         let f = here.known.first new.serial new.packet p new.address new.sent new.at in
         let q = here.known.waits f.list new.serial new.packet f.pointed new.sent (new.current ∙ same_nodes r.same) new.fresh in
-        let e : f.list ≡ n = some_same f.list n (sym q.present ∙ present_is) in
+        let e : f.list ≡ n = same_Some f.list n (sym q.present ∙ present_is) in
         let j = here.known.judged serial n new.serial list_is (f.pointed ∙ ap Some e) in
         let y = new.fresh in
         omega (arith, j, y)

@@ -1,6 +1,8 @@
 -- A turn of the target keeps it, for which list an agent is out of RESET, where what the target tells in it leaves no agent so.
 use Rattle.std.proofs.Common.{arith, ◌≡◌, ◌⊎◌, inl, inr, ◌∙◌, refl, sym, ap, subst, ◌<◌, ◌≤◌, ℕ, suc, nat_lt, Bool, true, false, Option, Some}
 use Rattle.std.proofs.lemmas.Bool.Decides.{nat_tests}
+use Rattle.std.proofs.lemmas.Bool.{false≢true}
+use Rattle.std.proofs.lemmas.Option.{same_Some}
 use Rattle.sbp_journal.specs.Transactions.{Sending}
 use Rattle.sbp_laws.specs.Actions.{cuts_list, running_operation}
 use Rattle.bus_memory.specs.declared.window.Window.TheVariants as windows
@@ -13,12 +15,6 @@ use Rattle.sbp_world.specs.Worlds.{WorldState}
 use Rattle.sbp_world.specs.Lists.Opened.{AreOpenFor, as_got, IsDoneBlock, IsOpenFor, IsServedReset, IsToldDone, IsToldReset, IsUp, View}
 use Rattle.sbp_world.specs.Lists.Opens.{IsPointedBy}
 use Rattle.sbp_world.proofs.Lists.OpenedHosts.{IsSame}
-
-no : false ≡ true → ⊥
-no e = cc
-
-some_same : {A : Type 0} (x y : A) → Some x ≡ Some y → x ≡ y
-some_same x y e = cc
 
 abbrev pub NoneUp : WorldState → ℕ → Type 0
 NoneUp w i = (place : ℕ) → place < 8 → IsUp w i place → ⊥
@@ -155,7 +151,7 @@ module _ (x y : View) (w v : WorldState) (i : ℕ) (grown : Grown x y) (k : Know
 
   -- an operation that ends lists is under way, and so no write waits
   cut_not : (place : ℕ) (b : place < 8) (u : IsUp v i place) (n : Opens x y i place (holder v place).list) → y.target ≡ y.own → cuts_list (running_operation x.operation) ≡ true → ⊥
-  cut_not place b u n same cut = no (sym (waited place b u n (sym (still place b u) ∙ same ∙ t.own)).uncut ∙ cut)
+  cut_not place b u n same cut = false≢true (sym (waited place b u n (sym (still place b u) ∙ same ∙ t.own)).uncut ∙ cut)
 
   is_cutting : (was : Underway) (operation : Operation) → x.operation ≡ Some was → was.operation ≡ operation → cuts_list (Some operation) ≡ true → cuts_list (running_operation x.operation) ≡ true
   is_cutting was operation e f c = ap (λ (q : Option Underway). cuts_list (running_operation q)) e ∙ (ap (λ (q : Operation). cuts_list (Some q)) f ∙ c)
@@ -222,7 +218,7 @@ module _ (x y : View) (w v : WorldState) (i : ℕ) (grown : Grown x y) (k : Know
         old (inr new) l =
             let f = for_list place b u new in
             let q = waited place b u new (sym (still place b u) ∙ r.same ∙ t.own) in
-            let same : f.list ≡ n = some_same f.list n (sym q.present ∙ (sym t.present ∙ is)) in
+            let same : f.list ≡ n = same_Some f.list n (sym q.present ∙ (sym t.present ∙ is)) in
             let j = k.judged r.serial n new.serial (list_before l) (f.pointed ∙ ap Some same) in
             let z = new.fresh in
             omega (arith, j, z)

@@ -1,6 +1,7 @@
 -- Each turn of a world keeps it, for which list an agent is out of RESET.
 use Rattle.std.proofs.Common.{arith, ◌≡◌, ◌∙◌, refl, sym, ap, subst, ◌<◌, ◌≤◌, not, ℕ, suc, nat_lt, Bool, true, false, List, [], ◌∷◌, ◌++◌, length, map, Option, Some, None}
 use Rattle.std.proofs.lemmas.Bool.Decides.{nat_tests}
+use Rattle.std.proofs.lemmas.Bool.{false≢true}
 use Rattle.bus_transactions.specs.Packets.{SerialsCount}
 use Rattle.bus_transactions.specs.Wire.{Due, Node}
 use Rattle.bus_transactions.proofs.Stands.{DueIs, On}
@@ -39,9 +40,7 @@ use Rattle.sbp_world.proofs.Lists.OpenedNever.{ResetsWrite}
 use Rattle.sbp_world.proofs.Lists.OpenedNotes.{split}
 use Rattle.sbp_world.proofs.Lists.OpenedTurns.{Grown, Known, NoneUp, WasUp}
 use Rattle.sbp_world.proofs.Lists.Rises.{Rises}
-
-no : false ≡ true → ⊥
-no e = cc
+use Rattle.sbp_world.proofs.Common.{moment_joined}
 
 -- ---- what is known between two turns, of an initiator
 pub record Here (H : List Moment) (w : WorldState) (i : ℕ) : Type 0 where
@@ -106,13 +105,9 @@ wired {past} w h =
 pub turn_is : (more : List Note) (note : Note) (old new : List Note) (past : List Moment) → more ++ note ∷ old ≡ new → map said more ++ said note ∷ (map said old ++ past) ≡ map said new ++ past
 turn_is more note old new past e = sym (split more (note ∷ old) past) ∙ ap (λ ns. map said ns ++ past) e
 
-joined : (a : List Moment) (m : Moment) (H : List Moment) → (a ++ m ∷ []) ++ H ≡ a ++ m ∷ H
-joined [] m H = refl
-joined (x ∷ a) m H = ap (λ ms. x ∷ ms) (joined a m H)
-
 pub grown_turn : (i : ℕ) (more : List Note) (m : Moment) (H : List Moment) → Wired H → SerialsCount (map said more ++ m ∷ H) → Rises (map said more ++ m ∷ H) → Grown (view H i) (view (map said more ++ m ∷ H) i)
 grown_turn i more m H k serials rises =
-    let e = joined (map said more) m H in
+    let e = moment_joined (map said more) m H in
     subst (λ ms. Grown (view H i) (view ms i)) e (grown i (map said more ++ m ∷ []) H (subst SerialsCount (sym e) serials) (subst Rises (sym e) rises) k.unserved k.answered)
 
 -- ---- where the target and who has its places stay

@@ -6,7 +6,7 @@ use Rattle.bus_memory.specs.declared.window.Window.TheVariants as windows
 use Rattle.bus_memory.specs.Windows.{window_at, within}
 use Rattle.bus_transactions.specs.Packets.{SerialsCount}
 use Rattle.orb_layout.specs.declared.management.ManagementOrb.{ManagementOrb}
-use Rattle.orb_layout.specs.ManagementOrbs.{management_bytes, management_orb}
+use Rattle.orb_layout.specs.ManagementOrbs.{management_orb}
 use Rattle.orb_layout.specs.Replies.{Answer, Done, Expired, NoLabel, Payload, Refused}
 use Rattle.sbp_journal.specs.Run.{Moment, asked, said}
 use Rattle.sbp_journal.specs.Transactions.{Part, Sending, no_packet, part_of, request, response}
@@ -33,6 +33,7 @@ use Rattle.sbp_world.proofs.Hosts.SentMoments.{WasSent, count_now, sent_moment, 
 use Rattle.sbp_world.specs.Lists.KeptOrbs.{orb_in_place}
 use Rattle.sbp_world.specs.Lists.Underway.{OperationsLast, underway_orb}
 use Rattle.sbp_world.proofs.Lists.ManageTerms.{none_is}
+use Rattle.sbp_world.proofs.Lists.OwnPlaces.{fifo_back}
 
 -- ---- no fewer login numbers are used as an operation goes on
 abbrev Grows : Host → Host → Type 0
@@ -230,10 +231,6 @@ module _ (past : List Moment) (i : ℕ) (counts : SerialsCount past) (lasts : Op
 
     abbrev bounds : (0x12002000 ≤ orb.fifo) × (orb.fifo < 2 ^ 48)
     bounds = fifo_of underway.action (before_sent past underway.first) i (host_at (before_sent past underway.first) i) underway.place few_before (lasts.each [] past refl underway has).small
-
-    -- as it is read
-    fifo_back : (o : ManagementOrb) → o.fifo < 2 ^ 48 → (management_orb (management_bytes o)).fifo ≡ o.fifo
-    fifo_back o small = omega arith
 
     pub fifo_is : (orb_in_place past i underway.place).fifo ≡ orb.fifo
     fifo_is = ap (λ held. (management_orb (place_bytes held)).fifo) ((lasts.each [] past refl underway has).held manages) ∙ fifo_back orb bounds.1

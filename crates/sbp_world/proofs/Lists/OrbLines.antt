@@ -23,7 +23,7 @@ use Rattle.sbp_world.proofs.Lists.OrbReading.{brought_more, reads_more}
 use Rattle.sbp_world.proofs.Lists.OrbWaits.{has_same, over_twice}
 
 -- what a packet answers
-as_same : (t : Terms) (r : Bool) (part : Part) (sending : Sending) → answered_as part (record t { repeats = r }) sending ≡ answered_as part t sending
+pub as_same : (t : Terms) (r : Bool) (part : Part) (sending : Sending) → answered_as part (record t { repeats = r }) sending ≡ answered_as part t sending
 as_same t r (request label kind) sending = refl
 as_same t r (response label kind) sending = refl
 as_same t r no_packet sending = refl

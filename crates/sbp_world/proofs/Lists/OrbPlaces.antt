@@ -1,5 +1,6 @@
 -- At a place of a run the agent of the target has an ORB that a response brought; and so has it what a packet brings to it that it gets.
 use Rattle.std.proofs.Common.{◌≡◌, ◌∙◌, sym, ap, subst, ◌<◌, ◌==◌, ℕ, suc, Bool, true, false, List, ◌∷◌, Some}
+use Rattle.std.proofs.lemmas.Option.{same_Some}
 use Rattle.async_packet.specs.Labels.{LabelParts}
 use Rattle.async_packet.specs.Packet.{Packet, header_in}
 use Rattle.command_agent.specs.declared.step.Which.{Which}
@@ -51,9 +52,6 @@ module _ (R : ℕ → ℕ → CommandOrb → Type 0) (u : Bool) (a m : Machine) 
     ahead = λ w f offset n bytes e. b.ahead w (alike.flag ∙ f) offset (ap (λ (o : CommandOrb). o.next) (alike.orb open_there) ∙ n) bytes (ap (λ x. payload_of x 32) same ∙ e);
   }
 
-same_node : (i j : ℕ) → Some i ≡ Some j → i ≡ j
-same_node i j e = cc
-
 -- ---- what is known at a place
 pub record HasReads (start : List Disk) (past : List Moment) (w : WorldState) : Type 0 where
   pub agents : (place : ℕ) → place < 8 → is_open_at w place ≡ true → Reads (IsBrought start (hist past w) place) (machine_at w place)
@@ -81,7 +79,7 @@ module _ (units ready : ℕ) (has : 0 < units) (start : List Disk) {past : List 
 
     pub calm_from : t.injects sent.from ≡ false
     calm_from =
-        let from_is : sent.from ≡ suc (initiator_in w place) = same_node sent.from (suc (initiator_in w place)) (sym (request_to units ready has start w h s.agents.requests s.agents.are s.agents.known s.asked serial sent found zero_to packet label place e) ∙ asked.to) in
+        let from_is : sent.from ≡ suc (initiator_in w place) = same_Some sent.from (suc (initiator_in w place)) (sym (request_to units ready has start w h s.agents.requests s.agents.are s.agents.known s.asked serial sent found zero_to packet label place e) ∙ asked.to) in
         ap t.injects from_is ∙ calm
 
     pub closes : answered_at t serial ≡ Some request

@@ -33,12 +33,10 @@ use Rattle.rbc_disk.specs.declared.command.Outcome.{Outcome}
 use Rattle.rbc_disk.specs.declared.command.Outcome.TheVariants as outcomes
 use Rattle.rbc_disk.specs.Runs.{Told, need_of}
 use Rattle.rbc_disk.specs.Units.{PlainDisk}
+use Rattle.sbp_world.proofs.Common.{untrue}
 
-no : {A : Type 0} → false ≡ true → A
-no e = absurd (let x : false ≡ true = e in cc)
-
-yes : {A : Type 0} → true ≡ false → A
-yes e = no (sym e)
+pub yes : {A : Type 0} → true ≡ false → A
+yes e = untrue (sym e)
 
 -- ---- what is known of an agent
 
@@ -106,33 +104,33 @@ module _ (Read : ℕ → CommandOrb → Type 0) where
   stands : (step : AgentStep) (m : Machine) → step.ran ≡ None → step.ended ≡ None → Reads m → Stepped (step, m)
   stands step m e f r = record {
     reads = r;
-    ran = λ x. no (ap is_some (sym e) ∙ x);
-    ended = λ x. no (ap ends_read (sym f) ∙ x);
+    ran = λ x. untrue (ap is_some (sym e) ∙ x);
+    ended = λ x. untrue (ap ends_read (sym f) ∙ x);
   }
 
   -- ---- an ORB ends
 
   ends : (m : Machine) (kind : StatusKind) (dead : Option FailCause) → Read m.present m.orb → ReadAheadOf m.orb.next m.ahead → Alive (end_step m kind dead)
   ends m kind None r a = record {
-    stepped = record { reads = record { main = λ e. no e; ahead = a; idle = λ e. yes e }; ran = λ e. no e; ended = λ e. r };
+    stepped = record { reads = record { main = λ e. untrue e; ahead = a; idle = λ e. yes e }; ran = λ e. untrue e; ended = λ e. r };
     alive = λ e. refl;
   }
   ends m kind (Some cause) r a = record {
-    stepped = record { reads = record { main = λ e. no e; ahead = tt; idle = λ e. refl }; ran = λ e. no e; ended = λ e. r };
+    stepped = record { reads = record { main = λ e. untrue e; ahead = tt; idle = λ e. refl }; ran = λ e. untrue e; ended = λ e. r };
     alive = λ e. absurd (let x : Some cause ≡ None = e in cc);
   }
 
   fails : (m : Machine) (cause : FailCause) → Stepped (fail_step m cause)
-  fails m cause = record { reads = record { main = λ e. no e; ahead = tt; idle = λ e. refl }; ran = λ e. no e; ended = λ e. no e }
+  fails m cause = record { reads = record { main = λ e. untrue e; ahead = tt; idle = λ e. refl }; ran = λ e. untrue e; ended = λ e. untrue e }
 
   dies : (m : Machine) (cause : FailCause) → Stepped (dead_step m cause)
-  dies m cause = record { reads = record { main = λ e. no e; ahead = tt; idle = λ e. refl }; ran = λ e. no e; ended = λ e. no e }
+  dies m cause = record { reads = record { main = λ e. untrue e; ahead = tt; idle = λ e. refl }; ran = λ e. untrue e; ended = λ e. untrue e }
 
   fetches : (m : Machine) (next : ℕ) → Stepped (fetch_step m next)
-  fetches m next = record { reads = record { main = λ e. no e; ahead = tt; idle = λ e. refl }; ran = λ e. no e; ended = λ e. no e }
+  fetches m next = record { reads = record { main = λ e. untrue e; ahead = tt; idle = λ e. refl }; ran = λ e. untrue e; ended = λ e. untrue e }
 
   rereads : (m : Machine) → m.ahead ≡ aheads.Idle → Stepped (reread_step m)
-  rereads m e = record { reads = record { main = λ x. no x; ahead = idle_ahead m.orb.next m.ahead e; idle = λ x. e }; ran = λ x. no x; ended = λ x. no x }
+  rereads m e = record { reads = record { main = λ x. untrue x; ahead = idle_ahead m.orb.next m.ahead e; idle = λ x. e }; ran = λ x. untrue x; ended = λ x. untrue x }
 
   pick : (b : Bool) (x y : AgentStep × Machine) → Stepped x → Stepped y → Stepped (cond b x y)
   pick true x y h k = h
@@ -146,13 +144,13 @@ module _ (Read : ℕ → CommandOrb → Type 0) where
 
   fills : (m : Machine) (wanted : ℕ) → Read m.present m.orb → ReadAheadOf m.orb.next m.ahead → Alive (data_step m wanted)
   fills m wanted r a = record {
-    stepped = record { reads = record { main = λ e. r; ahead = a; idle = λ e. yes e }; ran = λ e. no e; ended = λ e. no e };
+    stepped = record { reads = record { main = λ e. r; ahead = a; idle = λ e. yes e }; ran = λ e. untrue e; ended = λ e. untrue e };
     alive = λ e. refl;
   }
 
   answers : (m : Machine) → Read m.present m.orb → ReadAheadOf m.orb.next m.ahead → Alive (answer_step m)
   answers m r a = record {
-    stepped = record { reads = record { main = λ e. r; ahead = a; idle = λ e. yes e }; ran = λ e. no e; ended = λ e. no e };
+    stepped = record { reads = record { main = λ e. r; ahead = a; idle = λ e. yes e }; ran = λ e. untrue e; ended = λ e. untrue e };
     alive = λ e. refl;
   }
 
@@ -240,7 +238,7 @@ module _ (Read : ℕ → CommandOrb → Type 0) where
 
   turns : (m : Machine) (next : ℕ) (ahead : ReadAhead) → m.orb.next ≡ At next → ReadAheadOf m.orb.next ahead → Moved (turn_step m next ahead)
   turns m next aheads.Idle e h = fetches m next
-  turns m next (aheads.UnderWay rung) e h = record { reads = record { main = λ x. no x; ahead = tt; idle = λ x. refl }; ran = λ x. no x; ended = λ x. no x }
+  turns m next (aheads.UnderWay rung) e h = record { reads = record { main = λ x. untrue x; ahead = tt; idle = λ x. refl }; ran = λ x. untrue x; ended = λ x. untrue x }
   turns m next (aheads.Kept orb) e h =
       let same : h.offset ≡ next = (let x : At h.offset ≡ At next = sym h.is ∙ e in cc) in
       record { read = subst (λ n. Read (aligned n) orb) same h.read; ahead = tt }
@@ -248,7 +246,7 @@ module _ (Read : ℕ → CommandOrb → Type 0) where
   waits : (m : Machine) → m.ahead ≡ aheads.Idle → Stepped (wait_step m)
   waits m e =
       pick m.doorbell (reread_step m) (quiet, record m { phase = phases.Suspended }) (rereads m e)
-      (record { reads = record { main = λ x. no x; ahead = idle_ahead m.orb.next m.ahead e; idle = λ x. e }; ran = λ x. no x; ended = λ x. no x })
+      (record { reads = record { main = λ x. untrue x; ahead = idle_ahead m.orb.next m.ahead e; idle = λ x. e }; ran = λ x. untrue x; ended = λ x. untrue x })
 
   goes_on : (m : Machine) (next : OrbPointer) → m.orb.next ≡ next → ReadAheadOf m.orb.next m.ahead → Moved (follow_step m next)
   goes_on m (At next) e h = turns m next m.ahead e h
@@ -300,7 +298,7 @@ module _ (Read : ℕ → CommandOrb → Type 0) where
   chunk_goes m None r a = grows (record m { written = m.written + answer_chunk m }) r a
 
   quiet_step : (m : Machine) (phase : Phase) → holds_read phase ≡ false → ReadAheadOf m.orb.next m.ahead → m.ahead ≡ aheads.Idle → Stepped (quiet, record m { phase = phase })
-  quiet_step m phase e a f = stands quiet (record m { phase = phase }) refl refl (record { main = λ x. no (sym e ∙ x); ahead = a; idle = λ x. f })
+  quiet_step m phase e a f = stands quiet (record m { phase = phase }) refl refl (record { main = λ x. untrue (sym e ∙ x); ahead = a; idle = λ x. f })
 
   -- what comes of a reply to the main transaction, where an ORB that is read was brought
   goes : (phase : Phase) (m : Machine) (answer : Answer) → Reads (record m { phase = phase }) → (phase ≡ phases.Fetching → (bytes : List ℕ) → payload_of answer 32 ≡ Ok bytes → Read m.present (command_orb bytes)) → Moved (advanced phase (record m { phase = phase }) answer)
@@ -318,15 +316,15 @@ module _ (Read : ℕ → CommandOrb → Type 0) where
   -- ---- the read ahead
 
   forgets : (m : Machine) (cause : FailCause) → Reads m → Stepped (ahead_lost m cause)
-  forgets m cause h = record { reads = record { main = h.main; ahead = tt; idle = λ x. refl }; ran = λ x. no x; ended = λ x. no x }
+  forgets m cause h = record { reads = record { main = h.main; ahead = tt; idle = λ x. refl }; ran = λ x. untrue x; ended = λ x. untrue x }
 
   keeps_ahead : (next : OrbPointer) (ahead : ReadAhead) → is_ahead ahead ≡ true → ReadAheadOf next ahead → Names next
-  keeps_ahead next aheads.Idle e h = no e
+  keeps_ahead next aheads.Idle e h = untrue e
   keeps_ahead next (aheads.UnderWay rung) e h = h
-  keeps_ahead next (aheads.Kept orb) e h = no e
+  keeps_ahead next (aheads.Kept orb) e h = untrue e
 
   not_idle : (ahead : ReadAhead) → is_ahead ahead ≡ true → ahead ≡ aheads.Idle → ⊥
-  not_idle ahead e f = no (sym (ap is_ahead f) ∙ e)
+  not_idle ahead e f = untrue (sym (ap is_ahead f) ∙ e)
 
   ahead_goes : (m : Machine) (r : Result (List ℕ) FailCause) → is_ahead m.ahead ≡ true → Reads m → ((offset : ℕ) → m.orb.next ≡ At offset → (bytes : List ℕ) → r ≡ Ok bytes → Read (aligned offset) (command_orb bytes)) → Stepped (ahead_read m r)
   ahead_goes m (Err cause) e h brings = forgets m cause h
@@ -338,8 +336,8 @@ module _ (Read : ℕ → CommandOrb → Type 0) where
           ahead = record { offset = n.offset; is = n.is; read = brings n.offset n.is bytes refl };
           idle = λ x. absurd (not_idle m.ahead e (h.idle x));
         };
-        ran = λ x. no x;
-        ended = λ x. no x;
+        ran = λ x. untrue x;
+        ended = λ x. untrue x;
       }
 
   -- ---- each step
@@ -381,7 +379,7 @@ module _ (Read : ℕ → CommandOrb → Type 0) where
 
   pub reset_reads : (m : Machine) → Reads (reset_step m)
   unfolding reset_step
-  reset_reads m = record { main = λ x. no x; ahead = tt; idle = λ x. refl }
+  reset_reads m = record { main = λ x. untrue x; ahead = tt; idle = λ x. refl }
 
   pub abort_reads : (m : Machine) (orb : ℕ) → Reads m → Reads (abort_step m orb)
   unfolding abort_step
@@ -420,4 +418,4 @@ module _ (Read : ℕ → CommandOrb → Type 0) where
   bell_reads m h = bell_in m.phase m h
 
   pub new_reads : Reads new_machine
-  new_reads = record { main = λ x. no x; ahead = tt; idle = λ x. refl }
+  new_reads = record { main = λ x. untrue x; ahead = tt; idle = λ x. refl }

@@ -4,8 +4,6 @@ use Rattle.sbp_world.specs.Agents.AskedRuns.{AreAskedAt, HasAsked, WaitsForAsked
 use Rattle.sbp_world.proofs.Agents.AskedRuns.{asked_between_law, asked_run_law}
 use Rattle.sbp_world.proofs.Agents.Management.Still.{hist}
 use Rattle.command_agent.specs.declared.step.Which.{Which}
-use Rattle.command_agent.specs.declared.step.Which.TheVariants.{Ahead}
-use Rattle.command_agent.specs.Steps.{lost_step}
 use Rattle.sbp_world.specs.Hosts.Runs.{more_deliveries}
 use Rattle.orb_layout.specs.declared.ask.Ask.{Ask}
 use Rattle.orb_layout.specs.declared.ask.Ask.TheVariants.{Nothing, Read, Write}
@@ -36,6 +34,8 @@ use Rattle.sbp_world.proofs.Lists.OrbFolds.{AreReading}
 use Rattle.sbp_world.proofs.Lists.OrbReading.{reading}
 use Rattle.sbp_world.proofs.Lists.Quiet.{AllQuiet, Comes, IsQuiet, Quietly, acts, comes, delivery_comes, injects, keys, late, loses, nothing, one_comes, quiet_none, resets, sights, ticks}
 use Rattle.sbp_world.proofs.Lists.Turned.{IsOne}
+use Rattle.sbp_world.proofs.Common.{said_joined}
+use Rattle.sbp_world.proofs.Agents.Asides.{one_twice}
 
 -- ---- a turn that is over twice
 none_of : (ask : Ask) → is_nothing ask ≡ true → ask ≡ Nothing
@@ -50,12 +50,9 @@ ahead_none false a x e f = f
 over_none : (a : Agent) → is_nothing (agent_over a).asks_ahead ≡ true
 over_none a = ahead_none (is_nothing (main_lost a).asks_ahead) (main_lost a) _ refl refl
 
-agent_twice : (a : Agent) → agent_over (agent_over a) ≡ agent_over a
-agent_twice a = ap (λ (b : Bool). record (cond b (agent_over a) (record (agent_over a) { machine = (lost_step (agent_over a).machine Ahead causes.Label).1; asks_ahead = Nothing })) { asks = Nothing }) (over_none a)
-
 agents_twice : (agents : List Agent) → map agent_over (map agent_over agents) ≡ map agent_over agents
 agents_twice [] = refl
-agents_twice (a ∷ agents) = ap (λ x. x ∷ map agent_over (map agent_over agents)) (agent_twice a) ∙ ap (λ xs. agent_over a ∷ xs) (agents_twice agents)
+agents_twice (a ∷ agents) = ap (λ x. x ∷ map agent_over (map agent_over agents)) (one_twice a) ∙ ap (λ xs. agent_over a ∷ xs) (agents_twice agents)
 
 pub taken_none : (reply : Option Reply) (t : Target) → t.reply ≡ reply → (taken_on None reply t).reply ≡ None
 taken_none None t e = e
@@ -68,7 +65,7 @@ over_twice t =
     ∙ ap (λ xs. record (over t) { agents = xs }) (agents_twice (taken_on None t.reply t).agents)
 
 -- ---- as a line begins that delivers a packet
-waits_same : (t : Terms) (r : Bool) (x : Option Transaction) (serial : ℕ) → waits_for (record t { repeats = r }) x serial ≡ waits_for t x serial
+pub waits_same : (t : Terms) (r : Bool) (x : Option Transaction) (serial : ℕ) → waits_for (record t { repeats = r }) x serial ≡ waits_for t x serial
 waits_same t r None serial = refl
 waits_same t r (Some u) serial = refl
 
@@ -124,12 +121,8 @@ module _ (start : List Disk) where
   each_quiet [] past q e = e
   each_quiet (note ∷ more) past q e = (quiet_asks note (map said more ++ past) q.0, each_quiet more past q.1 e)
 
-  split : (a b : List Note) (past : List Moment) → map said a ++ (map said b ++ past) ≡ map said (a ++ b) ++ past
-  split [] b past = refl
-  split (n ∷ a) b past = ap (λ ms. said n ∷ ms) (split a b past)
-
   quietly : (old new : List Note) (past : List Moment) → Quietly old new → E (map said old ++ past) → E (map said new ++ past)
-  quietly old new past q e = subst E (split q.more old past ∙ ap (λ ns. map said ns ++ past) q.is) (each_quiet q.more (map said old ++ past) q.quiet e)
+  quietly old new past q e = subst E (said_joined q.more old past ∙ ap (λ ns. map said ns ++ past) q.is) (each_quiet q.more (map said old ++ past) q.quiet e)
 
   got_asks : (note : Note) (past : List Moment) → AreAskedAt start past → AskedAsGot start (said note) past
   got_asks (notes.Got serial) past a = a

@@ -15,7 +15,7 @@ use Rattle.orb_layout.specs.declared.ask.FailCause.TheVariants as causes
 use Rattle.orb_layout.specs.declared.management.ManagementOrb.{ManagementOrb}
 use Rattle.orb_layout.specs.ManagementOrbs.{management_orb}
 use Rattle.orb_layout.specs.Pointers.{offset_at}
-use Rattle.orb_layout.specs.Replies.{Answer, Done, Expired, NoLabel, Payload, Refused, payload_of, write_failure}
+use Rattle.orb_layout.specs.Replies.{Answer, Expired, Refused, payload_of, write_failure}
 use Rattle.sbp_base.specs.Quadlets.{quad}
 use Rattle.sbp_journal.specs.Addresses.{Access, Start, management_agent, no_start, register, rom_start, start_at, start_serves}
 use Rattle.sbp_journal.specs.declared.event.Event.{Event}
@@ -34,21 +34,12 @@ use Rattle.sbp_world.specs.Agents.Management.Offices.{Office, at_rest, by_manage
 use Rattle.sbp_world.proofs.Agents.Management.Firsts.{other_reply, own_reply, request_keeps, served_office, start_office, wire_is}
 use Rattle.sbp_world.proofs.Agents.Management.Offices.{IsBehind, note_changes, over_keeps, taken_keeps}
 use Rattle.sbp_world.specs.Lists.CarriedOrbs.{CarriedOrbsLaw, HasIn, HasOrb, IsOn, last_read, read_by, read_for, read_if, read_in}
+use Rattle.sbp_world.proofs.Sessions.Decisions.{bytes_are}
 
 abbrev Has : ManagementOrb → Office → Type 0
 Has orb o = HasOrb o.manager.operation o.decided orb
 
 -- ---- a reply
-payload_is : (answer : Answer) (size : ℕ) (bytes : List ℕ) → payload_of answer size ≡ Ok bytes → bytes_in answer ≡ bytes
-payload_is (Payload xs) size bytes e = by (length xs == size) e
-  where
-    by : (b : Bool) → cond {A = Result (List ℕ) FailCause} b (Ok xs) (Err causes.Grammar) ≡ Ok bytes → xs ≡ bytes
-    by true f = cc
-    by false f = absurd (let differ : Err causes.Grammar ≡ Ok bytes = f in cc)
-payload_is Done size bytes e = absurd (let differ : Err causes.Grammar ≡ Ok bytes = e in cc)
-payload_is (Refused rcode) size bytes e = absurd (let differ : Err causes.Refused ≡ Ok bytes = e in cc)
-payload_is Expired size bytes e = absurd (let differ : Err causes.Timeout ≡ Ok bytes = e in cc)
-payload_is NoLabel size bytes e = absurd (let differ : Err causes.Label ≡ Ok bytes = e in cc)
 
 module _ (m : Machine) (t : Table) (keys : List (List ℕ)) (answer : Answer) (own : Operation) (had : Option Decided) (brought : Option Decided) where
   abbrev Left : ManagementOrb → ManagerStep × (Machine × Table) → Type 0
@@ -73,7 +64,7 @@ module _ (m : Machine) (t : Table) (keys : List (List ℕ)) (answer : Answer) (o
   orb_left : (got : Result (List ℕ) FailCause) → payload_of answer 32 ≡ got → brought ≡ decided_in phases.Orb own.source answer → Left (management_orb (bytes_in answer)) (orb_got got m own t keys)
   orb_left (Err cause) e b = tt
   orb_left (Ok bytes) e b =
-      let same : bytes_in answer ≡ bytes = payload_is answer 32 bytes e in
+      let same : bytes_in answer ≡ bytes = bytes_are answer 32 bytes e in
       let orb = management_orb bytes in
       subst (λ xs. Left (management_orb xs) (orb_got (Ok bytes) m own t keys)) (sym same)
       (pick_left orb (reads_eui orb) (beside t (eui_step m own (phases.HighEui orb) high_eui_at)) (decide_step m own orb 0 t keys) refl

@@ -2,6 +2,7 @@
 -- operation, and tells the laws what it tells the target.
 use Rattle.std.proofs.Common.{arith, ◌≡◌, ◌∙◌, refl, sym, ap, subst, ◌<◌, ◌==◌, ◌&&◌, ℕ, suc, nat_eq, not, Bool, true, false, cond, is_some, List, ◌∷◌, Option, Some, None}
 use Rattle.std.proofs.lemmas.Bool.Decides.{nat_tests}
+use Rattle.std.proofs.lemmas.Option.{same_Some}
 use Rattle.async_packet.specs.Labels.{LabelParts}
 use Rattle.async_packet.specs.Fields.{rcode_of}
 use Rattle.async_packet.specs.Packet.{Packet, header_in, lock, lock_response, read_block, read_block_response, read_quadlet, read_quadlet_response, write_block, write_quadlet, write_response}
@@ -61,16 +62,7 @@ use Rattle.sbp_world.specs.Lists.CarriedOrbs.{last_read, read_by, read_for, read
 use Rattle.sbp_world.specs.Lists.Needs.{IsCalm}
 use Rattle.sbp_world.specs.Lists.ReadOrbs.{IsAnswered}
 use Rattle.sbp_world.proofs.Lists.Heard.{Owned, Spells, awaited_to, same_kind, spells, stored_by}
-
-same_node : (i j : ℕ) → Some i ≡ Some j → i ≡ j
-same_node i j e = cc
-
-same_packet : (p q : Sending) → Some p ≡ Some q → p ≡ q
-same_packet p q e = cc
-
-serial_there : (manages : Option ℕ) (serial : ℕ) → is_serial manages serial ≡ true → manages ≡ Some serial
-serial_there None serial e = absurd (let no : false ≡ true = e in cc)
-serial_there (Some other) serial e = ap (λ n. Some n) (let same : other ≡ serial = grind (arith, nat_tests) in same)
+use Rattle.sbp_world.proofs.Agents.Handed.{is_its_serial}
 
 -- a write that is answered done has rcode 0
 refused_none : (cause : FailCause) → Some cause ≡ None → ⊥
@@ -243,7 +235,7 @@ module _ (units ready : ℕ) (has : 0 < units) (start : List Disk) {past : List 
       -- it answers the request of the operation
       pub manages_is : (target_at start (hist past w)).manages ≡ Some asked_by_it
       unfolding is_answer
-      manages_is = serial_there (target_at start (hist past w)).manages asked_by_it answers_it.own
+      manages_is = is_its_serial (target_at start (hist past w)).manages asked_by_it answers_it.own
 
       pub tells : laws.answer_in (laws.packet_at t serial) ≡ answer_in p
       unfolding answers_it
@@ -253,7 +245,7 @@ module _ (units ready : ℕ) (has : 0 < units) (start : List Disk) {past : List 
       pub is_answered : (bytes : List ℕ) → answer_in p ≡ Payload bytes → IsAnswered (hist past w) i serial asked_by_it bytes
       is_answered bytes f = record {
         own = λ packet there.
-            let same : packet ≡ q = same_packet packet q (sym there ∙ was) in
+            let same : packet ≡ q = same_Some packet q (sym there ∙ was) in
             none is_calm serial packet there (ap (λ (x : Sending). x.from) same ∙ from_is);
         answers = answers;
         of_initiator = request_to ∙ ap (λ n. Some n) from_is;
@@ -303,7 +295,7 @@ module _ (units ready : ℕ) (has : 0 < units) (start : List Disk) {past : List 
         asked_one = on.facts.asked u (let x = (on.facts.tie u).waiting waiting.kind waiting.serial held_u in let y = x.0 in let z = x.1 in omega (arith, y, z))
 
         packet_is : asked_one.packet ≡ packet
-        packet_is = same_packet asked_one.packet packet (sym asked_one.sent_is ∙ (ap tw.sent (sym awaited.current) ∙ (ap (λ (x : Terms). x.sent waiting.serial) same ∙ asking_is)))
+        packet_is = same_Some asked_one.packet packet (sym asked_one.sent_is ∙ (ap tw.sent (sym awaited.current) ∙ (ap (λ (x : Terms). x.sent waiting.serial) same ∙ asking_is)))
 
         calm_there : tw.injects sent.from ≡ false
         calm_there = ap (λ (x : Terms). x.injects sent.from) same ∙ calm

@@ -1,6 +1,7 @@
 -- Where one management operation of an initiator is in hand at a time, the target reads the ORB of the one that is under way.
 use Rattle.std.proofs.Common.{arith, ◌≡◌, ◌∙◌, refl, sym, ap, subst, ℕ, suc, ◌<◌, ◌≤◌, nat_le, Bool, true, false, List, [], ◌∷◌, ◌++◌, map, length, Option, Some, None, append_assoc}
 use Rattle.std.proofs.lemmas.Bool.Decides.{nat_tests}
+use Rattle.std.proofs.lemmas.Option.{same_Some}
 use Rattle.bus_memory.specs.declared.window.Window.TheVariants as windows
 use Rattle.bus_memory.specs.Windows.{start as start_of}
 use Rattle.bus_transactions.specs.Packets.{SerialsCount}
@@ -30,7 +31,6 @@ use Rattle.sbp_world.proofs.Agents.Management.Runs.{are_told, holds_after, no_re
 use Rattle.sbp_world.proofs.Agents.Management.Still.{hist}
 use Rattle.sbp_world.specs.Hosts.Runs.{IsRun, more_deliveries}
 use Rattle.sbp_world.proofs.Hosts.Between.{of_wire_there}
-use Rattle.sbp_world.proofs.Hosts.Carries.{IsNoAct}
 use Rattle.sbp_world.proofs.Hosts.Remaining.{remains, serials}
 use Rattle.sbp_world.specs.Lists.InPlace.{InPlaceLaw, IsInPlace}
 use Rattle.sbp_world.specs.Lists.Managing.{IsHandling, IsManaged, ManagingLaw}
@@ -45,12 +45,8 @@ use Rattle.sbp_world.proofs.Lists.OrbsRead.{delivers, read_orbs_law}
 use Rattle.sbp_world.proofs.Lists.Runs.{as_front}
 use Rattle.sbp_world.proofs.Lists.UnderwayRuns.{delivering, underway_law}
 use Rattle.sbp_world.proofs.Agents.CrewRuns.{lines_same, moments_same}
-
-same_serial : (m n : ℕ) → Some m ≡ Some n → m ≡ n
-same_serial m n e = cc
-
-same_packet : (p q : Sending) → Some p ≡ Some q → p ≡ q
-same_packet p q e = cc
+use Rattle.sbp_world.proofs.Lists.Courses.{more_no_act}
+use Rattle.sbp_world.proofs.Lists.FifoManages.{orb_status}
 
 -- ---- the request of the operation, by the wire
 
@@ -82,7 +78,7 @@ module _ (units ready : ℕ) (start : List Disk) {past : List Moment} {lines : �
   unfolding begun_by asked_by
   of_request =
       let r = has_request in
-      let same : r.serial ≡ read = same_serial r.serial read (sym r.manages_is ∙ manages) in
+      let same : r.serial ≡ read = same_Some r.serial read (sym r.manages_is ∙ manages) in
       let u : Transaction = transaction (t.generation 0) 0 r.peer r.number in
       let stands = h.sound.stands in
       let terms_are : terms stands.wire.past ≡ t = past_terms w stands in
@@ -96,9 +92,6 @@ module _ (units ready : ℕ) (start : List Disk) {past : List Moment} {lines : �
         source = sym r.peer_is;
         generation = generation_part a.packet u.label u (part_of a.packet.bytes) r.kind a.part a.begun;
       }
-
-phases_apart : phases.Orb ≡ phases.Status → ⊥
-phases_apart e = cc
 
 -- ---- runs
 
@@ -158,10 +151,10 @@ module _ (managing : ManagingLaw) (line : ℕ) (run : Run) (few : run.initiators
           let now = managed.busy underway r.has is_own in
           let q = request_there in
           let p = requested r.op read r.operation r.manages in
-          let peer_is : q.peer ≡ suc i = same_serial q.peer (suc i) (sym q.to ∙ (ap receiver_in (sym (sent_same read read_there)) ∙ to)) in
-          let packets : q.packet ≡ p.packet = same_packet q.packet p.packet (sym q.sent ∙ (sym (sent_same read read_there) ∙ p.sent)) in
+          let peer_is : q.peer ≡ suc i = same_Some q.peer (suc i) (sym q.to ∙ (ap receiver_in (sym (sent_same read read_there)) ∙ to)) in
+          let packets : q.packet ≡ p.packet = same_Some q.packet p.packet (sym q.sent ∙ (sym (sent_same read read_there) ∙ p.sent)) in
           let of_target : (terms E).generation 0 ≡ (terms past).generation 0 = sym q.generation ∙ (ap (λ (x : Sending). x.generation) packets ∙ p.generation) in
-          let writes : busy.own.packet ≡ now.own.packet = same_packet busy.own.packet now.own.packet (sym busy.own.sent ∙ (ap (λ s. (terms E).sent s) (sym first) ∙ (sym (sent_same underway.first b.sent) ∙ now.own.sent))) in
+          let writes : busy.own.packet ≡ now.own.packet = same_Some busy.own.packet now.own.packet (sym busy.own.sent ∙ (ap (λ s. (terms E).sent s) (sym first) ∙ (sym (sent_same underway.first b.sent) ∙ now.own.sent))) in
           let of_own : (terms E).generation (suc i) ≡ (terms past).generation (suc i) = sym busy.own.current ∙ (ap (λ (x : Sending). x.generation) writes ∙ now.own.current) in
           let handles : IsHandling start E i w.was.place r.op = record {
             same = of_target ∙ (same ∙ sym of_own);
@@ -171,7 +164,7 @@ module _ (managing : ManagingLaw) (line : ℕ) (run : Run) (few : run.initiators
             orb = r.orb ∙ ap (λ x. start_of (windows.Management x)) place;
           } in
           let fresh : (terms E).news w.was.first ≡ 0 = ap (λ x. (terms E).news x) (sym first) ∙ b.fresh in
-          phases_apart (sym r.phase ∙ ((busy.waiting fresh).over w.was.place r.op handles).0)
+          orb_status (sym r.phase ∙ ((busy.waiting fresh).over w.was.place r.op handles).0)
 
     is_behind : underway.first ≤ read
     is_behind = by (nat_le underway.first read) refl
@@ -185,10 +178,6 @@ module _ (managing : ManagingLaw) (line : ℕ) (run : Run) (few : run.initiators
     behind = λ read underway r own same to. is_behind read underway r own same to;
     brings = λ read response underway bytes r own same answered. brings read response underway bytes r (is_behind read underway r own same answered.of_initiator) answered;
   }
-
-no_act : (most : Option ℕ) (i : ℕ) → IsNoAct i (Some (more_deliveries most))
-no_act (Some count) i = tt
-no_act None i = tt
 
 module _ (managing : ManagingLaw) (line : ℕ) (run : Run) (q : IsRun run) (has : 0 < run.units) (small : run.units ≤ 4) (size : length run.start.disks ≡ run.units) (i : ℕ) (inside : i < run.initiators) where
   abbrev logins : ℕ
@@ -233,7 +222,7 @@ module _ (managing : ManagingLaw) (line : ℕ) (run : Run) (q : IsRun run) (has 
       where
         by : (b : Bool) → nat_le underway.first (terms (history_of line run)).count ≡ b → BeganBy line run i past counts lasts underway there
         by true e = began line run i past counts lasts underway there run.entries q.short q.entries q.lines so_far.before segment joined (grind (arith, nat_tests))
-        by false e = absurd (not_before line run i past counts lasts underway there segment (history_of line run) joined (grind (arith, nat_tests)) underway refl (line_kept w.fresh next event (history_of line run) i (no_act most i) underway there))
+        by false e = absurd (not_before line run i past counts lasts underway there segment (history_of line run) joined (grind (arith, nat_tests)) underway refl (line_kept w.fresh next event (history_of line run) i (more_no_act most i) underway there))
 
     between_them : IsCalm past i → IsInPlace run.start.disks past i
     between_them calm =

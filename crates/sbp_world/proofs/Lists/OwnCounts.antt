@@ -51,6 +51,7 @@ use Rattle.sbp_world.proofs.Hosts.Runs.{are_told, count_after, count_between}
 use Rattle.sbp_world.specs.Pointers.Moments.{manages}
 use Rattle.sbp_world.proofs.Lists.ManageTerms.{untrue}
 use Rattle.sbp_world.proofs.Lists.ManageWrites.{act_tells, no_action, not_so, other_node, same_action}
+use Rattle.sbp_world.proofs.Hosts.Statuses.Held.{few_before}
 
 abbrev pub FewAt : ℕ → Moment → List Moment → Type 0
 FewAt i (said (notes.Sent serial generation from to bytes)) past = from ≡ suc i → (action : Action) → event_of past ≡ Some (events.Act i action) → manages (operation_of action) ≡ true → (host_at past i).logins ≤ 2 ^ 32
@@ -58,9 +59,6 @@ FewAt i moment past = Unit {0}
 
 few_by : (m n : ℕ) → m ≡ n → n ≤ 2 ^ 32 → m ≤ 2 ^ 32
 few_by m n e f = omega (arith, e, f)
-
-few_before : (a b : ℕ) → a ≤ b → b ≤ 2 ^ 32 → a ≤ 2 ^ 32
-few_before a b l f = omega (arith, l, f)
 
 -- of the line
 few_written : (action other : Action) (past : List Moment) (i : ℕ) (s : InitiatorState) → (host_at past i).logins ≡ s.counts.logins → s.counts.logins ≤ 2 ^ 32 → event_of past ≡ Some (events.Act i action) → (act_step action empty_outbox s).0 ≡ None → event_of (behind (act_step action empty_outbox s).1.0.sides past) ≡ Some (events.Act i other) → manages (operation_of other) ≡ true → (host_at (behind (act_step action empty_outbox s).1.0.sides past) i).logins ≤ 2 ^ 32

@@ -23,13 +23,13 @@ use Rattle.sbp_world.proofs.Lists.OrbsShort.{event_short, login_small, orb_short
 use Rattle.sbp_world.proofs.Lists.OwnCounts.{FewAt}
 
 -- ---- as it is read back
-fifo_back : (o : ManagementOrb) → o.fifo < 2 ^ 48 → (management_orb (management_bytes o)).fifo ≡ o.fifo
+pub fifo_back : (o : ManagementOrb) → o.fifo < 2 ^ 48 → (management_orb (management_bytes o)).fifo ≡ o.fifo
 fifo_back o small = omega arith
 
-function_back : (o : ManagementOrb) → o.subject < 2 ^ 16 → o.function < 2 ^ 4 → (management_orb (management_bytes o)).function ≡ o.function
+pub function_back : (o : ManagementOrb) → o.subject < 2 ^ 16 → o.function < 2 ^ 4 → (management_orb (management_bytes o)).function ≡ o.function
 function_back o subject small = omega arith
 
-second_back : (o : ManagementOrb) → o.second < 2 ^ 48 → (management_orb (management_bytes o)).second ≡ o.second
+pub second_back : (o : ManagementOrb) → o.second < 2 ^ 48 → (management_orb (management_bytes o)).second ≡ o.second
 second_back o small = omega arith
 
 -- an ORB that names such a FIFO

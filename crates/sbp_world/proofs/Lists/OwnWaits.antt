@@ -1,5 +1,5 @@
 -- As each packet is got in a run in which no initiator injected packets, or few logins were given, the agents wait for page tables and data of an initiator that injected none for the ORB at the head of its own list alone.
-use Rattle.std.proofs.Common.{◌≡◌, ◌∙◌, sym, ap, subst, ◌<◌, ℕ, suc, List, [], ◌∷◌, ◌++◌, map, Option, Some}
+use Rattle.std.proofs.Common.{◌≡◌, ◌∙◌, sym, ap, subst, ◌<◌, ℕ, List, [], ◌∷◌, ◌++◌, map, Option, Some}
 use Rattle.rbc_disk.specs.Disk.{Disk}
 use Rattle.sbp_journal.specs.Run.{Moment, asked, said}
 use Rattle.sbp_journal.specs.Transactions.{Sending}
@@ -33,11 +33,10 @@ use Rattle.sbp_world.proofs.Lists.Quiet.{AllQuiet, IsQuiet}
 use Rattle.sbp_world.proofs.Lists.Sites.{waiting}
 use Rattle.sbp_world.proofs.Lists.StillRuns.{ground_everywhere}
 use Rattle.sbp_world.proofs.Lists.StillTurns.{Ground, site_at}
+use Rattle.sbp_world.proofs.Lists.MainSlots.{same_initiator}
 
 -- ---- at a place
 module _ (units ready : ℕ) (has : 0 < units) (start : List Disk) {past : List Moment} {lines : ℕ} (w : WorldState) (h : Holding units ready start past lines w) (q : Ground start (hist past w) w) (beside : IsTameOrFew (hist past w)) where
-  same_initiator : (a b : ℕ) → Some (suc a) ≡ Some (suc b) → a ≡ b
-  same_initiator a b e = cc
 
   reads_here : AreReadsOwn start (hist past w)
   reads_here place b side mine i waits to calm =

@@ -1,5 +1,6 @@
 -- Where an initiator got a read of a place of management, the history goes on with the response that brings the ORB of that place.
 use Rattle.std.proofs.Common.{◌≡◌, refl, sym, ◌∙◌, ap, subst, ℕ, suc, ◌<◌, ◌^◌, Bool, List, [], ◌∷◌, ◌++◌, map, Option, Some, None, Result, Ok, Err, append_assoc}
+use Rattle.std.proofs.lemmas.Option.{same_Some}
 use Rattle.async_packet.specs.Packet.{Packet}
 use Rattle.async_packet.specs.Reading.{reading}
 use Rattle.async_packet.specs.declared.fault.PacketFault.{PacketFault}
@@ -37,10 +38,7 @@ use Rattle.sbp_world.proofs.Hosts.ResponseTells.{rcode_small, read_code}
 use Rattle.sbp_world.specs.Sessions.Placed.{ArePlaces}
 use Rattle.sbp_world.proofs.Sessions.PlaceRuns.{placed_law}
 
-same_node : (m n : ℕ) → Some m ≡ Some n → m ≡ n
-same_node m n e = cc
-
-spelled_ok : (r : Result Packet PacketFault) (p : Packet) → spelled_by r ≡ Some p → r ≡ Ok p
+pub spelled_ok : (r : Result Packet PacketFault) (p : Packet) → spelled_by r ≡ Some p → r ≡ Ok p
 spelled_ok (Ok q) p e =
     let g : q ≡ p = cc in
     ap (λ x. Ok x) g
@@ -147,7 +145,7 @@ module _ (line : ℕ) (front : Run) (q : IsRun front) (next : ℕ) (event : Even
   pub served : (i : ℕ) (packet : Packet) (access : Access) → IsAsked Past i serial packet access → Replies Past i serial packet access Now
   served i packet access a block =
       let s = there line front q next told in
-      let to = same_node got.sent.to (suc i) (ap receiver_in (sym was) ∙ a.to_it) in
+      let to = same_Some got.sent.to (suc i) (ap receiver_in (sym was) ∙ a.to_it) in
       let read = spelled_ok (reading got.sent.bytes) packet (ap packet_in (sym was) ∙ a.spelled) in
       let gets : Gets s.world i serial = record {
         sent = got.sent;

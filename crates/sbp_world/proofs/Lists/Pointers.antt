@@ -15,7 +15,7 @@ use Rattle.sbp_world.specs.Agents.Alike.{has_list}
 use Rattle.sbp_world.proofs.Lists.Named.{no}
 
 -- ---- a doorbell that nobody hears
-deaf_by : (phase : Phase) (m : Machine) → has_list phase ≡ false → doorbell_step (record m { phase = phase }) ≡ (Nothing, record m { phase = phase })
+pub deaf_by : (phase : Phase) (m : Machine) → has_list phase ≡ false → doorbell_step (record m { phase = phase }) ≡ (Nothing, record m { phase = phase })
 unfolding doorbell_step
 deaf_by phases.Reset m e = refl
 deaf_by phases.Dead m e = refl
@@ -32,7 +32,7 @@ pub deaf : (m : Machine) → has_list m.phase ≡ false → doorbell_step m ≡ 
 deaf m e = deaf_by m.phase m e
 
 -- a pointer that is refused leaves the agent as it was
-refused_in : (state : AgentState) (m : Machine) (pointer : OrbPointer) (refusal : PointRefusal) → (point_in state m pointer).0 ≡ Err refusal → (point_in state m pointer).1 ≡ m
+pub refused_in : (state : AgentState) (m : Machine) (pointer : OrbPointer) (refusal : PointRefusal) → (point_in state m pointer).0 ≡ Err refusal → (point_in state m pointer).1 ≡ m
 refused_in states.Reset m Null refusal e = refl
 refused_in states.Reset m (At next) refusal e = absurd (differ e)
   where

@@ -118,7 +118,7 @@ closes : (which : Which) (a : Agent) → Holds a (closed which a)
 closes Main a = λ e. (refl, e)
 closes Ahead a = λ e. (refl, e)
 
-closed_machine : (which : Which) (a : Agent) → (closed which a).machine ≡ a.machine
+pub closed_machine : (which : Which) (a : Agent) → (closed which a).machine ≡ a.machine
 closed_machine Main a = refl
 closed_machine Ahead a = refl
 

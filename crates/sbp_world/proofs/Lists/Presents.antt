@@ -1,5 +1,6 @@
 -- An agent that tells of a run or of an end has a present ORB, the one that it tells of.
 use Rattle.std.proofs.Common.{◌≡◌, refl, ◌||◌, ◌==◌, ◌+◌, ◌*◌, ℕ, is_some, Bool, true, false, cond, List, ◌++◌, length, Option, Some, None, Result, Ok, Err}
+use Rattle.std.proofs.lemmas.Bool.{false≢true}
 use Rattle.orb_layout.specs.declared.ask.FailCause.{FailCause}
 use Rattle.orb_layout.specs.declared.ask.FailCause.TheVariants as causes
 use Rattle.orb_layout.specs.declared.pointer.OrbPointer.{OrbPointer}
@@ -28,9 +29,7 @@ use Rattle.command_agent.specs.declared.step.Which.TheVariants.{Main, Ahead}
 use Rattle.command_agent.specs.Checks.{death_by, reads_table, verdict}
 use Rattle.command_agent.specs.Machine.{Machine, chunk_of, has_present, is_ahead, plan_of}
 use Rattle.command_agent.specs.Steps.{advanced, ahead_lost, ahead_of, ahead_read, ahead_step, answer_chunk, answer_step, check_step, checked, chunk_written, data_grown, data_read, data_step, elements_read, end_step, follow_step, judge_step, judged, lost_step, main_lost, next_read, orb_read, passed_step, quiet, ran_as, reply_step, reread_step, run_step, sent, served, status_written, table_read, told_or, turn_step, unread_buffer, wait_step}
-
-no : false ≡ true → ⊥
-no e = cc
+use Rattle.sbp_world.proofs.Lists.StatusSteps.{end_has}
 
 -- where something is told of the present ORB there is one
 abbrev pub Presents : AgentStep × Machine → Type 0
@@ -51,9 +50,6 @@ pick_step true x y h i = h
 pick_step false x y h i = i
 
 -- ---- ends
-end_has : (m : Machine) (kind : StatusKind) (dead : Option FailCause) → has_present (end_step m kind dead).1.phase ≡ true
-end_has m kind None = refl
-end_has m kind (Some cause) = refl
 
 ends : (m : Machine) (kind : StatusKind) (dead : Option FailCause) → Presents (end_step m kind dead)
 ends m kind dead = λ e. end_has m kind dead
@@ -90,23 +86,23 @@ aheads_by (Some cause) next s h = h
 
 -- ---- replies
 turns : (m : Machine) (next : ℕ) (ahead : ReadAhead) → MovePresents (turn_step m next ahead)
-turns m next aheads.Idle = λ e. absurd (no e)
-turns m next (aheads.UnderWay rung) = λ e. absurd (no e)
+turns m next aheads.Idle = λ e. absurd (false≢true e)
+turns m next (aheads.UnderWay rung) = λ e. absurd (false≢true e)
 turns m next (aheads.Kept orb) = tt
 
 waits : (m : Machine) → Presents (wait_step m)
-waits m = pick_step m.doorbell (reread_step m) (quiet, record m { phase = phases.Suspended }) (λ e. absurd (no e)) (λ e. absurd (no e))
+waits m = pick_step m.doorbell (reread_step m) (quiet, record m { phase = phases.Suspended }) (λ e. absurd (false≢true e)) (λ e. absurd (false≢true e))
 
 follows : (m : Machine) (next : OrbPointer) → MovePresents (follow_step m next)
 follows m (At next) = turns m next m.ahead
 follows m Null = waits m
 
 statuses : (m : Machine) (failure : Option FailCause) → MovePresents (status_written m failure)
-statuses m (Some cause) = λ e. absurd (no e)
+statuses m (Some cause) = λ e. absurd (false≢true e)
 statuses m None = follows m m.orb.next
 
 nexts : (m : Machine) (r : Result (List ℕ) FailCause) → MovePresents (next_read m r)
-nexts m (Err cause) = λ e. absurd (no e)
+nexts m (Err cause) = λ e. absurd (false≢true e)
 nexts m (Ok bytes) = follows (record m { orb = record m.orb { next = pointer_at bytes 0 } }) (pointer_at bytes 0)
 
 orbs_read : (m : Machine) (r : Result (List ℕ) FailCause) → MovePresents (orb_read m r)
@@ -145,10 +141,10 @@ moves_on (phases.ReadingData wanted) m answer = data_reads m wanted (payload_of 
 moves_on phases.Answering m answer = chunks m (write_failure answer)
 moves_on phases.WritingStatus m answer = statuses m (write_failure answer)
 moves_on phases.ReadingNext m answer = nexts m (payload_of answer 8)
-moves_on phases.WritingLastStatus m answer = λ e. absurd (no e)
-moves_on phases.Reset m answer = λ e. absurd (no e)
-moves_on phases.Suspended m answer = λ e. absurd (no e)
-moves_on phases.Dead m answer = λ e. absurd (no e)
+moves_on phases.WritingLastStatus m answer = λ e. absurd (false≢true e)
+moves_on phases.Reset m answer = λ e. absurd (false≢true e)
+moves_on phases.Suspended m answer = λ e. absurd (false≢true e)
+moves_on phases.Dead m answer = λ e. absurd (false≢true e)
 
 serves : (place : ℕ) (plain : PlainDisk) (told : Told) (move : Move) (m : Machine) → MovePresents (move, m) → Presents (served place plain told move m)
 serves place plain told (moves.Send step) m h = h
@@ -158,15 +154,15 @@ serves place plain told moves.Judge m h = judges m told (need_of m.orb.cdb (plan
 serves place plain told moves.Run m h = runs m told
 
 ahead_reads : (m : Machine) (r : Result (List ℕ) FailCause) → Presents (ahead_read m r)
-ahead_reads m (Ok bytes) = λ e. absurd (no e)
-ahead_reads m (Err cause) = λ e. absurd (no e)
+ahead_reads m (Ok bytes) = λ e. absurd (false≢true e)
+ahead_reads m (Err cause) = λ e. absurd (false≢true e)
 
 pub replied_presents : (m : Machine) (place : ℕ) (plain : PlainDisk) (told : Option Told) (which : Which) (answer : Answer) → Presents (reply_step m place plain told which answer)
 unfolding reply_step
 replied_presents m place plain told Main answer =
     let a = advanced m.phase m answer in serves place plain (told_or told) a.0 a.1 (moves_on m.phase m answer)
 replied_presents m place plain told Ahead answer =
-    pick_step (is_ahead m.ahead) (ahead_step m answer) (quiet, m) (ahead_reads m (payload_of answer 32)) (λ e. absurd (no e))
+    pick_step (is_ahead m.ahead) (ahead_step m answer) (quiet, m) (ahead_reads m (payload_of answer 32)) (λ e. absurd (false≢true e))
 
 -- ---- losses
 loses : (phase : Phase) (m : Machine) (cause : FailCause) → Presents (main_lost phase m cause)
@@ -174,14 +170,14 @@ loses phases.Fetching m cause = ends m kinds.Failed (Some cause)
 loses phases.ReadingTable m cause = ends m kinds.Failed (Some cause)
 loses (phases.ReadingData wanted) m cause = ends m kinds.Failed (Some cause)
 loses phases.Answering m cause = ends m kinds.Failed (Some cause)
-loses phases.WritingStatus m cause = λ e. absurd (no e)
-loses phases.ReadingNext m cause = λ e. absurd (no e)
-loses phases.WritingLastStatus m cause = λ e. absurd (no e)
-loses phases.Reset m cause = λ e. absurd (no e)
-loses phases.Suspended m cause = λ e. absurd (no e)
-loses phases.Dead m cause = λ e. absurd (no e)
+loses phases.WritingStatus m cause = λ e. absurd (false≢true e)
+loses phases.ReadingNext m cause = λ e. absurd (false≢true e)
+loses phases.WritingLastStatus m cause = λ e. absurd (false≢true e)
+loses phases.Reset m cause = λ e. absurd (false≢true e)
+loses phases.Suspended m cause = λ e. absurd (false≢true e)
+loses phases.Dead m cause = λ e. absurd (false≢true e)
 
 pub lost_presents : (m : Machine) (which : Which) (cause : FailCause) → Presents (lost_step m which cause)
 unfolding lost_step
 lost_presents m Main cause = loses m.phase m cause
-lost_presents m Ahead cause = pick_step (is_ahead m.ahead) (ahead_lost m cause) (quiet, m) (λ e. absurd (no e)) (λ e. absurd (no e))
+lost_presents m Ahead cause = pick_step (is_ahead m.ahead) (ahead_lost m cause) (quiet, m) (λ e. absurd (false≢true e)) (λ e. absurd (false≢true e))

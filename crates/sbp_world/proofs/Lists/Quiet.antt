@@ -46,6 +46,7 @@ use Rattle.sbp_world.proofs.Agents.Management.Owned.{AreOwn, IsNoRun}
 use Rattle.sbp_world.specs.Hosts.Handing.{AreOthers, IsOther}
 use Rattle.sbp_world.proofs.Hosts.Hands.{hand_law}
 use Rattle.sbp_world.proofs.Lists.Extends.{marked_fresh}
+use Rattle.sbp_world.proofs.Common.{notes_joined}
 
 -- ---- notes
 abbrev pub IsQuiet : Note → Type 0
@@ -63,10 +64,6 @@ pub record Quietly (old new : List Note) : Type 0 where
   pub is : more ++ old ≡ new
   pub quiet : AllQuiet more
 
-joined : (a b c : List Note) → (a ++ b) ++ c ≡ a ++ (b ++ c)
-joined [] b c = refl
-joined (m ∷ a) b c = ap (λ ns. m ∷ ns) (joined a b c)
-
 both : (a b : List Note) → AllQuiet a → AllQuiet b → AllQuiet (a ++ b)
 both [] b x y = y
 both (m ∷ a) b x y = (x.0, both a b x.1 y)
@@ -75,7 +72,7 @@ pub quiet_none : (ns : List Note) → Quietly ns ns
 quiet_none ns = record { more = []; is = refl; quiet = tt }
 
 pub quiet_then : (one two three : List Note) → Quietly one two → Quietly two three → Quietly one three
-quiet_then one two three a b = record { more = b.more ++ a.more; is = joined b.more a.more one ∙ ap (λ ns. b.more ++ ns) a.is ∙ b.is; quiet = both b.more a.more b.quiet a.quiet }
+quiet_then one two three a b = record { more = b.more ++ a.more; is = notes_joined b.more a.more one ∙ ap (λ ns. b.more ++ ns) a.is ∙ b.is; quiet = both b.more a.more b.quiet a.quiet }
 
 quiet_one : (note : Note) (ns : List Note) → IsQuiet note → Quietly ns (note ∷ ns)
 quiet_one note ns q = record { more = note ∷ []; is = refl; quiet = (q, tt) }

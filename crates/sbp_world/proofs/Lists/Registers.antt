@@ -65,7 +65,7 @@ answered_same : (request : Packet) (bytes : List ℕ) (rcode : ℕ) (given : Lis
 unfolding answer_step
 answered_same request bytes rcode given s = record { desks = refl; agents = λ p. refl }
 
-answered_sides : (request : Packet) (bytes : List ℕ) (rcode : ℕ) (given : List ℕ) (s : Scene) → (answered request bytes rcode given s).outbox.sides ≡ s.outbox.sides
+pub answered_sides : (request : Packet) (bytes : List ℕ) (rcode : ℕ) (given : List ℕ) (s : Scene) → (answered request bytes rcode given s).outbox.sides ≡ s.outbox.sides
 unfolding answer_step
 answered_sides request bytes rcode given s = refl
 

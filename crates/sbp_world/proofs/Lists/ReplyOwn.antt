@@ -1,10 +1,9 @@
 -- A turn in which the target is not called: while a response waits to be judged, the operation that its initiator has under way ends by nothing but with the session stuck.
-use Rattle.std.proofs.Common.{arith, ◌≡◌, ◌∙◌, refl, sym, ap, subst, ◌⊎◌, inl, inr, ℕ, suc, ◌<◌, ◌==◌, Bool, true, false, List, ◌++◌, map, length, Option, Some, None}
-use Rattle.std.proofs.lemmas.Bool.Decides.{nat_tests}
+use Rattle.std.proofs.Common.{arith, ◌≡◌, ◌∙◌, refl, sym, ap, subst, ◌⊎◌, inl, inr, ℕ, suc, ◌<◌, Bool, true, false, List, ◌++◌, map, length, Option, Some, None}
 use Rattle.bus_transactions.specs.Packets.{SerialsCount}
 use Rattle.bus_transactions.specs.Wire.{as_sending}
 use Rattle.sbp_world.proofs.Hosts.Hosted.{Cored, expires_fit, hears_fit}
-use Rattle.sbp_world.specs.Hosts.Core.{Core, work_in, work_of}
+use Rattle.sbp_world.specs.Hosts.Core.{Core, work_in}
 use Rattle.sbp_world.specs.Hosts.Runs.{more_deliveries}
 use Rattle.mgmt_agent.specs.declared.operation.Operation.{Operation as Managed}
 use Rattle.mgmt_agent.specs.Machine.{Machine}
@@ -54,12 +53,8 @@ use Rattle.sbp_world.proofs.Lists.Replying.{IsSentFor, away_replying, away_sent_
 use Rattle.sbp_world.proofs.Lists.ReplyAway.{away_stays}
 use Rattle.sbp_world.proofs.Lists.ReplyOffices.{Stays, gone, same as stays_same, stays_then}
 use Rattle.sbp_world.proofs.Lists.ReplyTurns.{SameNode, begins_replying, begins_stays}
-
-no_work : (u : Underway) (found : Option Underway) → found ≡ Some u → work_of found ≡ work_in None → ⊥
-no_work u found e w = none_is _ (sym w ∙ ap (λ (o : Option Underway). work_of o) e)
-
-same_act : (m n : ℕ) → m ≡ n → (m == n) ≡ true
-same_act m n e = grind (arith, nat_tests)
+use Rattle.sbp_world.proofs.Lists.LiveDecides.{equals}
+use Rattle.sbp_world.proofs.Lists.LiveCalled.{no_work}
 
 -- ---- the nodes are as they were
 pub same_node : (units ready : ℕ) (start : List Disk) (past : List Moment) (s : Scene) (later : List Moment) (t : Scene) {lines more : ℕ} → Holding units ready start past lines s.world → Holding units ready start later more t.world → (i : ℕ) → i < length s.world.initiators → i < length t.world.initiators → SameBus i s.world t.world → SameNode (hist past s.world) (hist later t.world) i
@@ -197,7 +192,7 @@ module _ (units ready : ℕ) (start : List Disk) (past : List Moment) (s : Scene
         no_end : (running : Running) → S.operation ≡ Some running → IsEndedBy S sent.generation sent.bytes running → (waiting : ℕ) → IsReplied start before i waiting → ⊥
         no_end running is (by_conflict p label act rcode e act_is ending conflict) waiting k =
             refused units ready start g h i inside hands (laws_of later v h_now.sound.stands).judged hand serial sent found to_is first running
-            (record { packet = p; label = label; act = act; found = e; rcode = rcode; refused = ending; conflict = conflict; under_way = is; own = same_act running.act act act_is }) k.taken
+            (record { packet = p; label = label; act = act; found = e; rcode = rcode; refused = ending; conflict = conflict; under_way = is; own = equals running.act act act_is }) k.taken
         no_end running is (by_status b) waiting k =
             let x = pends_now units ready start past s later t g h i inside hands (counts_at w h.sound.stands) contents serial sent found to_is running b.status is first
             (record { header = b.header; offset = b.offset; payload = b.payload; found = b.found; source = b.source; opens = b.is_open_fifo; block = b.block; read = b.read; kind = b.kind; under_way = is; names = b.names }) in

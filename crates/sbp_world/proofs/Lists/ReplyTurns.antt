@@ -1,5 +1,6 @@
 -- A turn of the target: a response that waits was there before, and the operation that waits for its answer is as it was; or the operation sent it now.
 use Rattle.std.proofs.Common.{arith, ◌≡◌, ◌∙◌, sym, ap, subst, ◌⊎◌, inl, inr, ℕ, suc, ◌<◌, Bool, true, List, [], ◌∷◌, ◌++◌, map, Option, Some}
+use Rattle.std.proofs.lemmas.Option.{same_Some}
 use Rattle.bus_transactions.specs.Packets.{SerialsCount}
 use Rattle.bus_transactions.proofs.Reaches.{goes_on}
 use Rattle.sbp_world.proofs.Hosts.Hosted.{Cored}
@@ -43,9 +44,6 @@ use Rattle.sbp_world.proofs.Lists.Replying.{first_replying, line_replying, told_
 use Rattle.sbp_world.proofs.Lists.ReplyOffices.{Ends, Stays, answers, begins as begins_one, ends, gone, line_stays, same as stays_same, stays, stays_self}
 use Rattle.sbp_world.proofs.Lists.ReplySends.{NewReply, sends_reply}
 
-same_number : (m n : ℕ) → Some m ≡ Some n → m ≡ n
-same_number m n e = cc
-
 pub responds_open : (phase : Phase) → is_responding phase ≡ true → phase ≡ phases.Status → ⊥
 responds_open phase e f = let no : is_responding phases.Status ≡ true = ap is_responding (sym f) ∙ e in untrue no
 
@@ -87,7 +85,7 @@ module _ (units ready : ℕ) (start : List Disk) {past : List Moment} {lines : �
   asks_it asking e =
       let r = of_request units ready start w h op own operation manages in
       let peer : r.peer ≡ suc i = apart ((terms was).generation 0) r.peer (suc i) (sym r.source ∙ source) in
-      same_number asking.to (suc i) (sym (ap receiver_in e) ∙ r.to ∙ ap Some peer)
+      same_Some asking.to (suc i) (sym (ap receiver_in e) ∙ r.to ∙ ap Some peer)
 
 -- ---- the turn
 
@@ -171,7 +169,7 @@ module _ (units ready : ℕ) (start : List Disk) (past : List Moment) (s : Scene
               let was_is : (target_at start before).manager.operation ≡ Some k.was = ap (λ (x : Machine). x.operation) (sym a) ∙ k.is in
               let was_source : k.was.source ≡ id_for (terms before) 0 (suc i) = k.source ∙ source_then in
               let manages : (target_at start before).manages ≡ Some serial = (r.waits k.was was_is same_then was_source).1 in
-              let own_is : own ≡ serial = same_number own serial (sym m ∙ b ∙ manages) in
+              let own_is : own ≡ serial = same_Some own serial (sym m ∙ b ∙ manages) in
               let there : (terms base).sent own ≡ Some waiting.packet = ap (terms base).sent own_is ∙ waiting.sent in
               let was_sent : (terms before).sent serial ≡ Some waiting.packet = ap (λ (f : ℕ → Option Sending). f serial) (sym sent) ∙ waiting.sent in
               let to = asks_it units ready start w h i k.was serial was_is manages was_source waiting.packet was_sent in

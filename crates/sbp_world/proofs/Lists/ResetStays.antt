@@ -33,18 +33,11 @@ use Rattle.sbp_laws.specs.Turns.{event_of}
 use Rattle.sbp_world.specs.Agents.Crews.{agent_in}
 use Rattle.sbp_world.specs.Lists.LetsGo.{IsCut}
 use Rattle.sbp_world.proofs.Lists.MainSteps.{lost_quiet, read_quiet}
+use Rattle.sbp_world.proofs.Lists.MainStays.{abort_phase, reset_phase}
 
 -- ---- an agent
 abbrev Rests : Agent → Agent → Type 0
 Rests before now = IsCut before → IsCut now
-
-reset_phase : (m : Machine) → (steps.reset_step m).phase ≡ phases.Reset
-unfolding steps.reset_step
-reset_phase m = refl
-
-abort_phase : (m : Machine) (orb : ℕ) → (steps.abort_step m orb).phase ≡ m.phase
-unfolding steps.abort_step
-abort_phase m orb = refl
 
 -- a reply or a loss leaves it there
 main_stays : (m : Machine) (place : ℕ) (plain : PlainDisk) (told : Option Told) (answer : Answer) → m.phase ≡ phases.Reset → (steps.reply_step m place plain told Main answer).1.phase ≡ phases.Reset

@@ -1,6 +1,7 @@
 -- The response that the target's management waits to have written goes where the ORB in the place of its initiator's operation names, and is what the management has
 -- to write.
 use Rattle.std.proofs.Common.{arith, ◌≡◌, ◌∙◌, refl, sym, ap, subst, ℕ, zero, ◌≤◌, nat_le, Bool, true, false, cond, List, ◌∷◌, ◌++◌, length, Option, Some, None}
+use Rattle.std.proofs.lemmas.Option.{none-some, same_Some}
 use Rattle.async_packet.specs.Fields.{largest}
 use Rattle.bus_transactions.specs.Packets.{SerialsCount}
 use Rattle.sbp_world.proofs.Hosts.SentMoments.{count_now, serials_from}
@@ -15,7 +16,6 @@ use Rattle.orb_layout.specs.declared.management.ManagementOrb.{ManagementOrb}
 use Rattle.rbc_disk.specs.Disk.{Disk}
 use Rattle.sbp_journal.specs.declared.note.Note.TheVariants as notes
 use Rattle.sbp_journal.specs.Run.{Moment, said}
-use Rattle.sbp_journal.specs.Addresses.{Access}
 use Rattle.sbp_journal.specs.Wire.{terms}
 use Rattle.sbp_laws.specs.Packets.{access_at}
 use Rattle.sbp_laws.specs.Targets.{Decided, is_nothing, target_at}
@@ -28,22 +28,16 @@ use Rattle.sbp_world.proofs.Lists.OrbsCarried.{carried_orbs_law}
 use Rattle.sbp_world.proofs.Lists.OrbsRead.{access_there}
 use Rattle.sbp_world.proofs.Lists.OrbsSecond.{AskOf, IsSecond, seconds}
 
-none_some : {A : Type 0} (a : A) → None ≡ Some a → ⊥
-none_some a e = cc
-
-some_access : (a b : Access) → Some a ≡ Some b → a ≡ b
-some_access a b e = cc
-
 written : (b : Bool) (offset : ℕ) (out : List ℕ) (body : Body) → cond b (Some (block_write offset out)) None ≡ Some body → access_for body ≡ write_access offset out
 written true offset out body e =
     let is : block_write offset out ≡ body = cc in
     ap access_for (sym is)
-written false offset out body e = absurd (none_some body e)
+written false offset out body e = absurd (none-some body e)
 
 some_ask : (ask : Ask) (out : List ℕ) (body : Body) → manager_body ask out ≡ Some body → is_nothing ask ≡ false
 some_ask (asks.Read offset len) out body e = refl
 some_ask (asks.Write offset len) out body e = refl
-some_ask asks.Nothing out body e = absurd (none_some body e)
+some_ask asks.Nothing out body e = absurd (none-some body e)
 
 goes : (decided : Option Decided) (ask : Ask) (out : List ℕ) (body : Body) (orb : ManagementOrb) → IsSecond decided ask out → IsOn decided orb → manager_body ask out ≡ Some body → access_for body ≡ write_access orb.second out
 goes None ask out body orb s on e = absurd s
@@ -102,7 +96,7 @@ module _ (start : List Disk) (past : List Moment) (counts : SerialsCount past) (
       subst (λ (x : Phase). HasIn x (target_at start past).decided (last_read start past)) phase a
 
   same_access : was.access ≡ access_for was.asked.body
-  same_access = some_access was.access (access_for was.asked.body) (sym was.spelled ∙ was.asked.access)
+  same_access = same_Some was.access (access_for was.asked.body) (sym was.spelled ∙ was.asked.access)
 
   pub response_packet : (orb : ManagementOrb) → last_read start past ≡ orb → access_at (terms past) r ≡ Some (write_access orb.second (target_at start past).manager.outgoing)
   response_packet orb last =

@@ -11,7 +11,7 @@ use Rattle.command_agent.specs.declared.step.AgentState.TheVariants as states
 use Rattle.command_agent.specs.Machine.{state_in}
 use Rattle.label_table.specs.declared.judgement.Asked.{Asked}
 use Rattle.label_table.specs.Bodies.{response_to}
-use Rattle.label_table.specs.Layer.{Finding, Layer, answering_step, asking_step, disowning_in, disowning_step, expiring_step, peer_place, judging_step, of_again, of_generation, of_grammar, of_label, of_request, of_response, seeing_step}
+use Rattle.label_table.specs.Layer.{Finding, Layer, answering_step, asking_step, expiring_step, judging_step, of_again, of_generation, of_grammar, of_label, of_request, of_response, seeing_step}
 use Rattle.login_table.specs.Table.{tick_step}
 use Rattle.rbc_disk.specs.Disk.{Disk}
 use Rattle.rbc_disk.specs.Runs.{Told}
@@ -35,6 +35,7 @@ use Rattle.sbp_target.proofs.Histories.Served.{judges}
 use Rattle.sbp_world.proofs.Lists.RomBytes.{IsGiven, IsRom, none_given}
 use Rattle.sbp_world.proofs.Lists.RomCodes.{IfFair, IsFair, asked_fair, none_given_to, response_fair}
 use Rattle.sbp_world.proofs.Hosts.ActLeft.{untrue}
+use Rattle.sbp_world.proofs.Lists.ManageCalls.{disowns_node, same_bytes}
 
 abbrev pub AllFair : List Outgoing → Type 0
 AllFair [] = Unit {0}
@@ -84,14 +85,6 @@ keeps_behind node p = record {
   leaves = record { disowns = λ layer packets peer label b. b };
   asks = λ layer packets peer body purpose b. behind_asks node p peer (asking_step layer peer body purpose).0 packets (asked_fair layer peer body purpose) b;
 }
-
-disown_node : (found : Option ℕ) (layer : Layer Purpose) (label : LabelParts) → (disowning_in found layer label).node ≡ layer.node
-disown_node None layer label = refl
-disown_node (Some k) layer label = refl
-
-disowns_node : (layer : Layer Purpose) (peer : ℕ) (label : LabelParts) → (disowning_step layer peer label).node ≡ layer.node
-unfolding disowning_step
-disowns_node layer peer label = disown_node (peer_place peer layer) layer label
 
 abbrev Nothing : ℕ → Said
 Nothing node = λ layer packets. (layer.node ≡ node) × (packets ≡ [])
@@ -147,12 +140,6 @@ read_given node offset rom =
     (rom (offset - rom_base)) (start_given node offset (start_at offset))
 
 -- ---- the response is fair
-
-same_bytes : (a b : Outgoing) (more others packets : List Outgoing) → packets ≡ a ∷ more → packets ≡ b ∷ others → a.bytes ≡ b.bytes
-same_bytes a b more others packets e f =
-    let g : a ∷ more ≡ b ∷ others = sym e ∙ f in
-    let same : a ≡ b = cc in
-    ap (λ (x : Outgoing). x.bytes) same
 
 module _ (node : NodeState) (p : Packet) (bytes : List ℕ) where
   abbrev left : List Outgoing

@@ -1,11 +1,11 @@
 -- The packets of a target that give a quadlet (IEEE 1394-1995, read response for data quadlet): such a packet is the response to a read of a quadlet, with the quadlet that
 -- was given. No request is one.
-use Rattle.std.proofs.Common.{arith, ◌≡◌, ◌∙◌, refl, sym, ap, ℕ, ◌+◌, ◌*◌, ◌/◌, ◌%◌, ◌^◌, ◌<◌, ◌==◌, Bool, true, false, cond, List, [], ◌∷◌, ◌++◌, Option, Some, None}
+use Rattle.std.proofs.Common.{arith, ◌≡◌, ◌∙◌, refl, sym, ap, ℕ, ◌+◌, ◌*◌, ◌/◌, ◌%◌, ◌^◌, ◌<◌, ◌==◌, Bool, true, false, cond, List, [], ◌++◌, Option, Some, None}
 use Rattle.async_packet.specs.declared.packet.Header.{Header}
 use Rattle.async_packet.specs.Canon.{canon, first_quad, four, response_quad, three}
 use Rattle.async_packet.specs.Fields.{tcode_of, value_of}
 use Rattle.async_packet.specs.Packet.{Packet, lock, lock_response, read_block, read_block_response, read_quadlet, read_quadlet_response, write_block, write_quadlet, write_response}
-use Rattle.byteorder.specs.Endian.{big_bytes, big_number}
+use Rattle.byteorder.specs.Endian.{big_bytes}
 use Rattle.byteorder.specs.Numbers.{big_from-bytes}
 use Rattle.label_table.specs.declared.judgement.Asked.{Asked}
 use Rattle.label_table.specs.Bodies.{Body, block_read, block_write, header_to, quadlet_read, quadlet_write, request_with, response_to}
@@ -17,7 +17,7 @@ use Rattle.sbp_base.specs.Quadlets.{quad}
 use Rattle.sbp_world.proofs.Lists.RomBytes.{IsGiven, none_given}
 use Rattle.sbp_world.proofs.Lists.RomKeys.{IsRomQuad, none_keyed}
 use Rattle.sbp_world.proofs.Hosts.ActLeft.{untrue}
-use Rattle.sbp_world.proofs.Sessions.Codes.{first_code}
+use Rattle.sbp_world.proofs.Hosts.Mild.{quad_tcode, tcode_same}
 
 -- a packet that gives a quadlet gives one that may stand in the target's ROM
 abbrev pub IsFair : List ℕ → Type 0
@@ -25,15 +25,8 @@ IsFair bytes = (tcode_of bytes == 6) ≡ true → IsRomQuad (value_of bytes)
 
 -- ---- the tcode stands in the first quadlet, what is given in the fourth
 
-quad_code : (peer label tcode : ℕ) (bytes rest : List ℕ) → tcode < 16 → bytes ≡ big_bytes 4 (peer * 2 ^ 16 + label * 2 ^ 10 + 1 * 2 ^ 8 + tcode * 2 ^ 4 + 0) ++ rest → tcode_of bytes ≡ tcode
-unfolding tcode_of
-quad_code peer label tcode bytes rest small e =
-    ap (λ xs. big_number 4 xs / 2 ^ 4 % 2 ^ 4) e
-    ∙ ap (λ n. n / 2 ^ 4 % 2 ^ 4) (big_from-bytes 4 (peer * 2 ^ 16 + label * 2 ^ 10 + 1 * 2 ^ 8 + tcode * 2 ^ 4 + 0) rest)
-    ∙ first_code peer label tcode small
-
 other_code : (peer label tcode : ℕ) (bytes rest : List ℕ) → tcode < 16 → (tcode == 6) ≡ false → bytes ≡ big_bytes 4 (peer * 2 ^ 16 + label * 2 ^ 10 + 1 * 2 ^ 8 + tcode * 2 ^ 4 + 0) ++ rest → (tcode_of bytes == 6) ≡ false
-other_code peer label tcode bytes rest small apart e = ap (λ n. n == 6) (quad_code peer label tcode bytes rest small e) ∙ apart
+other_code peer label tcode bytes rest small apart e = ap (λ n. n == 6) (quad_tcode peer label tcode bytes rest small e) ∙ apart
 
 fair_by : (bytes : List ℕ) → (tcode_of bytes == 6) ≡ false → IsFair bytes
 fair_by bytes e f = untrue (sym e ∙ f)
@@ -105,14 +98,6 @@ plain_other node peer (block_write offset payload) = other_code peer 0 1 (canon 
 plain_other node peer (quadlet_read offset) = other_code peer 0 4 (canon (request_with (header_to node peer 0) (quadlet_read offset))) _ (omega arith) refl refl
 plain_other node peer (block_read offset asked) = other_code peer 0 5 (canon (request_with (header_to node peer 0) (block_read offset asked))) _ (omega arith) refl refl
 
--- a label changes no tcode
-label_code : (number : ℕ) (bytes : List ℕ) → tcode_of (with_label number bytes) ≡ tcode_of bytes
-unfolding with_label tcode_of
-label_code number [] = refl
-label_code number (x ∷ []) = refl
-label_code number (x ∷ y ∷ []) = refl
-label_code number (x ∷ y ∷ z ∷ bytes) = omega arith
-
 abbrev pub IfFair : Option Asked → Type 0
 IfFair None = Unit {0}
 IfFair (Some asked) = IsFair asked.bytes
@@ -120,7 +105,7 @@ IfFair (Some asked) = IsFair asked.bytes
 module _ {P : Type 0} where
   found_fair : (layer : Layer P) (k peer : ℕ) (plain : List ℕ) (purpose : P) (number : Option ℕ) → (tcode_of plain == 6) ≡ false → IfFair (asked_at k layer (begun_for (peer_at layer k) peer purpose (begin_at number (peer_at layer k).table plain))).0
   found_fair layer k peer plain purpose None e = tt
-  found_fair layer k peer plain purpose (Some number) e = fair_by (with_label number plain) (ap (λ n. n == 6) (label_code number plain) ∙ e)
+  found_fair layer k peer plain purpose (Some number) e = fair_by (with_label number plain) (ap (λ n. n == 6) (tcode_same number plain) ∙ e)
 
   in_fair : (found : Option ℕ) (layer : Layer P) (peer : ℕ) (plain : List ℕ) (purpose : P) → (tcode_of plain == 6) ≡ false → IfFair (asking_in found layer peer plain purpose).0
   unfolding begin_step

@@ -2,6 +2,7 @@
 use Rattle.std.specs.Prelude.{unwrap_or}
 use Rattle.std.proofs.Common.{arith, ◌≡◌, refl, sym, ◌∙◌, ap, subst, ℕ, suc, ◌+◌, ◌==◌, nat_eq, is_some, not, Bool, true, false, cond, List, [], ◌∷◌, ◌++◌, map, Option, Some, None, Result, Ok, Err}
 use Rattle.std.proofs.lemmas.Bool.Decides.{nat_tests}
+use Rattle.std.proofs.lemmas.Option.{same_Some}
 use Rattle.async_packet.specs.declared.fault.PacketFault.{PacketFault}
 use Rattle.async_packet.specs.Labels.{LabelParts}
 use Rattle.async_packet.specs.Packet.{Packet, header_in, lock, lock_response, read_block, read_block_response, read_quadlet, read_quadlet_response, write_block, write_quadlet, write_response}
@@ -77,6 +78,7 @@ use Rattle.sbp_world.proofs.Lists.RomRuns.{fair_after, fair_between}
 use Rattle.sbp_world.proofs.Hosts.ActLeft.{untrue}
 use Rattle.sbp_world.proofs.Hosts.Aimed.{own_called}
 use Rattle.sbp_world.proofs.Pointers.Written.{none_sent, older_asked, still_asked}
+use Rattle.sbp_world.proofs.Common.{equal, equal_numbers}
 
 -- ---- what a response brings
 
@@ -88,9 +90,6 @@ now_by false n r a p layer bytes read q label purpose e = cc
 is_now : (layer : Layer Purpose) (generation : ℕ) (bytes : List ℕ) (read : Result Packet PacketFault) → (facts_in layer generation bytes read).is_current ≡ (generation == layer.generation)
 is_now layer generation bytes (Err fault) = refl
 is_now layer generation bytes (Ok p) = refl
-
-equal : (m n : ℕ) → (m == n) ≡ true → m ≡ n
-equal m n e = grind (arith, nat_tests)
 
 response_now : (layer : Layer Purpose) (generation : ℕ) (bytes : List ℕ) (p : Packet) (label : LabelParts) (purpose : Option Purpose) → (judging_step layer generation bytes).0 ≡ of_response p label purpose → generation ≡ layer.generation
 unfolding judging_step
@@ -150,12 +149,6 @@ brought_by layer generation bytes f (of_request p) e = tt
 abbrev Writes : List Moment → ℕ → Type 0
 Writes past i = WritesManaged past i
 
-some_packet : (a b : Sending) → Some a ≡ Some b → a ≡ b
-some_packet a b e = cc
-
-same_number : (a b : ℕ) → nat_eq a b ≡ true → a ≡ b
-same_number a b e = grind (arith, nat_tests)
-
 still_on : (m : Moment) (past : List Moment) (i : ℕ) → is_leaving m ≡ false → Writes past i → Writes (m ∷ past) i
 still_on m past i e k x other action access sent is honest a b spelled =
     k x other action access (sym (ap (λ f. f x) (moment_sent m past e)) ∙ sent) is honest (sym (still_asked m past i x e) ∙ a) b spelled
@@ -184,8 +177,8 @@ sent_on serial generation from to bytes past i h k x other action access sent is
     by : (c : Bool) → nat_eq x serial ≡ c → access.offset ≡ management_address
     by false e = k x other action access (sym (sent_old serial x packet (terms past) e) ∙ sent) is honest (sym (older_asked i serial generation from to bytes past x e) ∙ a) b spelled
     by true e =
-        let same : x ≡ serial = same_number x serial e in
-        let p : packet ≡ other = some_packet packet other (sym (sent_new serial packet (terms past)) ∙ ap (terms now).sent (sym same) ∙ sent) in
+        let same : x ≡ serial = equal_numbers x serial e in
+        let p : packet ≡ other = same_Some packet other (sym (sent_new serial packet (terms past)) ∙ ap (terms now).sent (sym same) ∙ sent) in
         let from_is : from ≡ suc i = ap (λ (y : Sending). y.from) p ∙ is in
         let own : own_action i (event_of past) ≡ Some action =
         sym (asked_now i serial generation to bytes past)
@@ -259,10 +252,6 @@ unwrapped : (found : Option ℕ) → is_some found ≡ true → ((offset : ℕ) 
 unwrapped None e f = untrue e
 unwrapped (Some offset) e f = f offset refl
 
--- what an action with a management ORB asks for
-access_is : (own access : Access) → Some own ≡ Some access → own ≡ access
-access_is own access e = cc
-
 same_demand : (own demand : Demand) → Some own ≡ Some demand → own ≡ demand
 same_demand own demand e = cc
 
@@ -271,7 +260,7 @@ module _ (s : InitiatorState) (demand : Demand) (access : Access) where
   managing e f =
       let own : Access = managed_write (unwrap_or s.management 0) (place_of s.counts.managed) in
       let g : Some own ≡ Some access = ap asks_for (same_demand (manage_demand s) demand e) ∙ f in
-      ap (λ (a : Access). a.offset) (sym (access_is own access g))
+      ap (λ (a : Access). a.offset) (sym (same_Some own access g))
 
   managed_asks : (action : Action) → manages (operation_of action) ≡ true → demand_of action s ≡ Some demand → asks_for demand ≡ Some access → access.offset ≡ unwrap_or s.management 0
   managed_asks (actions.Login unit reconnect exclusive password) m e f = managing e f

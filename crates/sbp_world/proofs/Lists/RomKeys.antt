@@ -1,7 +1,6 @@
 -- What a ROM tells of its SBP-2 unit (IEEE 1212, configuration ROM; NCITS 325-1998, unit directory): where each quadlet with the key byte of MANAGEMENT_AGENT, 54h, has
 -- the value 4000h, that is the distance which the unit has, whichever quadlets these are.
 use Rattle.std.proofs.Common.{arith, ◌≡◌, ◌∙◌, refl, sym, ap, subst, ℕ, zero, suc, ◌+◌, ◌*◌, ◌/◌, ◌%◌, ◌^◌, ◌==◌, ◌&&◌, ◌||◌, Bool, true, false, cond, List, [], ◌∷◌, ◌++◌, take, drop, slice_index, Some, None, Ok}
-use Rattle.std.proofs.lemmas.Bool.Decides.{nat_tests}
 use Rattle.std.specs.List.{AllByRecursion, flat_map, list_any}
 use Rattle.config_rom.specs.declared.block.Block.{Block}
 use Rattle.config_rom.specs.declared.block.Entry.{Entry}
@@ -12,6 +11,7 @@ use Rattle.config_rom.specs.Tree.{entries_from, entries_of, entry_at}
 use Rattle.config_rom.specs.Unit.{Directory, directories, first_unit, first_value, has_key, has_value, is_sbp, is_unit, names_unit, root_entries, sbp_unit_of, type_bits, unit_of}
 use Rattle.config_rom.proofs.Heads.{tree-of}
 use Rattle.sbp_world.proofs.Hosts.ActLeft.{untrue}
+use Rattle.sbp_world.proofs.Common.{equal, and_second}
 
 -- a quadlet with this key has that value
 abbrev pub IsRomQuad : ℕ → Type 0
@@ -36,18 +36,15 @@ IsFine entry = has_key 0x54 entry ≡ true → entry.value ≡ 0x4000
 abbrev AreFine : List Entry → Type 0
 AreFine entries = AllByRecursion IsFine entries
 
-same : (a b : ℕ) → (a == b) ≡ true → a ≡ b
-same a b e = grind (arith, nat_tests)
-
 -- the key byte is the first byte of the quadlet
 key_is : (q : ℕ) (a b c : Bool) → (q / 2 ^ 30 == 0) ≡ a → (q / 2 ^ 30 == 1) ≡ b → (type_bits (cond a kinds.Immediate (cond b kinds.Csr (cond c kinds.Leaf kinds.Directory))) * 2 ^ 6 + q / 2 ^ 24 % 2 ^ 6 == 0x54) ≡ true → q / 2 ^ 24 ≡ 0x54
-key_is q true b c e f g = let z : 0 * 2 ^ 6 + q / 2 ^ 24 % 2 ^ 6 ≡ 0x54 = same _ _ g in absurd (omega (arith, z))
+key_is q true b c e f g = let z : 0 * 2 ^ 6 + q / 2 ^ 24 % 2 ^ 6 ≡ 0x54 = equal _ _ g in absurd (omega (arith, z))
 key_is q false true c e f g =
-    let y : q / 2 ^ 30 ≡ 1 = same _ _ f in
-    let z : 1 * 2 ^ 6 + q / 2 ^ 24 % 2 ^ 6 ≡ 0x54 = same _ _ g in
+    let y : q / 2 ^ 30 ≡ 1 = equal _ _ f in
+    let z : 1 * 2 ^ 6 + q / 2 ^ 24 % 2 ^ 6 ≡ 0x54 = equal _ _ g in
     omega (arith, y, z)
-key_is q false false true e f g = let z : 2 * 2 ^ 6 + q / 2 ^ 24 % 2 ^ 6 ≡ 0x54 = same _ _ g in absurd (omega (arith, z))
-key_is q false false false e f g = let z : 3 * 2 ^ 6 + q / 2 ^ 24 % 2 ^ 6 ≡ 0x54 = same _ _ g in absurd (omega (arith, z))
+key_is q false false true e f g = let z : 2 * 2 ^ 6 + q / 2 ^ 24 % 2 ^ 6 ≡ 0x54 = equal _ _ g in absurd (omega (arith, z))
+key_is q false false false e f g = let z : 3 * 2 ^ 6 + q / 2 ^ 24 % 2 ^ 6 ≡ 0x54 = equal _ _ g in absurd (omega (arith, z))
 
 entry_fine : (quads : List ℕ) → AreRomQuads quads → (at : ℕ) → IsFine (entry_at quads at)
 unfolding entry_at
@@ -106,16 +103,11 @@ value_is (entry ∷ entries) h e = by (has_key 0x54 entry) refl (λ f. value_is 
     by true f rest = h.0 f
     by false f rest = rest (sym (ap (λ b. b || list_any (has_key 0x54) entries) f) ∙ e)
 
-third : (a b c d : Bool) → (a && b && c && d) ≡ true → c ≡ true
+pub third : (a b c d : Bool) → (a && b && c && d) ≡ true → c ≡ true
 third a b true d e = refl
 third false b false d e = e
 third true false false d e = e
 third true true false d e = e
-
-second : (a b : Bool) → (a && b) ≡ true → b ≡ true
-second a true e = refl
-second true false e = e
-second false false e = e
 
 unit_is : (root : List Entry) (found : List Directory) → AllFine found → (unit : SbpUnit) → first_unit root found ≡ Some unit → unit.management ≡ 0x4000
 unit_is root [] h unit e = absurd (let no : None ≡ Some unit = e in cc)
@@ -124,7 +116,7 @@ unit_is root (d ∷ found) h unit e = by (is_unit root d) refl e (λ g. unit_is 
     by : (b : Bool) → is_unit root d ≡ b → cond b (Some (unit_of d.entries)) (first_unit root found) ≡ Some unit → (first_unit root found ≡ Some unit → unit.management ≡ 0x4000) → unit.management ≡ 0x4000
     by true f g rest =
         let own : unit_of d.entries ≡ unit = cc in
-        let sbp : is_sbp d.entries ≡ true = second (list_any (names_unit d.at) root) (is_sbp d.entries) f in
+        let sbp : is_sbp d.entries ≡ true = and_second (list_any (names_unit d.at) root) (is_sbp d.entries) f in
         ap (λ (u : SbpUnit). u.management) (sym own) ∙ value_is d.entries h.0 (third (list_any (has_value 0x12 0x00609e) d.entries) (list_any (has_value 0x13 0x010483) d.entries) (list_any (has_key 0x54) d.entries) (list_any (has_key 0x14) d.entries) sbp)
     by false f g rest = rest g
 

@@ -1,6 +1,8 @@
 -- What an initiator learns of MANAGEMENT_AGENT: where each quadlet that it reads of a ROM is one that may stand in the target's, it knows no other address than the one that
 -- the target has, and it knows this one as soon as its session has left the state Out. Each call keeps that; only the response to a read of the ROM brings a quadlet.
 use Rattle.std.proofs.Common.{◌≡◌, ◌∙◌, refl, sym, ap, ℕ, nat_eq, nat_lt, ◌&&◌, not, is_some, Bool, true, false, cond, List, [], ◌∷◌, ◌++◌, length, replicate, Option, Some, None, Result, Ok, Err}
+use Rattle.std.proofs.lemmas.Option.{same_Some}
+use Rattle.std.proofs.lemmas.Bool.{not-false}
 use Rattle.async_packet.specs.declared.packet.Header.{Header}
 use Rattle.async_packet.specs.Labels.{LabelParts}
 use Rattle.async_packet.specs.Packet.{Packet, lock, lock_response, read_block, read_block_response, read_quadlet, read_quadlet_response, write_block, write_quadlet, write_response}
@@ -151,10 +153,6 @@ rom_row : (action : Action) (s : InitiatorState) → refusal action (facts_with 
 unfolding refusal
 rom_row action s e = let r = rows_of action (facts_with true s action) in third_row r.stuck r.wrong_state r.no_rom (from_waiting r) e
 
-known_row : (b : Bool) → not b ≡ false → b ≡ true
-known_row true e = refl
-known_row false e = sym e
-
 in_held : (seat : Seat) → is_in_held (session_of seat) ≡ true → knows_rom seat ≡ true
 in_held (seats.Held response) e = refl
 in_held (seats.Out out) e = e
@@ -177,8 +175,8 @@ abbrev pub Can : Action → InitiatorState → Type 0
 Can action s = manages_in (operation_of action) ≡ true → is_some s.management ≡ true
 
 pub managed_ready : (action : Action) (s : InitiatorState) → refusal action (facts_with true s action) ≡ None → Knows s → Can action s
-managed_ready (actions.Login unit reconnect exclusive password) s e k m = known_row (is_some s.management) (rom_row (actions.Login unit reconnect exclusive password) s e)
-managed_ready (actions.Query unit) s e k m = known_row (is_some s.management) (rom_row (actions.Query unit) s e)
+managed_ready (actions.Login unit reconnect exclusive password) s e k m = not-false (is_some s.management) (rom_row (actions.Login unit reconnect exclusive password) s e)
+managed_ready (actions.Query unit) s e k m = not-false (is_some s.management) (rom_row (actions.Query unit) s e)
 managed_ready actions.Reconnect s e k m = k.inside (in_held s.seat (allowed actions.Reconnect s e).session)
 managed_ready actions.Logout s e k m = k.inside (in_live s.seat (allowed actions.Logout s e).session)
 managed_ready (actions.Abort orb) s e k m = k.inside (in_live s.seat (allowed (actions.Abort orb) s e).session)
@@ -299,14 +297,11 @@ quads_with quads value h k = by (nat_lt (length quads) 256)
     by true = quads_more quads value h k
     by false = h
 
-some_number : (a b : ℕ) → Some a ≡ Some b → a ≡ b
-some_number a b e = cc
-
 unit_as : (unit : Option SbpUnit) (act : ℕ) (o : OutboxState) (s : InitiatorState) → ((own : SbpUnit) → unit ≡ Some own → own.management ≡ 0x4000) → Knows s → Knows (with_unit unit act o s).1
 unit_as None act o s f k = owns act words.NoUnit o s k
 unit_as (Some unit) act o s f k =
     owns act words.Done o (record s { management = Some (management_at unit.management) })
-    (record { read = k.read; there = λ offset e. sym (some_number (management_at unit.management) offset e) ∙ ap management_at (f unit refl); inside = λ e. refl })
+    (record { read = k.read; there = λ offset e. sym (same_Some (management_at unit.management) offset e) ∙ ap management_at (f unit refl); inside = λ e. refl })
 
 rom_as : (r : Result Tree RomFault) (act : ℕ) (o : OutboxState) (s : InitiatorState) → reading s.quads ≡ r → Knows s → Knows (with_rom r act o s).1
 rom_as (Ok tree) act o s e k = unit_as (sbp_unit_of tree.blocks tree.entries) act o s (λ own f. management_is s.quads tree k.read e own f) k
@@ -579,7 +574,7 @@ done_can action s d k = managed_ready action s (done_by action s (refusal action
 
 first_there : (ready : Bool) (i offset : ℕ) → (new_state i ready).management ≡ Some offset → offset ≡ management_address
 unfolding new_state
-first_there true i offset e = sym (some_number _ offset e)
+first_there true i offset e = sym (same_Some _ offset e)
 first_there false i offset e = absurd (let no : None ≡ Some offset = e in cc)
 
 first_quads : (ready : Bool) (i : ℕ) → AreRomQuads (new_state i ready).quads

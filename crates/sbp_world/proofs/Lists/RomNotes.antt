@@ -1,6 +1,7 @@
 -- Which quadlets a target gave, by a history: each packet of it that gives one gives one that may stand in its ROM.
-use Rattle.std.proofs.Common.{arith, ◌≡◌, ◌∙◌, refl, sym, ap, subst, ℕ, nat_eq, Bool, true, false, List, [], ◌∷◌, Option, Some, None}
+use Rattle.std.proofs.Common.{arith, ◌≡◌, ◌∙◌, refl, sym, ap, subst, ℕ, nat_eq, Bool, true, false, List, [], ◌∷◌, Option, Some}
 use Rattle.std.proofs.lemmas.Bool.Decides.{nat_tests}
+use Rattle.std.proofs.lemmas.Option.{same_Some}
 use Rattle.sbp_world.proofs.Hosts.Held.{sent_new, sent_old}
 use Rattle.sbp_world.proofs.Hosts.Layered.{is_tame}
 use Rattle.sbp_world.proofs.Pointers.Ages.{moment_sent}
@@ -14,12 +15,7 @@ use Rattle.sbp_journal.specs.declared.note.Note.{Note}
 use Rattle.sbp_journal.specs.declared.note.Note.TheVariants as notes
 use Rattle.sbp_world.proofs.Lists.RomCodes.{IsFair}
 use Rattle.sbp_world.proofs.Hosts.ActLeft.{untrue}
-
-none_some : {A : Type 0} (q : Sending) → None ≡ Some q → A
-none_some q e = absurd (differ e)
-  where
-    differ : None ≡ Some q → ⊥
-    differ e = cc
+use Rattle.sbp_world.proofs.Common.{none_is}
 
 abbrev pub IsFairNote : Note → Type 0
 IsFairNote (notes.Sent serial generation from to bytes) = from ≡ 0 → IsFair bytes
@@ -32,11 +28,8 @@ SentFair (asked line event ∷ past) = SentFair past
 
 -- ---- a packet that was sent
 
-some_same : (a b : Sending) → Some a ≡ Some b → a ≡ b
-some_same a b e = cc
-
 pub fair_sent : (past : List Moment) → SentFair past → (serial : ℕ) (q : Sending) → (terms past).sent serial ≡ Some q → q.from ≡ 0 → IsFair q.bytes
-fair_sent [] h serial q e f = none_some q e
+fair_sent [] h serial q e f = none_is q e
 fair_sent (asked line event ∷ past) h serial q e f = fair_sent past h serial q (sym (ap (λ (g : ℕ → Option Sending). g serial) (moment_sent (asked line event) past refl)) ∙ e) f
 fair_sent (said (notes.Sent at generation from to bytes) ∷ past) h serial q e f = by (nat_eq serial at) refl (λ k. fair_sent past h.1 serial q k f)
   where
@@ -46,7 +39,7 @@ fair_sent (said (notes.Sent at generation from to bytes) ∷ past) h serial q e 
     by : (b : Bool) → nat_eq serial at ≡ b → ((terms past).sent serial ≡ Some q → IsFair q.bytes) → IsFair q.bytes
     by true g old =
         let same : serial ≡ at = grind (arith, nat_tests) in
-        let is : packet ≡ q = some_same packet q (sym (sent_new at packet (terms past)) ∙ ap (terms (said (notes.Sent at generation from to bytes) ∷ past)).sent (sym same) ∙ e) in
+        let is : packet ≡ q = same_Some packet q (sym (sent_new at packet (terms past)) ∙ ap (terms (said (notes.Sent at generation from to bytes) ∷ past)).sent (sym same) ∙ e) in
         subst (λ (x : Sending). IsFair x.bytes) is (h.0 (ap (λ (x : Sending). x.from) is ∙ f))
     by false g old = old (sym (sent_old at serial packet (terms past) g) ∙ e)
 fair_sent (said note ∷ past) h serial q e f = fair_sent past h.1 serial q (sym (ap (λ (g : ℕ → Option Sending). g serial) (moment_sent (said note) past refl)) ∙ e) f

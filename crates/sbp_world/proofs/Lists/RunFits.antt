@@ -2,6 +2,7 @@
 -- the plain disk allows for the request of the append.
 use Rattle.std.proofs.Common.{arith, ◌≡◌, ◌∙◌, refl, sym, ap, subst, inl, inr, ◌⊎◌, ◌<◌, ◌&&◌, nat_lt, ℕ, Bool, true, false, cond, List, [], ◌∷◌, length, take, take_all, Option, Some, Ok}
 use Rattle.std.proofs.lemmas.Bool.Decides.{nat_tests}
+use Rattle.std.proofs.lemmas.Option.{same_Some}
 use Rattle.bus_memory.specs.Memory.{Memory}
 use Rattle.orb_layout.specs.declared.command.CommandOrb.{CommandOrb}
 use Rattle.page_table.specs.Buffer.{bytes_of}
@@ -32,6 +33,7 @@ use Rattle.sbp_laws.specs.Terms.{Request, data_of, plan_of, request_at}
 use Rattle.sbp_world.specs.Hosts.Orbs.{StandsIn, request_of}
 use Rattle.sbp_world.specs.Lists.Lists.{IsBufferOf, IsDataIn, IsDataOf, IsOrbOf}
 use Rattle.sbp_world.proofs.Lists.Slots.{IsFilled}
+use Rattle.sbp_world.proofs.Common.{no_bytes}
 
 -- the command of an append, and its request; its buffer is laid out in a slot, as long as the command says
 pub record WasAsked (command : Option Cmd) (request : Option Request) (slot : ℕ) : Type 0 where
@@ -81,19 +83,12 @@ data_out : (bytes : List ℕ) → data_of (out_buffer bytes) ≡ bytes
 data_out [] = refl
 data_out (byte ∷ bytes) = refl
 
-none_long : (xs : List ℕ) → length xs ≡ 0 → xs ≡ []
-none_long [] e = refl
-none_long (x ∷ xs) e = absurd (omega (arith, e))
-
-same_command : (one other : Cmd) → Some one ≡ Some other → one ≡ other
-same_command one other e = cc
-
 module _ (command : Option Cmd) (request : Option Request) (slot : ℕ) (a : WasAsked command request slot) where
   abbrev cmd : Cmd
   cmd = a.cmd
 
   own : (o : Cmd) → command ≡ Some o → o ≡ cmd
-  own o e = same_command o cmd (sym e ∙ a.command_is)
+  own o e = same_Some o cmd (sym e ∙ a.command_is)
 
   abbrev plan : BufferPlan
   plan = plan_of (buffer_of cmd)
@@ -125,7 +120,7 @@ module _ (command : Option Cmd) (request : Option Request) (slot : ℕ) (a : Was
           let some : 0 < length bytes = grind (arith, nat_tests) in
           has.first ∙ ap (λ xs. take (length bytes) xs) (sym (outward_data (has.outward some)))
       by false e =
-          let none : bytes ≡ [] = none_long bytes (grind (arith, nat_tests)) in
+          let none : bytes ≡ [] = no_bytes bytes (grind (arith, nat_tests)) in
           subst (λ xs. xs ≡ take (length xs) all_data) (sym none) refl
 
   module _ (m : Machine) (place : ℕ) (plain : PlainDisk) (outcome : Outcome) (o : IsOrbOf command slot m.orb) (buffer : IsBufferOf command slot m.segments) (part : IsDataOf command m.payload) (whole : (m.payload ≡ []) ⊎ (length m.payload ≡ data_length_of false m.orb.cdb)) (may : MayRun m place outcome plain) where
@@ -150,7 +145,7 @@ module _ (command : Option Cmd) (request : Option Request) (slot : ℕ) (a : Was
             let some_data : 0 < data_length_of false cdb = subst (λ n. 0 < n) f some in
             let size : length m.payload ≡ data_length_of plain.medium.is_bay cmd.cdb = f ∙ sym (bay_data plain.medium.is_bay cdb some_data) ∙ ap (data_length_of plain.medium.is_bay) cdb_is in
             inr (subst (λ n. 0 < n) size some, first ∙ ap (λ n. take n all_data) size)
-        by_size false e f = inl (none_long m.payload (grind (arith, nat_tests)))
+        by_size false e f = inl (no_bytes m.payload (grind (arith, nat_tests)))
 
         by : (m.payload ≡ []) ⊎ (length m.payload ≡ data_length_of false cdb) → MayCarry (request_of cmd) plain.medium.is_bay m.payload
         by (inl e) = inl e

@@ -23,9 +23,8 @@ use Rattle.sbp_world.specs.Lists.Needs.{AllBrought, IsCalm, OpenAfter, OpenBefor
 use Rattle.sbp_world.specs.Lists.Orders.{AppendsLaw, IsAppend, OrderRunLaw}
 use Rattle.sbp_world.proofs.Lists.Calm.{asked_calm, calm_before}
 use Rattle.sbp_world.proofs.Lists.Kept.{Kept}
-use Rattle.sbp_world.proofs.Lists.Named.{no}
 use Rattle.sbp_world.specs.Lists.Opens.{OpensLaw}
-use Rattle.sbp_world.proofs.Lists.OpenProved.{opens_law}
+use Rattle.sbp_world.proofs.Lists.OpenProved.{opens_law, nobody_needs}
 use Rattle.sbp_world.proofs.Lists.Passing.{PassLaw}
 use Rattle.sbp_world.proofs.Lists.Runs.{At, EarlyAfter, KeptAfter, at_told, early_after, facts, facts_at, kept_after, kept_told, lists_at, lists_here}
 
@@ -162,8 +161,6 @@ brings_law = record {
 }
 
 -- ---- appends: the order law, of no initiator
-none_wild : (A : Type 0) → true ≡ false → A
-none_wild A e = absurd (no (sym e))
 
 append_good : (wild : ℕ → Bool) (later past all : List Moment) (i n k : ℕ) (cdb : List ℕ) (buffer : NoteBuffer) → later ++ said (notes.Append i n k cdb buffer) ∷ past ≡ all → PassLaw wild all → IsAppend past i n k
 append_good wild later past all i n k cdb buffer e law = by later (subst (PassLaw wild) (sym e) law)
@@ -176,6 +173,6 @@ pub appends_law : AppendsLaw
 appends_law = record {
   numbered = λ line run r has small size later past i n k cdb buffer e.
       let wild : ℕ → Bool = λ i. true in
-      let a = kept_after wild (opened wild) line run r.few has small size run.entries r.short r.entries r.lines (λ i f. none_wild (OpenBefore line run run.entries) f) (λ i f. none_wild (IsCalm (history_of line run) i) f) in
+      let a = kept_after wild (opened wild) line run r.few has small size run.entries r.short r.entries r.lines (λ i f. nobody_needs (OpenBefore line run run.entries) f) (λ i f. nobody_needs (IsCalm (history_of line run) i) f) in
       append_good wild later past (history_of line run) i n k cdb buffer e (subst (PassLaw wild) a.is a.kept.passes);
 }

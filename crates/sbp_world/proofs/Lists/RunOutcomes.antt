@@ -2,6 +2,7 @@
 -- injected no packets its outcome is what the plain disk allows for the request of its ORB.
 use Rattle.std.proofs.Common.{arith, ◌≡◌, ◌∙◌, refl, sym, ap, subst, ℕ, suc, ◌+◌, ◌<◌, ◌≤◌, Bool, true, false, List, ◌∷◌, Option, Some, None, IfSome, IsSome, IsSomeAnd}
 use Rattle.std.specs.Prelude.{unwrap_or}
+use Rattle.std.proofs.lemmas.Option.{same_Some}
 use Rattle.login_table.specs.declared.login.Login.{Login}
 use Rattle.login_table.specs.Table.{Table, find, is_live, is_of_node}
 use Rattle.login_table.proofs.Searching.{within}
@@ -100,9 +101,6 @@ some_place : (found : Option ℕ) (place : ℕ) → place < 8 → unwrap_or foun
 some_place None place b e = absurd (omega (arith, b, e))
 some_place (Some other) place b e = refl
 
-some_login : (one other : Login) → Some one ≡ Some other → one ≡ other
-some_login one other e = cc
-
 ids_of : (t u : Terms) → u.generation 0 ≡ t.generation 0 → ((peer : ℕ) → u.ids (t.generation 0) peer ≡ t.ids (t.generation 0) peer) → (peer : ℕ) → id_for u 0 peer ≡ id_for t 0 peer
 ids_of t u g i peer = ap (λ n. u.ids n peer) g ∙ i peer
 
@@ -150,7 +148,7 @@ module _ (wild : ℕ → Bool) (start : List Disk) (past : List Moment) (s : Sce
   live : is_live login ≡ true
   live =
       let has : HasLogin w.target.logins.places place = live_login w.target set.ready.good place small plain run r.by.which answer r.outcome r.by.ran in
-      subst (λ (x : Login). is_live x ≡ true) (some_login has.login login (sym has.is ∙ there)) has.live
+      subst (λ (x : Login). is_live x ≡ true) (same_Some has.login login (sym has.is ∙ there)) has.live
 
   has_place : IsFoundBy start ms (holder w place) place login
   has_place = set.found place login there live

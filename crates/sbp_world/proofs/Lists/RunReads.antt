@@ -1,5 +1,6 @@
 -- A run that the target tells of is of an ORB that a response brought of the place of its ORB: that of its append.
 use Rattle.std.proofs.Common.{◌≡◌, ◌∙◌, sym, ap, subst, ℕ, ◌<◌, ◌==◌, ◌&&◌, is_some, nat_lt, Bool, false, List, ◌∷◌, Option, Some, None, IsSomeAnd}
+use Rattle.std.proofs.lemmas.Option.{same_Some}
 use Rattle.bus_memory.specs.declared.window.Window.TheVariants as windows
 use Rattle.bus_memory.specs.Windows.{start as start_of}
 use Rattle.command_agent.specs.declared.step.AgentStep.{AgentStep}
@@ -37,13 +38,10 @@ use Rattle.sbp_world.proofs.Lists.Runless.{IsRunBy}
 use Rattle.sbp_world.proofs.Lists.RunOutcomes.{IsSet, asked_so, goes, is_open, list_is, orb_is, request_is, runs, small}
 use Rattle.sbp_world.proofs.Lists.ManageTerms.{untrue}
 
-same_command : (one other : Cmd) → Some one ≡ Some other → one ≡ other
-same_command one other e = cc
-
 -- the ORB of a command is as it was appended
 pub as_appended : (command : Option Cmd) (request : Option Request) (slot : ℕ) (a : WasAsked command request slot) (orb : CommandOrb) → IsOrbOf command slot orb → IsAsAppended orb (request_of a.cmd)
 as_appended command request slot a orb o =
-    let same : o.cmd ≡ a.cmd = same_command o.cmd a.cmd (sym o.command ∙ a.command_is) in
+    let same : o.cmd ≡ a.cmd = same_Some o.cmd a.cmd (sym o.command ∙ a.command_is) in
     record {
       command = ap (λ (x : CommandOrb). x.cdb) o.orb ∙ ap (λ (c : Cmd). c.cdb) same;
       direction = (ap (λ (x : CommandOrb). x.to_initiator) o.orb ∙ ap (λ (c : Cmd). c.to_initiator && nat_lt 0 c.length) same) ∙ a.direction;

@@ -35,6 +35,7 @@ use Rattle.sbp_world.proofs.Hosts.OrbRuns.{rows_known}
 use Rattle.sbp_world.proofs.Hosts.Runs.{count_after, count_between, run_law}
 use Rattle.sbp_world.proofs.Lists.Sites.{Site}
 use Rattle.sbp_world.proofs.Lists.Slots.{IsFilled}
+use Rattle.sbp_world.proofs.Lists.UnderwayRuns.{delivering as delivering_by}
 
 -- a line that delivers more than one packet
 pub more_by : (P : Event → Type 0) → ((o : Option ℕ) → P (more_deliveries o)) → (event : Event) → DeliversMore event → P event
@@ -51,10 +52,6 @@ more_by P f (events.Timeout serial) d = absurd d
 more_by P f events.Tick d = absurd d
 more_by P f (events.Inject initiator bytes) d = absurd d
 more_by P f (events.Key unit key) d = absurd d
-
-delivering_by : (told : List (Option Told)) (o : Option ℕ) → IsDelivering (more_deliveries o) told
-delivering_by told (Some count) = tt
-delivering_by told None = tt
 
 delivering : (told : List (Option Told)) (event : Event) → DeliversMore event → IsDelivering event told
 delivering told event d = more_by (λ x. IsDelivering x told) (delivering_by told) event d

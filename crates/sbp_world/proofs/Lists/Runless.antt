@@ -55,6 +55,7 @@ use Rattle.sbp_world.proofs.Agents.UnitsTurns.{second_spares, sight_spares}
 use Rattle.sbp_target.proofs.Histories.Calling.{Good}
 use Rattle.sbp_world.proofs.Lists.RunTells.{AreRunless, IsRunless, NoneRan, RanBy, TellsRun, all_runless, delivery_tells, is_got, lapse_runless, of_none, of_run}
 use Rattle.sbp_world.proofs.Lists.Extends.{marked_fresh}
+use Rattle.sbp_world.proofs.Common.{notes_joined}
 
 -- ---- notes: of no run, and of no packet that is judged
 abbrev pub IsPlain : Note → Type 0
@@ -73,10 +74,6 @@ pub record Plainly (old new : List Note) : Type 0 where
   pub is : more ++ old ≡ new
   pub plain : AllPlain more
 
-joined : (a b c : List Note) → (a ++ b) ++ c ≡ a ++ (b ++ c)
-joined [] b c = refl
-joined (m ∷ a) b c = ap (λ ns. m ∷ ns) (joined a b c)
-
 both : (a b : List Note) → AllPlain a → AllPlain b → AllPlain (a ++ b)
 both [] b x y = y
 both (m ∷ a) b x y = (x.0, both a b x.1 y)
@@ -85,7 +82,7 @@ pub plain_none : (ns : List Note) → Plainly ns ns
 plain_none ns = record { more = []; is = refl; plain = tt }
 
 pub plain_then : (one two three : List Note) → Plainly one two → Plainly two three → Plainly one three
-plain_then one two three a b = record { more = b.more ++ a.more; is = joined b.more a.more one ∙ ap (λ ns. b.more ++ ns) a.is ∙ b.is; plain = both b.more a.more b.plain a.plain }
+plain_then one two three a b = record { more = b.more ++ a.more; is = notes_joined b.more a.more one ∙ ap (λ ns. b.more ++ ns) a.is ∙ b.is; plain = both b.more a.more b.plain a.plain }
 
 pub plain_one : (note : Note) (ns : List Note) → IsPlain note → Plainly ns (note ∷ ns)
 plain_one note ns q = record { more = note ∷ []; is = refl; plain = (q, tt) }

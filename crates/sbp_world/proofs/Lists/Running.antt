@@ -16,6 +16,7 @@ use Rattle.sbp_laws.specs.OrderLaw.{OrderAt, OrderLaw}
 use Rattle.sbp_laws.specs.Terms.{ends, ran_status, runs, status_of}
 use Rattle.sbp_world.specs.Lists.Running.{ListsAt, ListsLaw, RunsAt, RunsLaw, UnrunLaw}
 use Rattle.sbp_world.proofs.Lists.Passing.{PassAt, PassLaw, HasRun}
+use Rattle.sbp_world.proofs.Common.{itself}
 
 none_some : (A : Type 0) (k : ℕ) → suc k ≡ 0 → A
 none_some A k e = absurd (differ e)
@@ -85,9 +86,6 @@ module _ (ms : List Moment) (i : ℕ) (unit : ℕ) (cdb bytes : List ℕ) (check
       by : (b : Bool) → nat_eq j i ≡ b → cond b (cond (nat_eq n x) (cond (nat_eq k y) (Some (status_of check)) (ran_status ms j n k)) (ran_status ms j n k)) (ran_status ms j n k) ≡ ran_status ms j n k
       by true e = absurd (f (let same : j ≡ i = grind (arith, nat_tests) in same))
       by false e = refl
-
-  itself : (a : ℕ) → nat_eq a a ≡ true
-  itself a = grind (arith, nat_tests)
 
   status_one : (n k : ℕ) → ran_status (said (notes.Ran i (Some n) (Some k) unit cdb bytes check) ∷ ms) i n k ≡ Some (status_of check)
   status_one n k =

@@ -67,7 +67,7 @@ said_more old new past e = ap (λ ns. map said ns ++ past) (sym e.is) ∙ split 
     split [] b past = refl
     split (n ∷ a) b past = ap (λ ms. said n ∷ ms) (split a b past)
 
-hist_more : (old new : List Note) (past : List Moment) → Extends old new → (i : ℕ) → IsCalm (map said new ++ past) i → IsCalm (map said old ++ past) i
+pub hist_more : (old new : List Note) (past : List Moment) → Extends old new → (i : ℕ) → IsCalm (map said new ++ past) i → IsCalm (map said old ++ past) i
 hist_more old new past e i c = calm_before (map said e.more) (map said old ++ past) i (subst (λ ms. IsCalm ms i) (said_more old new past e) c)
 
 pub next_extends : (one : Option Told) (s : Scene) → Extends s.world.fresh (delivered_next one s).world.fresh

@@ -46,6 +46,7 @@ use Rattle.sbp_world.proofs.Agents.Management.Owned.{AreOwn, IsNoRun}
 use Rattle.sbp_world.specs.Hosts.Handing.{AreOthers, IsOther}
 use Rattle.sbp_world.proofs.Hosts.Hands.{hand_law}
 use Rattle.sbp_world.proofs.Lists.Extends.{marked_fresh}
+use Rattle.sbp_world.proofs.Common.{notes_joined}
 
 -- ---- notes
 -- what begins a turn; a packet; and what else is told
@@ -124,10 +125,6 @@ pub led : {old new : List Note} → Led old new → Shaped old new
 led (passes h) = goes h
 led (opens note q h) = begins note (unheard_starts note q) h
 
-joined : (a b c : List Note) → (a ++ b) ++ c ≡ a ++ (b ++ c)
-joined [] b c = refl
-joined (m ∷ a) b c = ap (λ ns. m ∷ ns) (joined a b c)
-
 both : (a b : List Note) → AllEffects a → AllEffects b → AllEffects (a ++ b)
 both [] b x y = y
 both (m ∷ a) b x y = (x.0, both a b x.1 y)
@@ -140,7 +137,7 @@ quiet_none : (ns : List Note) → Effects ns ns
 quiet_none ns = record { more = []; is = refl; effects = tt }
 
 quiet_then : (one two three : List Note) → Effects one two → Effects two three → Effects one three
-quiet_then one two three a b = record { more = b.more ++ a.more; is = joined b.more a.more one ∙ ap (λ ns. b.more ++ ns) a.is ∙ b.is; effects = both b.more a.more b.effects a.effects }
+quiet_then one two three a b = record { more = b.more ++ a.more; is = notes_joined b.more a.more one ∙ ap (λ ns. b.more ++ ns) a.is ∙ b.is; effects = both b.more a.more b.effects a.effects }
 
 quiet_one : (note : Note) (ns : List Note) → IsEffect note → Effects ns (note ∷ ns)
 quiet_one note ns q = record { more = note ∷ []; is = refl; effects = (q, tt) }
@@ -149,7 +146,7 @@ no_sends : (ns : List Note) → Sends ns ns
 no_sends ns = record { more = []; is = refl; sends = tt }
 
 sends_then : (one two three : List Note) → Sends one two → Sends two three → Sends one three
-sends_then one two three a b = record { more = b.more ++ a.more; is = joined b.more a.more one ∙ ap (λ ns. b.more ++ ns) a.is ∙ b.is; sends = both_sends b.more a.more b.sends a.sends }
+sends_then one two three a b = record { more = b.more ++ a.more; is = notes_joined b.more a.more one ∙ ap (λ ns. b.more ++ ns) a.is ∙ b.is; sends = both_sends b.more a.more b.sends a.sends }
 
 hands_none : (ns : List Note) → Hands ns ns
 hands_none ns = record { middle = ns; told = quiet_none ns; sent = no_sends ns }

@@ -3,7 +3,6 @@
 use Rattle.std.proofs.Common.{arith, ◌≡◌, ◌∙◌, refl, ap, ◌≤◌, ℕ, zero, suc, ◌+◌, ◌==◌, ◌&&◌, nat_eq, Bool, true, false, cond, List, [], ◌∷◌, ◌++◌, map, length, Option, Some, None}
 use Rattle.std.proofs.lemmas.Bool.Decides.{nat_tests}
 use Rattle.std.specs.Prelude.{position, slice_set}
-use Rattle.command_agent.specs.declared.step.Which.{Which}
 use Rattle.command_agent.specs.declared.step.Which.TheVariants.{Ahead, Main}
 use Rattle.command_agent.specs.Steps as steps
 use Rattle.login_table.specs.Table.{Table, place_at}
@@ -55,10 +54,6 @@ sends_up is_write serial a = by (wants a.asks is_write) (wants a.asks_ahead is_w
     by true y = λ e. e
     by false true = λ e. e
     by false false = λ e. e
-
-closed_machine : (which : Which) (a : Agent) → (closed which a).machine ≡ a.machine
-closed_machine Main a = refl
-closed_machine Ahead a = refl
 
 -- ---- the target
 pub record Leaves (t x : Target) : Type 0 where

@@ -1,5 +1,6 @@
 -- A request of the target for the page table or the buffer of a slot is no agent's read ahead, and not the management operation's.
 use Rattle.std.proofs.Common.{arith, ◌≡◌, ◌∙◌, refl, sym, ap, subst, ◌<◌, ℕ, suc, Bool, true, false, List, length, Option, Some, None}
+use Rattle.std.proofs.lemmas.Option.{same_Some}
 use Rattle.bus_memory.specs.declared.window.Window.{Window}
 use Rattle.bus_memory.specs.declared.window.Window.TheVariants as windows
 use Rattle.bus_memory.specs.Windows.{window_at}
@@ -48,9 +49,6 @@ use Rattle.sbp_world.proofs.Lists.OfficeWrites.{OfficeSoAt, op_placed}
 use Rattle.sbp_world.proofs.Lists.OrbsRead.{access_there}
 use Rattle.sbp_world.proofs.Lists.Sites.{Site, Waiting, waiting as agent_waiting}
 
-same_access : (a b : Access) → Some a ≡ Some b → a ≡ b
-same_access a b e = cc
-
 -- ---- a read ahead
 pub record IsRead (access : Access) : Type 0 where
   pub reads : access.is_write ≡ false
@@ -84,7 +82,7 @@ module _ (units ready : ℕ) (has : 0 < units) (start : List Disk) {past : List 
       is = wait.is;
       reads = read.reads;
       some = read.some;
-      stands = subst (λ (a : Access). data_slot (window_at a.offset) ≡ Some slot) (same_access x.access wait.access (sym x.is ∙ wait.is)) x.stands;
+      stands = subst (λ (a : Access). data_slot (window_at a.offset) ≡ Some slot) (same_Some x.access wait.access (sym x.is ∙ wait.is)) x.stands;
     }
 
     which_not : Ahead ≡ Main → ⊥
@@ -156,13 +154,13 @@ module _ (units ready : ℕ) (has : 0 < units) (start : List Disk) {past : List 
 
       write_not : (access : Access) → access_at t own ≡ Some access → access.is_write ≡ true → ⊥
       write_not access is write =
-          let same : x.access ≡ access = same_access x.access access (sym x.is ∙ is) in
+          let same : x.access ≡ access = same_Some x.access access (sym x.is ∙ is) in
           slot_window (window_at access.offset) slot (subst (λ (a : Access). data_slot (window_at a.offset) ≡ Some slot) same x.stands)
           (λ at. (o i inside calm shorts based).waits_may has_op own manages access is write slot at)
           (λ at. let r = subst (λ (a : Access). window_at a.offset ≡ Some (windows.Buffer slot) → a.is_write ≡ false) same x.reads at in let z : true ≡ false = sym write ∙ r in cc)
 
       by_access : (access : Access) → access_at t own ≡ Some access → Aims access → ⊥
-      by_access access is (elsewhere none) = none slot (subst (λ (a : Access). data_slot (window_at a.offset) ≡ Some slot) (same_access x.access access (sym x.is ∙ is)) x.stands)
+      by_access access is (elsewhere none) = none slot (subst (λ (a : Access). data_slot (window_at a.offset) ≡ Some slot) (same_Some x.access access (sym x.is ∙ is)) x.stands)
       by_access access is (writes write) = write_not access is write
 
       of_operation : ⊥

@@ -1,5 +1,6 @@
 -- A packet of the target that is sent in a turn is one that its call handed out, to the node that has the packet's ID.
 use Rattle.std.proofs.Common.{◌≡◌, ◌∙◌, refl, sym, ap, subst, inl, inr, ◌⊎◌, ◌+◌, nat_eq, ℕ, Bool, true, false, cond, List, [], ◌∷◌, Option, Some, None}
+use Rattle.std.proofs.lemmas.Option.{same_Some}
 use Rattle.async_packet.specs.Labels.{LabelParts}
 use Rattle.sbp_bus.specs.Generations.{GenerationsState, node_of, topology_at}
 use Rattle.rbc_disk.specs.Disk.{Disk}
@@ -38,9 +39,6 @@ pub record FromPacket (One : Outgoing → Type 0) (g : GenerationsState) (q : Se
   pub bytes : packet.bytes ≡ q.bytes
   pub to : node_of g 0 packet.to ≡ Some q.to
 
-same_sending : (a b : Sending) → Some a ≡ Some b → a ≡ b
-same_sending a b e = cc
-
 module _ (One : Outgoing → Type 0) (g : GenerationsState) (past : List Moment) (serial : ℕ) (q : Sending) where
   abbrev Sent : WorldState → Type 0
   Sent u = (terms (hist past u)).sent serial ≡ Some q
@@ -60,7 +58,7 @@ module _ (One : Outgoing → Type 0) (g : GenerationsState) (past : List Moment)
 
       by : (b : Bool) → cond b (Some (sending (hist past u) last generation 0 to packet.bytes)) ((terms (hist past u)).sent serial) ≡ Some q → Then u
       by true f =
-          let same = same_sending (sending (hist past u) last generation 0 to packet.bytes) q f in
+          let same = same_Some (sending (hist past u) last generation 0 to packet.bytes) q f in
           inr (record { packet = packet; one = one; bytes = ap (λ (x : Sending). x.bytes) same; to = there ∙ ap (λ (x : Sending). Some x.to) same })
       by false f = inl f
 

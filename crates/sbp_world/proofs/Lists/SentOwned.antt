@@ -65,6 +65,7 @@ use Rattle.sbp_world.proofs.Lists.SentOwnedLives.{AllLive, HasLife, Owning, Unas
 use Rattle.sbp_world.proofs.Lists.StatusBytes.{same_address}
 use Rattle.sbp_target.proofs.Histories.Seats.{Lives}
 use Rattle.sbp_target.proofs.Histories.Primitives.{Known}
+use Rattle.sbp_world.proofs.Agents.AskedReplies.{changed_logins}
 
 -- a request of a call of the target has a row under way that belongs to somebody; and an unsolicited status goes to a FIFO
 pub record IsOwned (Fifo : ℕ → ℕ → Type 0) (layer : Layer Purpose) (packet : Outgoing) (number : ℕ) : Type 0 where
@@ -174,9 +175,6 @@ module _ (Fifo : ℕ → ℕ → Type 0) where
     judges s h = judges_if (is_barred s.node p) s h
 
   -- ---- a reply to an agent, behind which a disc may have come
-  changed_logins : (b : Bool) (unit place : ℕ) (node : NodeState) → (changed_by b unit place node).logins ≡ node.logins
-  changed_logins true unit place node = refl
-  changed_logins false unit place node = refl
 
   changed_here : (b : Bool) (unit place : ℕ) (s : Scene) → Here s → Here (scene (changed_by b unit place s.node) s.outbox)
   changed_here true unit place s h = h

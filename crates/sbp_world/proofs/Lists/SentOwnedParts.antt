@@ -1,19 +1,18 @@
 -- A packet of the target that is a request has the number of its label in its bytes, and a response is no request, whether a packet can carry them or not.
-use Rattle.std.proofs.Common.{arith, ◌≡◌, ◌∙◌, refl, sym, ap, ◌<◌, ◌+◌, ◌*◌, ◌/◌, ◌%◌, ◌^◌, ◌==◌, ℕ, Bool, true, false, cond, List, ◌++◌, Option, Some, None}
+use Rattle.std.proofs.Common.{arith, ◌≡◌, ◌∙◌, refl, sym, ap, ◌<◌, ◌+◌, ◌*◌, ◌^◌, ◌==◌, ℕ, Bool, true, false, cond, List, ◌++◌, Option, Some, None}
 use Rattle.async_packet.specs.declared.fault.PacketFault.{PacketFault}
 use Rattle.async_packet.specs.Canon.{canon, four, three}
 use Rattle.async_packet.specs.Fields.{header_of, tcode_of}
 use Rattle.async_packet.specs.Faults.{fault_of}
 use Rattle.async_packet.specs.Packet.{Packet, lock, lock_response, read_block, read_block_response, read_quadlet, read_quadlet_response, write_block, write_quadlet, write_response}
 use Rattle.async_packet.specs.Reading.{packet_in, reading, unless_fault}
-use Rattle.byteorder.specs.Endian.{big_bytes, big_number}
-use Rattle.byteorder.specs.Numbers.{big_from-bytes}
+use Rattle.byteorder.specs.Endian.{big_bytes}
 use Rattle.label_table.specs.Bodies.{Body, block_read, block_write, header_to, quadlet_read, quadlet_write, request_with, response_to}
 use Rattle.label_table.specs.Layer.{Layer, answering_step}
 use Rattle.label_table.specs.Requests.{with_label}
 use Rattle.sbp_journal.specs.Transactions.{Kind, no_packet, part_by, part_in, part_of, request, response}
 use Rattle.sbp_target.specs.declared.purpose.Purpose.{Purpose}
-use Rattle.sbp_world.proofs.Sessions.Codes.{first_code}
+use Rattle.sbp_world.proofs.Hosts.Mild.{quad_tcode}
 
 -- ---- the label of a request stands in its header
 own_label : (m n : ℕ) (k kind : Kind) → request m k ≡ request n kind → m ≡ n
@@ -73,12 +72,6 @@ asked_number number node peer body bytes small is n kind e =
     sym (body_label number node peer body small) ∙ ap (λ xs. (header_of xs).label) (sym is) ∙ part_label bytes n kind e
 
 -- ---- a response
-quad_code : (peer label tcode : ℕ) (bytes rest : List ℕ) → tcode < 16 → bytes ≡ big_bytes 4 (peer * 2 ^ 16 + label * 2 ^ 10 + 1 * 2 ^ 8 + tcode * 2 ^ 4 + 0) ++ rest → tcode_of bytes ≡ tcode
-unfolding tcode_of
-quad_code peer label tcode bytes rest small e =
-    ap (λ xs. big_number 4 xs / 2 ^ 4 % 2 ^ 4) e
-    ∙ ap (λ n. n / 2 ^ 4 % 2 ^ 4) (big_from-bytes 4 (peer * 2 ^ 16 + label * 2 ^ 10 + 1 * 2 ^ 8 + tcode * 2 ^ 4 + 0) rest)
-    ∙ first_code peer label tcode small
 
 -- bytes with this tcode are no request
 abbrev IsAnswered : List ℕ → ℕ → Type 0
@@ -96,7 +89,7 @@ code_none bytes tcode same f n kind e = f n kind (sym (ap (λ c. part_in (packet
     by (Some fault) h = absurd (let no : no_packet ≡ request n kind = h in cc)
 
 coded : (peer label tcode : ℕ) (bytes rest : List ℕ) → tcode < 16 → IsAnswered bytes tcode → bytes ≡ big_bytes 4 (peer * 2 ^ 16 + label * 2 ^ 10 + 1 * 2 ^ 8 + tcode * 2 ^ 4 + 0) ++ rest → IsNoRequest bytes
-coded peer label tcode bytes rest small f e = code_none bytes tcode (quad_code peer label tcode bytes rest small e) f
+coded peer label tcode bytes rest small f e = code_none bytes tcode (quad_tcode peer label tcode bytes rest small e) f
 
 answered_write : (bytes : List ℕ) → IsAnswered bytes 2
 answered_write bytes n kind e = answers_none _ n _ kind e

@@ -1,5 +1,5 @@
 -- What a request of the target is for by the terms, at a place where its row in the label table belongs to somebody.
-use Rattle.std.proofs.Common.{◌≡◌, ◌∙◌, refl, sym, ap, ◌<◌, ℕ, Bool, true, false, List, Some, None}
+use Rattle.std.proofs.Common.{◌≡◌, ◌∙◌, refl, sym, ap, ◌<◌, ℕ, Bool, true, false, List, Some}
 use Rattle.bus_transactions.specs.Wire.{transaction}
 use Rattle.command_agent.specs.declared.step.Which.{Which}
 use Rattle.rbc_disk.specs.Disk.{Disk}
@@ -19,6 +19,7 @@ use Rattle.sbp_world.proofs.Agents.Management.Holding.{Holding}
 use Rattle.sbp_world.proofs.Agents.Management.Still.{hist}
 use Rattle.sbp_world.proofs.Hosts.PointerRuns.{Awaits, awaits_of}
 use Rattle.sbp_world.proofs.Lists.DataWaits.{under_way_now}
+use Rattle.sbp_world.proofs.Common.{none_is}
 
 -- ---- a request that is under way
 -- its label, and its transaction
@@ -28,20 +29,17 @@ pub record IsAsking (q : Sending) (u : Transaction) : Type 0 where
   pub part : part_of q.bytes ≡ request label kind
   pub is : between q q.from q.to label ≡ u
 
-none_there : {A : Type 0} (u : Transaction) → None ≡ Some u → A
-none_there u e = absurd (let x : None ≡ Some u = e in cc)
-
 same_there : (a b : Transaction) → Some a ≡ Some b → a ≡ b
 same_there a b e = cc
 
 asking_as : (q : Sending) (u : Transaction) (part : Part) → part_of q.bytes ≡ part → asked_as part q ≡ Some u → IsAsking q u
 asking_as q u (request label kind) e f = record { label = label; kind = kind; part = e; is = same_there (between q q.from q.to label) u f }
-asking_as q u (response label kind) e f = none_there u f
-asking_as q u no_packet e f = none_there u f
+asking_as q u (response label kind) e f = none_is u f
+asking_as q u no_packet e f = none_is u f
 
 asking_if : (b : Bool) (q : Sending) (u : Transaction) → begun_if b (asked_by q) ≡ Some u → IsAsking q u
 unfolding asked_by
-asking_if true q u e = none_there u e
+asking_if true q u e = none_is u e
 asking_if false q u e = asking_as q u (part_of q.bytes) refl e
 
 asking : (q : Sending) (u : Transaction) → begun_by q ≡ Some u → IsAsking q u

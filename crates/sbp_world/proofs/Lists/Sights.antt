@@ -1,5 +1,5 @@
 -- In every run a node sees a reset right behind the line that asks for it.
-use Rattle.std.proofs.Common.{◌≡◌, refl, sym, ap, subst, ℕ, Bool, true, false, List, [], ◌∷◌, ◌++◌, map, Option, Some, None}
+use Rattle.std.proofs.Common.{sym, subst, ℕ, Bool, true, false, List, [], ◌∷◌, ◌++◌, map, Option, Some, None}
 use Rattle.rbc_disk.specs.Runs.{Told}
 use Rattle.sbp_journal.specs.declared.cause.Judged.{Judged}
 use Rattle.sbp_journal.specs.declared.cause.Judged.TheVariants as judgements
@@ -19,6 +19,7 @@ use Rattle.sbp_world.specs.Settling.{MayAll, MayAt, MayNext, after_all, delivere
 use Rattle.sbp_world.specs.Wire.Lines.{AreLines, IsLine}
 use Rattle.sbp_world.specs.Worlds.{Scene, begun, without_notes}
 use Rattle.sbp_world.proofs.Lists.SendsLast.{AllEffects, AllSends, Hands, Hears, IsEffect, IsSend, Shaped, acts, begins, delivery_hears, goes, hears, injects, keys, late, led, loses, one_comes, resets, sights, ticks, unheard}
+use Rattle.sbp_world.proofs.Common.{said_split}
 
 -- a node sees a reset right behind the line that asks for it
 abbrev pub BeginsLine : List Moment → Type 0
@@ -60,17 +61,13 @@ more_sends : (more : List Note) (past : List Moment) → AllSends more → E pas
 more_sends [] past q e = e
 more_sends (note ∷ more) past q e = send_on note (map said more ++ past) q.0 (more_sends more past q.1 e)
 
-split : (a b : List Note) (past : List Moment) → map said (a ++ b) ++ past ≡ map said a ++ (map said b ++ past)
-split [] b past = refl
-split (n ∷ a) b past = ap (λ ms. said n ∷ ms) (split a b past)
-
 hands_on : (old new : List Note) (past : List Moment) → Hands old new → E (map said old ++ past) → E (map said new ++ past)
 hands_on old new past h base =
     let sends = h.sent.more in
     let told = h.told.more in
     let middle : E (map said h.middle ++ past) =
-    subst (λ ns. E (map said ns ++ past)) h.told.is (subst E (sym (split told old past)) (more_effects told (map said old ++ past) h.told.effects base)) in
-    subst (λ ns. E (map said ns ++ past)) h.sent.is (subst E (sym (split sends h.middle past)) (more_sends sends (map said h.middle ++ past) h.sent.sends middle))
+    subst (λ ns. E (map said ns ++ past)) h.told.is (subst E (sym (said_split told old past)) (more_effects told (map said old ++ past) h.told.effects base)) in
+    subst (λ ns. E (map said ns ++ past)) h.sent.is (subst E (sym (said_split sends h.middle past)) (more_sends sends (map said h.middle ++ past) h.sent.sends middle))
 
 hears_on : (old new : List Note) (past : List Moment) → Hears old new → E (map said old ++ past) → E (map said new ++ past)
 hears_on old new past (unheard e) h = subst (λ ns. E (map said ns ++ past)) (sym e) h

@@ -6,7 +6,6 @@ use Rattle.bus_memory.specs.declared.window.Window.TheVariants as windows
 use Rattle.bus_memory.specs.Windows.{slot_of, start}
 use Rattle.bus_memory.proofs.Found.{slot_of_law}
 use Rattle.bus_transactions.specs.Packets.{SerialsCount}
-use Rattle.command_agent.specs.declared.phase.Phase.{Phase}
 use Rattle.command_agent.specs.declared.phase.Phase.TheVariants as phases
 use Rattle.command_agent.specs.declared.step.Which.{Which}
 use Rattle.command_agent.specs.declared.step.Which.TheVariants.{Ahead, Main}
@@ -38,7 +37,6 @@ use Rattle.sbp_world.proofs.Agents.Management.Holding.{Holding}
 use Rattle.sbp_world.proofs.Agents.Management.Offices.{over_keeps}
 use Rattle.sbp_world.proofs.Agents.Management.Still.{hist}
 use Rattle.sbp_world.specs.Agents.Agents.{AreAgentsAt}
-use Rattle.sbp_world.specs.Agents.Alike.{has_list}
 use Rattle.sbp_world.specs.Agents.AskedRuns.{AreAskedAt, IsAccessFor, serial_of}
 use Rattle.sbp_world.specs.Agents.Crews.{IsOf}
 use Rattle.sbp_world.specs.Agents.Holders.{AreHeldAt}
@@ -53,6 +51,7 @@ use Rattle.sbp_world.specs.Lists.Needs.{IsNamed, initiator_in, is_open_at}
 use Rattle.sbp_world.proofs.Lists.ReadSlots.{under_as}
 use Rattle.sbp_world.proofs.Lists.Slots.{IsFilled}
 use Rattle.sbp_world.proofs.Agents.AskedAgents.{sent_reset}
+use Rattle.sbp_world.proofs.Lists.StatusLosses.{sent_has}
 
 pub record Site (start : List Disk) (past : List Moment) (w : WorldState) : Type 0 where
   pub agents : AreAgentsAt start (hist past w) w
@@ -66,18 +65,6 @@ pub record Site (start : List Disk) (past : List Moment) (w : WorldState) : Type
   pub serials : SerialsCount (hist past w)
 
 -- ---- phases
-
-sent_list : (p : Phase) → is_sent p ≡ true → has_list p ≡ true
-sent_list phases.Reset e = absurd (let no : false ≡ true = e in cc)
-sent_list phases.Dead e = absurd (let no : false ≡ true = e in cc)
-sent_list phases.Suspended e = refl
-sent_list phases.Fetching e = refl
-sent_list phases.ReadingTable e = refl
-sent_list (phases.ReadingData wanted) e = refl
-sent_list phases.Answering e = refl
-sent_list phases.WritingStatus e = refl
-sent_list phases.ReadingNext e = refl
-sent_list phases.WritingLastStatus e = refl
 
 -- ---- the ORB that an address names
 name_is : (o : Option TicketParts) (n k : ℕ) → list_in o ≡ Some n → orb_in o ≡ Some k → name_in o ≡ Some (orb n k)
@@ -184,7 +171,7 @@ module _ (units ready : ℕ) (has : 0 < units) (start_disks : List Disk) {past :
         let q = who (G.mid.served place b (not_eight place b) (sent_reset m.phase sent)) in
         let r = (s.asked.all place b).main serial e in
         record {
-          is_open = sent_list m.phase sent;
+          is_open = sent_has m.phase sent;
           inside = q.inside;
           to = to_it q serial r.to;
           status = writes_status a.machine.phase;

@@ -2,6 +2,7 @@
 -- brings is of that ORB, where the slot has it still and had it as the read was sent.
 use Rattle.std.proofs.Common.{arith, ◌≡◌, ◌∙◌, refl, sym, ap, subst, ◌<◌, ◌≤◌, ◌&&◌, ℕ, suc, ◌+◌, not, nat_lt, Bool, true, false, cond, List, [], ◌∷◌, ◌++◌, length, take, drop, slice_index_or, append_assoc, Option, Some, None}
 use Rattle.std.proofs.lemmas.Bool.Decides.{nat_tests}
+use Rattle.std.proofs.lemmas.Bool.{not-true}
 use Rattle.bus_memory.specs.Memory.{new_memory}
 use Rattle.bus_memory.specs.declared.window.Window.TheVariants as windows
 use Rattle.bus_memory.specs.Windows.{is_fifo, start, window_at}
@@ -81,11 +82,7 @@ rows_say false false false false e h = absurd (omega arith)
 rows_say false false false true false h = absurd (omega arith)
 rows_say false false false true true h = refl
 
-not_true : (b : Bool) → not b ≡ true → b ≡ false
-not_true false e = refl
-not_true true e = absurd (let no : false ≡ true = e in cc)
-
-not_both : (a : Bool) → (a && true) ≡ false → a ≡ false
+pub not_both : (a : Bool) → (a && true) ≡ false → a ≡ false
 not_both false e = refl
 not_both true e = absurd (let no : true ≡ false = e in cc)
 
@@ -95,7 +92,7 @@ read_direction past i slot access z r e =
     let own : ◌≡◌ {A = ℕ} (first_or 0 ((facts.is_lock, 6) ∷ (facts.is_empty, 6) ∷ (facts.is_fifo, 6) ∷ (not facts.is_inside, 7) ∷ (not facts.has_direction, 6) ∷ [])) 0 =
     sym (ap (λ w. cond (w && access.is_block && is_fifo access.offset) 0 (first_or 0 ((facts.is_lock, 6) ∷ (facts.is_empty, 6) ∷ (facts.is_fifo, 6) ∷ (not facts.is_inside, 7) ∷ (not facts.has_direction, 6) ∷ []))) r) ∙ z in
     let found : has_direction past i access (window_at access.offset) ≡ true = rows_say facts.is_lock facts.is_empty facts.is_fifo facts.is_inside facts.has_direction own in
-    not_true (takes_writes past i (windows.Buffer slot))
+    not-true (takes_writes past i (windows.Buffer slot))
     (sym (ap (λ b. has_direction past i (record access { is_write = b }) (Some (windows.Buffer slot))) r) ∙ (sym (ap (has_direction past i access) e) ∙ found))
 
 -- ---- a response

@@ -2,6 +2,7 @@
 -- its initiator stays in the generation. So no ORB of another list was prepared in that slot.
 use Rattle.std.proofs.Common.{arith, ◌≡◌, ◌∙◌, refl, sym, ap, subst, inl, inr, ◌⊎◌, ◌<◌, ◌≤◌, ℕ, suc, nat_eq, Bool, true, false, cond, List, [], ◌∷◌, ◌++◌, Option, Some, None}
 use Rattle.std.proofs.lemmas.Bool.Decides.{nat_tests}
+use Rattle.std.proofs.lemmas.Bool.{false≢true}
 use Rattle.sbp_journal.specs.declared.note.Note.TheVariants as notes
 use Rattle.sbp_journal.specs.declared.note.NoteBuffer.{NoteBuffer}
 use Rattle.sbp_journal.specs.Run.{Moment, said}
@@ -18,9 +19,7 @@ use Rattle.sbp_world.proofs.Lists.Rises.{Rises}
 use Rattle.sbp_world.proofs.Lists.StatusKnown.{each_from, generation_grows}
 use Rattle.sbp_world.proofs.Lists.StatusMoments.{taken_stays}
 use Rattle.sbp_world.proofs.Lists.UnrunTerms.{cut_stays, passes_from}
-
-no : false ≡ true → ⊥
-no e = cc
+use Rattle.sbp_world.proofs.Common.{itself, moments_split}
 
 -- ---- a list that was cut has no more ends
 module _ (wild : ℕ → Bool) (i n : ℕ) (own : wild i ≡ false) where
@@ -29,7 +28,7 @@ module _ (wild : ℕ → Bool) (i n : ℕ) (own : wild i ≡ false) where
       let same_i : j ≡ i = grind (arith, nat_tests) in
       let same_n : m ≡ n = grind (arith, nat_tests) in
       let at : is_cut ms j m ≡ is_cut ms i n = ap (λ a. is_cut ms a m) same_i ∙ ap (is_cut ms i) same_n in
-      absurd (no (sym (uncut (ap wild same_i ∙ own)) ∙ (at ∙ cut)))
+      absurd (false≢true (sym (uncut (ap wild same_i ∙ own)) ∙ (at ∙ cut)))
   end_keeps ms j m uncut cut true e false f = refl
   end_keeps ms j m uncut cut false e y f = refl
 
@@ -91,13 +90,6 @@ module _ (before : List Moment) (i n k slot : ℕ) where
       by again false y f g h = old again h
   was_put (m ∷ mid) e = put_later m mid (was_put mid e)
 
-split : (a b c : List Moment) → a ++ (b ++ c) ≡ (a ++ b) ++ c
-split [] b c = refl
-split (m ∷ a) b c = ap (λ ms. m ∷ ms) (split a b c)
-
-own_number : (i : ℕ) → nat_eq i i ≡ true
-own_number i = grind (arith, nat_tests)
-
 -- what is not taken in the end was not taken before
 untaken_before : (later before : List Moment) (i n k : ℕ) → taken_at (later ++ before) i n k ≡ None → taken_at before i n k ≡ None
 untaken_before later before i n k none = by (taken_at before i n k) refl
@@ -119,7 +111,7 @@ module _ (wild : ℕ → Bool) (i : ℕ) (own : wild i ≡ false) (mid before : 
     leads = said (notes.Append i n k cdb buffer)
 
     whole : front ++ leads ∷ (back ++ before) ≡ mid ++ before
-    whole = split front (leads ∷ back) before ∙ ap (λ ms. ms ++ before) is
+    whole = moments_split front (leads ∷ back) before ∙ ap (λ ms. ms ++ before) is
 
     rises_there : Rises (front ++ leads ∷ (back ++ before))
     rises_there = subst Rises (sym whole) rises
@@ -130,7 +122,7 @@ module _ (wild : ℕ → Bool) (i : ℕ) (own : wild i ≡ false) (mid before : 
     append_generation : (terms before).generation (suc i) ≡ (terms (leads ∷ (back ++ before))).generation (suc i)
     append_generation =
         let a = generation_grows back before (suc i) rises_then.1 in
-        let b = (each_from _ front (leads ∷ (back ++ before)) (subst (Begins i) (sym whole) begins)).0 (own_number i) in
+        let b = (each_from _ front (leads ∷ (back ++ before)) (subst (Begins i) (sym whole) begins)).0 (itself i) in
         let c : (terms (leads ∷ (back ++ before))).generation 0 ≤ (terms (mid ++ before)).generation 0 = subst (λ ms. (terms (leads ∷ (back ++ before))).generation 0 ≤ (terms ms).generation 0) whole (generation_grows front (leads ∷ (back ++ before)) 0 rises_there) in
         omega (arith, a, b, c, current)
 
@@ -160,7 +152,7 @@ module _ (wild : ℕ → Bool) (i : ℕ) (own : wild i ≡ false) (mid before : 
 
     -- and no ORB of a list that is open
     pub open_apart : is_cut (mid ++ before) i n ≡ true → (open_list l at : ℕ) → IsOpen (mid ++ before) i open_list → prepared_in (mid ++ before) i at ≡ Some (orb open_list l) → at ≡ slot → ⊥
-    open_apart cut open_list l at opened there = cut_apart open_list l at (λ e. no (sym opened.uncut ∙ (ap (is_cut (mid ++ before) i) e ∙ cut))) there
+    open_apart cut open_list l at opened there = cut_apart open_list l at (λ e. false≢true (sym opened.uncut ∙ (ap (is_cut (mid ++ before) i) e ∙ cut))) there
 
 -- ---- where its list was cut before, no status of it was taken since
 pub untaken_since : (wild : ℕ → Bool) (i : ℕ) → wild i ≡ false → (mid before : List Moment) → PassLaw wild (mid ++ before) → (n k : ℕ) → is_cut before i n ≡ true → ends before i n ≤ k → ((list number : ℕ) → ends (mid ++ before) i list ≤ number → taken_at (mid ++ before) i list number ≡ None) → taken_at (mid ++ before) i n k ≡ None
@@ -172,10 +164,10 @@ module _ (i : ℕ) (mid before : List Moment) (rises : Rises (mid ++ before)) (b
     none_put : WasPut mid before i n k slot → ⊥
     none_put p =
         let leads = said (notes.Append i n k p.cdb p.buffer) in
-        let joined : p.front ++ leads ∷ (p.back ++ before) ≡ mid ++ before = split p.front (leads ∷ p.back) before ∙ ap (λ ms. ms ++ before) p.is in
+        let joined : p.front ++ leads ∷ (p.back ++ before) ≡ mid ++ before = moments_split p.front (leads ∷ p.back) before ∙ ap (λ ms. ms ++ before) p.is in
         let there = subst Rises (sym joined) rises in
         let a = generation_grows p.back before (suc i) (each_from _ p.front (leads ∷ (p.back ++ before)) there).1 in
-        let b = (each_from _ p.front (leads ∷ (p.back ++ before)) (subst (Begins i) (sym joined) begins)).0 (own_number i) in
+        let b = (each_from _ p.front (leads ∷ (p.back ++ before)) (subst (Begins i) (sym joined) begins)).0 (itself i) in
         let c : (terms (leads ∷ (p.back ++ before))).generation 0 ≤ (terms (mid ++ before)).generation 0 = subst (λ ms. (terms (leads ∷ (p.back ++ before))).generation 0 ≤ (terms ms).generation 0) joined (generation_grows p.front (leads ∷ (p.back ++ before)) 0 there) in
         omega (arith, a, b, c, ahead)
 

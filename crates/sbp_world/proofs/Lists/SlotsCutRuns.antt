@@ -1,5 +1,6 @@
 -- In every run in which no initiator injected packets, or few logins were given, of each that injected none: no ORB of an open list has the slot of an ORB whose list was cut before it ended, in the generation.
 use Rattle.std.proofs.Common.{◌≡◌, ◌∙◌, refl, sym, ap, subst, ◌<◌, ◌≤◌, ℕ, suc, Bool, true, false, List, [], length, None}
+use Rattle.std.proofs.lemmas.Bool.{false≢true}
 use Rattle.rbc_disk.specs.Disk.{Disk}
 use Rattle.sbp_journal.specs.Run.{Moment}
 use Rattle.sbp_journal.specs.Wire.{terms}
@@ -26,9 +27,6 @@ use Rattle.sbp_world.specs.Lists.FewLogins.{IsTameOrFew}
 use Rattle.sbp_world.proofs.Lists.UnrunTerms.{cut_stays}
 use Rattle.sbp_world.proofs.Lists.Walks.{Walks}
 
-no : false ≡ true → ⊥
-no e = cc
-
 apart_at : (wild : ℕ → Bool) (i : ℕ) → wild i ≡ false → (past : List Moment) → PassLaw wild past → Rises past → Begins i past → ((n k : ℕ) → ends past i n ≤ k → taken_at past i n k ≡ None) → AreCutApart past i
 apart_at wild i own past passes rises begins untaken later before is n k slot cut unended held current list number opened there =
     let still = subst (PassLaw wild) (sym is) passes in
@@ -47,7 +45,7 @@ apart_walk wild units ready has start past s later t step p i b own =
 
 first_apart : (wild : ℕ → Bool) (line : ℕ) (run : Run) → AllApart wild (moments_behind line run []) (beginning run).world
 first_apart wild line run i b own later before is n k slot cut unended held current list number opened there =
-    no (subst (λ ms. is_cut ms i n ≡ true) is (cut_stays later before i n cut))
+    false≢true (subst (λ ms. is_cut ms i n ≡ true) is (cut_stays later before i n cut))
 
 pub cut_apart_law : Always Grounds → Under (WhereTameOrFew AreUntaken) → Under (WhereTameOrFew AllCutApart)
 cut_apart_law grounds untaken = record {

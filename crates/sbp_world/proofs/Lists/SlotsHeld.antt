@@ -10,6 +10,7 @@ use Rattle.sbp_journal.specs.declared.note.Note.TheVariants as notes
 use Rattle.sbp_world.specs.Lists.SlotsStay.{HasSlot, IsGone, SlotsStayLaw, saw, was_over}
 use Rattle.sbp_journal.specs.declared.note.NoteBuffer.{NoteBuffer}
 use Rattle.sbp_laws.specs.Lists.{Orb, SlotState, freed, is_orb, is_over, is_vacant, lowest_vacant, new_slots, orb, prepared_in, put_to_rest, resting, rests_at, slots, used, vacant}
+use Rattle.sbp_world.proofs.Common.{itself}
 
 -- ---- rows
 at_map : (f : SlotState → SlotState) → f vacant ≡ vacant → (xs : List SlotState) (k : ℕ) → slice_index_or (map f xs) k vacant ≡ f (slice_index_or xs k vacant)
@@ -162,8 +163,6 @@ module _ (i slot : ℕ) (one : Orb) where
       by (inr g) = inr (further g)
 
 -- ---- it begins with the append
-own_number : (i : ℕ) → nat_eq i i ≡ true
-own_number i = grind (arith, nat_tests)
 
 module _ (past : List Moment) (i n k : ℕ) (cdb : List ℕ) (buffer : NoteBuffer) where
   abbrev place : ℕ
@@ -174,8 +173,8 @@ module _ (past : List Moment) (i n k : ℕ) (cdb : List ℕ) (buffer : NoteBuffe
 
   there : prepared_in appended i place ≡ Some (orb n k)
   there =
-      ap (λ b. cond b (cond (nat_eq place place) (Some (orb n k)) (prepared_in past i place)) (prepared_in past i place)) (own_number i)
-      ∙ ap (λ b. cond b (Some (orb n k)) (prepared_in past i place)) (own_number place)
+      ap (λ b. cond b (cond (nat_eq place place) (Some (orb n k)) (prepared_in past i place)) (prepared_in past i place)) (itself i)
+      ∙ ap (λ b. cond b (Some (orb n k)) (prepared_in past i place)) (itself place)
 
   said_now : Has i place (orb n k) appended ⊎ Gone i place (orb n k) (said (notes.Append i n k cdb buffer)) past → HasSlot appended i place (orb n k) ⊎ (is_over appended i (orb n k) ≡ true)
   said_now (inl g) = inl g
@@ -186,7 +185,7 @@ module _ (past : List Moment) (i n k : ℕ) (cdb : List ℕ) (buffer : NoteBuffe
   begins b =
       said_now
       (then_freed i place (orb n k) (said (notes.Append i n k cdb buffer)) past there (slice_set (slots past i) place (used (orb n k))) (inl (get_or-set_same (slots past i) place (used (orb n k)) vacant b))
-      (ap (λ x. map (freed appended i) (cond x (slice_set (slots past i) place (used (orb n k))) (slots past i))) (own_number i)))
+      (ap (λ x. map (freed appended i) (cond x (slice_set (slots past i) place (used (orb n k))) (slots past i))) (itself i)))
 
 pub slots_stay_law : SlotsStayLaw
 slots_stay_law = record { begins = begins; stays = λ later before i slot one h. has_on i slot one later before h }

@@ -1,6 +1,7 @@
 -- What a step of the agent of a place hands out in a call of the target, as far as status blocks go: a reply, a time-out, and a read that is asked for.
 use Rattle.std.proofs.Common.{arith, ◌≡◌, ◌&&◌, ◌∙◌, refl, sym, ap, subst, ◌<◌, ◌≤◌, ◌+◌, ℕ, zero, suc, Bool, true, false, cond, List, [], ◌∷◌, ◌++◌, length, Option, Some, None}
 use Rattle.std.proofs.Math.ListN.{length-set}
+use Rattle.std.proofs.lemmas.Bool.{false≢true}
 use Rattle.async_packet.specs.Packet.{Packet, header_in}
 use Rattle.command_agent.specs.declared.step.AgentStep.{AgentStep}
 use Rattle.command_agent.specs.declared.step.Which.{Which}
@@ -42,9 +43,6 @@ use Rattle.sbp_world.proofs.Lists.StatusFollows.{Done, Followed, Quiet, Step, fo
 use Rattle.sbp_world.proofs.Lists.StatusPackets.{logged_more, plain_logged, EndSide, IsApart, IsFed, IsPlain, apart_named, at_other, end_of, fed_more, named_more, of_more, one_plain, or_before, reads_more, told_more, unsolicited_apart, unsolicited_small, unsolicited_unread}
 use Rattle.sbp_world.proofs.Lists.StatusReads.{IsOfBody, IsRead, answer_reads, asked_body}
 use Rattle.sbp_world.proofs.Lists.StatusSteps.{lost_leaves, replied_leaves, rests}
-
-no : false ≡ true → ⊥
-no e = cc
 
 -- ---- other logins hear of a disc
 module _ (q : ℕ) (b : q < 8) (login : Login) (Ours : Type 0) (machines : ℕ → Machine) (told : Option EndSide) (m : Machine) where
@@ -100,8 +98,8 @@ module _ (q : ℕ) (b : q < 8) (login : Login) (Ours : Type 0) (machines : ℕ �
   -- a login that hears of it is live
   heard_live : (here live rest : Bool) → (here && (live && rest)) ≡ true → live ≡ true
   heard_live true true rest e = refl
-  heard_live true false rest e = absurd (no e)
-  heard_live false live rest e = absurd (no e)
+  heard_live true false rest e = absurd (false≢true e)
+  heard_live false live rest e = absurd (false≢true e)
 
   announces_to : (place : ℕ) → place < 8 → (other : Login) (s : Scene) → login_at s.node place ≡ Some other → is_live other ≡ true → D s → D (announce_to place other s)
   unfolding announce_to request_step

@@ -3,6 +3,7 @@
 use Rattle.std.proofs.Common.{arith, ◌≡◌, ◌∙◌, refl, sym, ap, subst, ◌<◌, ◌≤◌, ◌+◌, ◌*◌, ◌==◌, ◌||◌, nat_lt, ℕ, Bool, true, false, cond, List, [], ◌∷◌, length, Option, Some, None}
 use Rattle.std.specs.Prelude.{sum}
 use Rattle.std.proofs.lemmas.Bool.Decides.{nat_tests}
+use Rattle.std.proofs.lemmas.Bool.{false≢true}
 use Rattle.async_packet.specs.Labels.{LabelParts}
 use Rattle.async_packet.specs.Packet.{Packet, header_in}
 use Rattle.bus_memory.specs.declared.window.Window.TheVariants as windows
@@ -68,15 +69,14 @@ use Rattle.sbp_world.proofs.Lists.StatusDue.{Ours, slot_small}
 use Rattle.sbp_world.proofs.Lists.StatusPackets.{IsInbox, of_buffer, of_fifo}
 use Rattle.sbp_world.proofs.Lists.StatusTurn.{Answers}
 use Rattle.sbp_world.proofs.Lists.Turns.{Ready, heard_ended}
-
-no : false ≡ true → ⊥
-no e = cc
+use Rattle.sbp_world.proofs.Lists.StatusSteps.{none_wrote, read_wrote}
+use Rattle.sbp_world.proofs.Lists.FifoReplies.{same_at}
 
 -- ---- the FIFOs stand above the buffers
 no_place : (offset : ℕ) (a b : Bool) → (offset == 0x12002000) ≡ a → (offset == 0x12002020) ≡ b → offset < 0x1110_0000 → a || b ≡ true → ⊥
 no_place offset true b e f small g = (let same : offset ≡ 0x12002000 = grind (arith, nat_tests) in omega (arith, same, small))
 no_place offset false true e f small g = (let same : offset ≡ 0x12002020 = grind (arith, nat_tests) in omega (arith, same, small))
-no_place offset false false e f small g = no g
+no_place offset false false e f small g = false≢true g
 
 low_free : (offset : ℕ) → offset < 0x1110_0000 → IsFifo offset → ⊥
 low_free offset small (of_login number e) = omega (arith, e, small)
@@ -139,17 +139,9 @@ laid_below slot cmd small [] short whole few = single_below 0x1110_0000 (start (
 laid_below slot cmd small (count ∷ counts) short whole few = placed_below 0x1110_0000 (start (windows.Buffer slot)) (count ∷ counts) (omega (arith, small, whole, few))
 
 -- ---- what an agent along a list writes
-none_write : (offset size : ℕ) → asks.Nothing ≡ asks.Write offset size → ⊥
-none_write offset size e = cc
-
-read_write : (at len offset size : ℕ) → asks.Read at len ≡ asks.Write offset size → ⊥
-read_write at len offset size e = cc
-
-same_write : (at len offset size : ℕ) → asks.Write at len ≡ asks.Write offset size → at ≡ offset
-same_write at len offset size e = cc
 
 at_zero : (len offset size : ℕ) → asks.Write 0 len ≡ asks.Write offset size → offset < 0x1110_0000
-at_zero len offset size e = let same = same_write 0 len offset size e in omega (arith, same)
+at_zero len offset size e = let same = same_at 0 len offset size e in omega (arith, same)
 
 module _ (past : List Moment) (i n : ℕ) where
   -- the command of an ORB, in its slot, is one of a line
@@ -169,24 +161,24 @@ module _ (past : List Moment) (i n : ℕ) where
   low_by : (small : (k : ℕ) → slot_at past i n k < 32) (p : Progress) (phase : Phase) (m : Machine) → Knows (orbs past i n) p phase m → (phase ≡ phases.Answering → Laid p.ended) → (offset size : ℕ) → main_ask phase m ≡ asks.Write offset size → offset < 0x1110_0000
   low_by small p phases.Answering m k l offset size e =
       let at = (chunk_of m m.written (length m.answer)).offset in
-      let same : at ≡ offset = same_write at _ offset size e in
+      let same : at ≡ offset = same_at at _ offset size e in
       subst (λ x. x < 0x1110_0000) same (chunk_low p.ended (small p.ended) (l refl) m k.told.buffer m.written (length m.answer))
   low_by small p phases.WritingStatus m k l offset size e = at_zero (length m.outgoing) offset size e
   low_by small p phases.WritingLastStatus m k l offset size e = at_zero (length m.outgoing) offset size e
-  low_by small p phases.Fetching m k l offset size e = absurd (read_write _ _ offset size e)
-  low_by small p phases.ReadingTable m k l offset size e = absurd (read_write _ _ offset size e)
-  low_by small p (phases.ReadingData wanted) m k l offset size e = absurd (read_write _ _ offset size e)
-  low_by small p phases.ReadingNext m k l offset size e = absurd (read_write _ _ offset size e)
-  low_by small p phases.Suspended m k l offset size e = absurd (none_write offset size e)
-  low_by small p phases.Reset m k l offset size e = absurd (none_write offset size e)
-  low_by small p phases.Dead m k l offset size e = absurd (none_write offset size e)
+  low_by small p phases.Fetching m k l offset size e = absurd (read_wrote _ _ offset size e)
+  low_by small p phases.ReadingTable m k l offset size e = absurd (read_wrote _ _ offset size e)
+  low_by small p (phases.ReadingData wanted) m k l offset size e = absurd (read_wrote _ _ offset size e)
+  low_by small p phases.ReadingNext m k l offset size e = absurd (read_wrote _ _ offset size e)
+  low_by small p phases.Suspended m k l offset size e = absurd (none_wrote offset size e)
+  low_by small p phases.Reset m k l offset size e = absurd (none_wrote offset size e)
+  low_by small p phases.Dead m k l offset size e = absurd (none_wrote offset size e)
 
 -- which ORB that is
 pub main_wrote : (promoted : Bool) (ask main ahead : Ask) (offset size : ℕ) → ask ≡ asks.Write offset size → main_by promoted ask main ahead ≡ asks.Write offset size
 main_wrote true ask main ahead offset size e = subst (λ a. main_by true a main ahead ≡ asks.Write offset size) (sym e) refl
 main_wrote false ask main ahead offset size e = subst (λ a. main_by false a main ahead ≡ asks.Write offset size) (sym e) refl
 
-run_ended : (ran : Option Outcome) (answer : List ℕ) (p : Progress) → (run_by ran answer p).ended ≡ p.ended
+pub run_ended : (ran : Option Outcome) (answer : List ℕ) (p : Progress) → (run_by ran answer p).ended ≡ p.ended
 run_ended None answer p = refl
 run_ended (Some outcome) answer p = refl
 

@@ -1,5 +1,6 @@
 -- Each line of a run, and each delivery, keeps that the last ORB of a list stands in its slot while its agent is at the end of the list.
 use Rattle.std.proofs.Common.{arith, ◌≡◌, ◌∙◌, refl, sym, ap, subst, ◌<◌, ◌≤◌, ℕ, suc, Bool, true, false, List, [], ◌∷◌, ◌++◌, map, length, Option, Some, None, Ok}
+use Rattle.std.proofs.lemmas.Bool.{false≢true}
 use Rattle.async_packet.specs.Labels.{LabelParts}
 use Rattle.async_packet.specs.Packet.{Packet, header_in}
 use Rattle.bus_transactions.specs.Packets.{SerialsCount}
@@ -57,13 +58,7 @@ use Rattle.sbp_world.proofs.Lists.StatusSteps.{rests}
 use Rattle.sbp_world.proofs.Lists.StatusTurn.{Up}
 use Rattle.sbp_world.proofs.Lists.Stays.{ready_now}
 use Rattle.sbp_world.proofs.Lists.Turns.{Ready}
-
-no : false ≡ true → ⊥
-no e = cc
-
-joined : (a : List Moment) (m : Moment) (H : List Moment) → (a ++ m ∷ []) ++ H ≡ a ++ m ∷ H
-joined [] m H = refl
-joined (x ∷ a) m H = ap (λ ms. x ∷ ms) (joined a m H)
+use Rattle.sbp_world.proofs.Common.{moment_joined}
 
 -- what is known of a history behind a turn, of an initiator
 pub record Later (wild : ℕ → Bool) (i : ℕ) (now : List Moment) : Type 0 where
@@ -81,7 +76,7 @@ after_of wild i now l more m H is = record {
   takes = l.takes;
   rises = l.rises;
   begins = l.begins;
-  lasts = l.lasts (map said more ++ m ∷ []) H (joined (map said more) m H ∙ is);
+  lasts = l.lasts (map said more ++ m ∷ []) H (moment_joined (map said more) m H ∙ is);
 }
 
 module _ (wild : ℕ → Bool) where

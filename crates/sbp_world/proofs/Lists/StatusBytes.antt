@@ -2,6 +2,8 @@
 -- its kind where that has a row.
 use Rattle.std.proofs.Common.{arith, ◌≡◌, ◌∙◌, refl, sym, ap, subst, ◌<◌, ◌≤◌, ◌+◌, ◌*◌, ◌/◌, ◌%◌, ◌^◌, ◌==◌, ◌&&◌, nat_lt, ℕ, Bool, true, false, cond, List, [], ◌∷◌, ◌++◌, length, Option, Some, None, Result, Ok, Err}
 use Rattle.std.specs.Prelude.{drop, take}
+use Rattle.std.proofs.lemmas.Bool.{false≢true}
+use Rattle.std.proofs.lemmas.Option.{none-some}
 use Rattle.async_packet.specs.declared.fault.PacketFault.{PacketFault}
 use Rattle.async_packet.specs.Canon.{canon, four, with_pad}
 use Rattle.async_packet.specs.Fields.{length_of, offset_of, tcode_of}
@@ -21,9 +23,6 @@ use Rattle.sbp_journal.specs.Addresses.{Access}
 use Rattle.sbp_laws.specs.Packets.{access_in, access_in_bytes, spelled_by}
 use Rattle.sbp_world.specs.Lists.Statuses.{IsTold}
 use Rattle.sbp_world.proofs.Lists.StatusSteps.{IsFair}
-
-no : false ≡ true → ⊥
-no e = cc
 
 -- the address that is written to
 abbrev pub written_at : ℕ → ℕ
@@ -66,11 +65,8 @@ module _ (number node peer at : ℕ) (payload : List ℕ) (fits : length payload
   payload_is : payload_in bytes ≡ payload
   payload_is = ap (λ n. take n (drop 16 bytes)) length_is ∙ ap (λ xs. take (length payload) xs) rest_is ∙ take_front payload _
 
-  none_access : (access : Access) → None ≡ Some access → ⊥
-  none_access access e = cc
-
   found : (access : Access) (tcode : ℕ) → tcode ≡ 1 → (fault : Option PacketFault) → access_in (spelled_by (unless_fault fault (packet_in bytes tcode))) ≡ Some access → Wrote access at payload
-  found access tcode t (Some fault) e = absurd (none_access access e)
+  found access tcode t (Some fault) e = absurd (none-some access e)
   found access tcode t None e =
       let is : access_in (spelled_by (Ok (packet_in bytes 1))) ≡ Some access = subst (λ n. access_in (spelled_by (Ok (packet_in bytes n))) ≡ Some access) t e in
       by_packet is
@@ -103,7 +99,7 @@ pub record ReadsAs (bytes : List ℕ) (block : StatusBlock) : Type 0 where
   pub src_is : block.src ≡ src_of bytes
   pub orb_is : block.orb ≡ offset_at bytes 0
 
-not_read : (fault : OrbFault) (block : StatusBlock) → Err fault ≡ Ok block → ⊥
+pub not_read : (fault : OrbFault) (block : StatusBlock) → Err fault ≡ Ok block → ⊥
 not_read fault block e = cc
 
 row_reads : (bytes : List ℕ) (kind : Option StatusKind) (block : StatusBlock) → in_row bytes kind ≡ Ok block → ReadsAs bytes block
@@ -131,14 +127,14 @@ plain_kind (kinds.Illegal meaning) fair = refl
 plain_kind kinds.Failed fair = refl
 plain_kind (kinds.Management meaning) fair = absurd fair
 
-same_block : (one other : StatusBlock) (r : Result StatusBlock OrbFault) → r ≡ Ok one → r ≡ Ok other → one ≡ other
+pub same_block : (one other : StatusBlock) (r : Result StatusBlock OrbFault) → r ≡ Ok one → r ≡ Ok other → one ≡ other
 same_block one other r e f = let g = sym e ∙ f in cc
 
 row_as : (src orb : ℕ) (kind : StatusKind) (block : StatusBlock) → IsFair kind → src < 2 → orb < 2 ^ 48 → read_block false (status_bytes (record { src = src; kind = kind; orb = orb })) ≡ Ok block → IsKind kind → kind ≡ block.kind
 row_as src orb kind block fair s o e k =
     let one : StatusBlock = record { src = src; kind = kind; orb = orb } in
     let mild = plain_kind kind fair in
-    let read : read_block false (status_bytes one) ≡ Ok one = subst (λ b. read_block b (status_bytes one) ≡ Ok one) mild (status_back one (record { src = s; managed = λ m. absurd (no (sym mild ∙ m)); kind = k; orb = o })) in
+    let read : read_block false (status_bytes one) ≡ Ok one = subst (λ b. read_block b (status_bytes one) ≡ Ok one) mild (status_back one (record { src = s; managed = λ m. absurd (false≢true (sym mild ∙ m)); kind = k; orb = o })) in
     ap (λ (b : StatusBlock). b.kind) (same_block one block (read_block false (status_bytes one)) read e)
 
 -- a block that is read has a row
@@ -163,12 +159,12 @@ other_resp bytes resp dead len status e = ap (λ b. ((b && (dead_of bytes == dea
 last_none : (a b c d e f g h : Bool) (x1 x2 x3 x4 x5 x6 : StatusKind) → a ≡ false → b ≡ false → c ≡ false → d ≡ false → f ≡ false → g ≡ false → cond a (Some x1) (cond (b && h) (Some x2) (cond c (Some x3) (cond d (Some x4) (cond (e && f) (Some x5) (cond g (Some x6) None))))) ≡ None
 last_none false false false false true false false h x1 x2 x3 x4 x5 x6 p q r s t u = refl
 last_none false false false false false false false h x1 x2 x3 x4 x5 x6 p q r s t u = refl
-last_none true b c d e f g h x1 x2 x3 x4 x5 x6 p q r s t u = absurd (no (sym p))
-last_none false true c d e f g h x1 x2 x3 x4 x5 x6 p q r s t u = absurd (no (sym q))
-last_none false false true d e f g h x1 x2 x3 x4 x5 x6 p q r s t u = absurd (no (sym r))
-last_none false false false true e f g h x1 x2 x3 x4 x5 x6 p q r s t u = absurd (no (sym s))
-last_none false false false false e true g h x1 x2 x3 x4 x5 x6 p q r s t u = absurd (no (sym t))
-last_none false false false false e false true h x1 x2 x3 x4 x5 x6 p q r s t u = absurd (no (sym u))
+last_none true b c d e f g h x1 x2 x3 x4 x5 x6 p q r s t u = absurd (false≢true (sym p))
+last_none false true c d e f g h x1 x2 x3 x4 x5 x6 p q r s t u = absurd (false≢true (sym q))
+last_none false false true d e f g h x1 x2 x3 x4 x5 x6 p q r s t u = absurd (false≢true (sym r))
+last_none false false false true e f g h x1 x2 x3 x4 x5 x6 p q r s t u = absurd (false≢true (sym s))
+last_none false false false false e true g h x1 x2 x3 x4 x5 x6 p q r s t u = absurd (false≢true (sym t))
+last_none false false false false e false true h x1 x2 x3 x4 x5 x6 p q r s t u = absurd (false≢true (sym u))
 
 module _ (bytes : List ℕ) (meaning : ℕ) (r : IsRefusal bytes meaning) (out : is_among illegal_meanings meaning ≡ false) where
   two : (n : ℕ) → (2 == n) ≡ false → (resp_of bytes == n) ≡ false

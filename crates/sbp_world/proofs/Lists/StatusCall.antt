@@ -2,6 +2,7 @@
 -- ended in this call with a null next pointer, which its status block tells.
 use Rattle.std.proofs.Common.{arith, ◌≡◌, ◌∙◌, refl, sym, ap, subst, ◌<◌, ◌≤◌, ℕ, suc, nat_eq, Bool, true, false, List, [], ◌∷◌, ◌++◌, map, Option, Some, None}
 use Rattle.std.proofs.lemmas.Bool.Decides.{nat_tests}
+use Rattle.std.proofs.lemmas.Bool.{false≢true}
 use Rattle.bus_transactions.specs.Packets.{SerialsCount}
 use Rattle.command_agent.specs.declared.phase.Phase.{Phase}
 use Rattle.command_agent.specs.declared.phase.Phase.TheVariants as phases
@@ -52,21 +53,19 @@ use Rattle.sbp_world.proofs.Lists.StatusSteps.{rests, rests_in}
 use Rattle.sbp_world.proofs.Lists.StatusTold.{IsDue, told_due}
 use Rattle.sbp_world.proofs.Lists.StatusTurn.{Up}
 use Rattle.sbp_world.proofs.Lists.Turns.{Ready}
-
-no : false ≡ true → ⊥
-no e = cc
+use Rattle.sbp_world.proofs.Common.{moment_joined}
 
 -- ---- an agent that is at the end of its list has it open
 has_in : (phase : Phase) (next : OrbPointer) → rests_in phase next ≡ true → has_list phase ≡ true
-has_in phases.Reset next e = absurd (no e)
-has_in phases.Dead next e = absurd (no e)
+has_in phases.Reset next e = absurd (false≢true e)
+has_in phases.Dead next e = absurd (false≢true e)
 has_in _ next e = refl
 
 pub rests_has : (m : Machine) → rests m ≡ true → has_list m.phase ≡ true
 rests_has m e = has_in m.phase m.orb.next e
 
 up_in : (phase : Phase) (m : Machine) → has_list phase ≡ true → is_up (record m { phase = phase }) ≡ true
-up_in phases.Reset m e = absurd (no e)
+up_in phases.Reset m e = absurd (false≢true e)
 up_in phases.Dead m e = refl
 up_in _ m e = refl
 
@@ -101,10 +100,6 @@ pub record IsFirst (i : ℕ) (m : Moment) (H : List Moment) : Type 0 where
   pub ended : (n : ℕ) → ends (m ∷ H) i n ≡ ends H i n
   pub appended : (n : ℕ) → appends (m ∷ H) i n ≡ appends H i n
   pub still : (terms (m ∷ H)).generation 0 ≡ (terms H).generation 0
-
-joined : (a : List Moment) (m : Moment) (H : List Moment) → (a ++ m ∷ []) ++ H ≡ a ++ m ∷ H
-joined [] m H = refl
-joined (x ∷ a) m H = ap (λ ms. x ∷ ms) (joined a m H)
 
 module _ (wild : ℕ → Bool) (i : ℕ) (own : wild i ≡ false) (H : List Moment) (m : Moment) (more : List Note) (rest : AllOf of_rest more) (first : IsFirst i m H) (low : (terms H).generation 0 ≤ (terms H).generation (suc i)) (after : After wild i H (map said more ++ m ∷ H)) (n k : ℕ) where
   abbrev now : List Moment
@@ -303,7 +298,7 @@ module _ (wild : ℕ → Bool) (past : List Moment) (w : WorldState) (r : Ready 
         at_place layer p d login acting early y true e =
             let same : p ≡ q = grind (arith, nat_tests) in
             (subst (λ a. (b2 : a < 8) → Acting a → (y2 : Acts w r.good layer a b2 (Ours wild past w r a) login early s) → Held (hist past v) i n k) (sym same) (λ b2 acting2 y2. by_told layer b2 login acting2 early y2 y2.told refl)) d acting y
-        at_place layer p d login acting early y false e = by_other layer p d login acting early y (λ same. no (sym e ∙ (let z : nat_eq q p ≡ true = grind (arith, nat_tests) in z))) (nat_eq i (holder w p).initiator) refl
+        at_place layer p d login acting early y false e = by_other layer p d login acting early y (λ same. false≢true (sym e ∙ (let z : nat_eq q p ≡ true = grind (arith, nat_tests) in z))) (nat_eq i (holder w p).initiator) refl
 
         pub call_held : Ends s → Held (hist past v) i n k
         call_held (quiets none stays) = stayed (stays q rs) (sent_ends n ∙ (unended past i n s.outbox.sides u none others ∙ start_ends n))

@@ -4,6 +4,8 @@ use Rattle.std.proofs.Common.{arith, ◌≡◌, ◌∙◌, refl, sym, ap, subst,
 use Rattle.std.specs.Prelude.{slice_index_or}
 use Rattle.std.proofs.lemmas.Bool.Decides.{nat_tests}
 use Rattle.std.proofs.Math.ListN.{length-set}
+use Rattle.std.proofs.lemmas.Bool.{false≢true}
+use Rattle.std.proofs.lemmas.Option.{none-some}
 use Rattle.async_packet.specs.Labels.{LabelParts}
 use Rattle.async_packet.specs.Packet.{Packet, header_in}
 use Rattle.command_agent.specs.declared.phase.Phase.{Phase}
@@ -64,16 +66,13 @@ use Rattle.sbp_target.proofs.Histories.Calling.{Good}
 use Rattle.sbp_target.proofs.Histories.Settled.{reaches}
 use Rattle.sbp_world.specs.Agents.Alike.{has_list}
 use Rattle.sbp_world.proofs.Lists.Follows.{set_here, set_there}
-use Rattle.sbp_world.proofs.Lists.Pointers.{refused}
+use Rattle.sbp_world.proofs.Lists.Pointers.{refused, not_taken}
 use Rattle.sbp_world.proofs.Lists.StatusActs.{Acts, M, answered_quiet, asked_acts, first, late_acts, reply_acts, there}
 use Rattle.sbp_world.proofs.Lists.StatusFollows.{Quiet, Step}
 use Rattle.sbp_world.proofs.Lists.StatusPackets.{AllRead, EndSide, reads_more, told_end}
 use Rattle.sbp_world.proofs.Lists.StatusReads.{IsOfBody, IsRead, answer_reads, asked_body, body_reads}
 use Rattle.sbp_world.proofs.Lists.StatusRests.{Resting, answers, cuts_one, desk_more, manages, starts}
-use Rattle.sbp_world.proofs.Lists.StatusSteps.{rests}
-
-no : false ≡ true → ⊥
-no e = cc
+use Rattle.sbp_world.proofs.Lists.StatusSteps.{rests, none_wrote, read_wrote}
 
 abbrev ok_of : Ask → Result Ask PointRefusal
 ok_of ask = Ok ask
@@ -89,16 +88,13 @@ shut_asks : (phase : Phase) (m : Machine) → has_list phase ≡ false → (door
 unfolding doorbell_step
 shut_asks phases.Reset m e = refl
 shut_asks phases.Dead m e = refl
-shut_asks _ m e = absurd (no (sym e))
+shut_asks _ m e = absurd (false≢true (sym e))
 
 -- there are eight desks
-none_beyond : (desks : List Desk) (k : ℕ) → length desks ≤ k → slice_index_or desks k new_desk ≡ new_desk
+pub none_beyond : (desks : List Desk) (k : ℕ) → length desks ≤ k → slice_index_or desks k new_desk ≡ new_desk
 none_beyond [] k l = refl
 none_beyond (d ∷ desks) zero l = absurd (omega (arith, l))
 none_beyond (d ∷ desks) (suc k) l = none_beyond desks k (omega arith)
-
-none_login : (login : Login) → None ≡ Some login → ⊥
-none_login login e = cc
 
 none_which : (which : Which) → None ≡ Some which → ⊥
 none_which which e = cc
@@ -157,39 +153,30 @@ rung_by_phase phases.Suspended m r = refl
 rung_rests : (m : Machine) → rests (doorbell_step m).1 ≡ true → rests m ≡ true
 rung_rests m r = rung_by_phase m.phase m r
 
-none_write : (offset size : ℕ) → asks.Nothing ≡ asks.Write offset size → ⊥
-none_write offset size e = cc
-
-read_write : (at len offset size : ℕ) → asks.Read at len ≡ asks.Write offset size → ⊥
-read_write at len offset size e = cc
-
 pub rung_reads : (phase : Phase) (m : Machine) (offset size : ℕ) → (doorbell_step (record m { phase = phase })).0 ≡ asks.Write offset size → ⊥
 unfolding doorbell_step
-rung_reads phases.Reset m offset size e = none_write offset size e
-rung_reads phases.Dead m offset size e = none_write offset size e
-rung_reads phases.Fetching m offset size e = none_write offset size e
-rung_reads phases.ReadingTable m offset size e = none_write offset size e
-rung_reads (phases.ReadingData wanted) m offset size e = none_write offset size e
-rung_reads phases.Answering m offset size e = none_write offset size e
-rung_reads phases.WritingStatus m offset size e = none_write offset size e
-rung_reads phases.WritingLastStatus m offset size e = none_write offset size e
-rung_reads phases.ReadingNext m offset size e = none_write offset size e
-rung_reads phases.Suspended m offset size e = read_write m.present 8 offset size e
-
-no_error : (refusal : PointRefusal) (ask : Ask) → Err refusal ≡ Ok ask → ⊥
-no_error refusal ask e = cc
+rung_reads phases.Reset m offset size e = none_wrote offset size e
+rung_reads phases.Dead m offset size e = none_wrote offset size e
+rung_reads phases.Fetching m offset size e = none_wrote offset size e
+rung_reads phases.ReadingTable m offset size e = none_wrote offset size e
+rung_reads (phases.ReadingData wanted) m offset size e = none_wrote offset size e
+rung_reads phases.Answering m offset size e = none_wrote offset size e
+rung_reads phases.WritingStatus m offset size e = none_wrote offset size e
+rung_reads phases.WritingLastStatus m offset size e = none_wrote offset size e
+rung_reads phases.ReadingNext m offset size e = none_wrote offset size e
+rung_reads phases.Suspended m offset size e = read_wrote m.present 8 offset size e
 
 pub record Points (m : Machine) (s : Result Ask PointRefusal × Machine) (ask : Ask) : Type 0 where
   off : rests s.1 ≡ false
   pub mild : (offset size : ℕ) → ask ≡ asks.Write offset size → ⊥
 
 points_in : (state : AgentState) (m : Machine) (pointer : OrbPointer) (ask : Ask) → (point_in state m pointer).0 ≡ Ok ask → Points m (point_in state m pointer) ask
-points_in states.Reset m Null ask e = absurd (no_error _ ask e)
-points_in states.Reset m (At next) ask e = record { off = refl; mild = λ offset size f. read_write _ 32 offset size (same_ask _ ask e ∙ f) }
-points_in states.Suspended m Null ask e = absurd (no_error _ ask e)
-points_in states.Suspended m (At next) ask e = record { off = refl; mild = λ offset size f. read_write _ 32 offset size (same_ask _ ask e ∙ f) }
-points_in states.Active m pointer ask e = absurd (no_error _ ask e)
-points_in states.Dead m pointer ask e = absurd (no_error _ ask e)
+points_in states.Reset m Null ask e = absurd (not_taken _ ask e)
+points_in states.Reset m (At next) ask e = record { off = refl; mild = λ offset size f. read_wrote _ 32 offset size (same_ask _ ask e ∙ f) }
+points_in states.Suspended m Null ask e = absurd (not_taken _ ask e)
+points_in states.Suspended m (At next) ask e = record { off = refl; mild = λ offset size f. read_wrote _ 32 offset size (same_ask _ ask e ∙ f) }
+points_in states.Active m pointer ask e = absurd (not_taken _ ask e)
+points_in states.Dead m pointer ask e = absurd (not_taken _ ask e)
 
 pub points_at : (m : Machine) (pointer : OrbPointer) (ask : Ask) → (point_step m pointer).0 ≡ Ok ask → Points m (point_step m pointer) ask
 unfolding point_step
@@ -224,7 +211,7 @@ module _ (w : WorldState) (g : Good w.target) (Ours Up : ℕ → Type 0) (Its : 
     where
       by : (x : Bool) → nat_eq p q ≡ x → A
       by true e = f (let z : p ≡ q = grind (arith, nat_tests) in z)
-      by false e = h (λ same. no (sym e ∙ (let z : nat_eq p q ≡ true = grind (arith, nat_tests) in z)))
+      by false e = h (λ same. false≢true (sym e ∙ (let z : nat_eq p q ≡ true = grind (arith, nat_tests) in z)))
 
   idle_quiet : (layer : Layer Purpose) (q : ℕ) (b : q < 8) (login : Login) (m : Machine) (s : Scene) → (rests m ≡ true → rests (N layer q) ≡ true) → Quiet q b login (Ours q) (N layer) None m s → Called layer s
   idle_quiet layer q b login m s h k = idles (record {
@@ -274,9 +261,9 @@ module _ (w : WorldState) (g : Good w.target) (Ours Up : ℕ → Type 0) (Its : 
 
       mild_asks : (one : Login) (m : Machine) (ask : Ask) → ((offset size : ℕ) → ask ≡ asks.Write offset size → ⊥) → (Ours q → has_list m.phase ≡ true → m.present < 2 ^ 48) → Step q b one (Ours q) (N layer) (steps.asks ask) m
       mild_asks one m ask mild small = record {
-        mild = record { ends = tt; small = λ ours e. absurd (no e); apart = λ ours e offset size f fifo. mild offset size f };
+        mild = record { ends = tt; small = λ ours e. absurd (false≢true e); apart = λ ours e offset size f fifo. mild offset size f };
         small = small;
-        ahead = λ offset size e. none_write offset size e;
+        ahead = λ offset size e. none_wrote offset size e;
       }
 
       abbrev rung : Machine
@@ -333,7 +320,7 @@ module _ (w : WorldState) (g : Good w.target) (Ours Up : ℕ → Type 0) (Its : 
                 read = tt;
               } in
               subst (λ y. Called layer (pointed_by q request bytes (pointed_desk (desk_at here.node q) (y, now)) here)) (sym e)
-              (asked_called (up ask e) now ask x (login_at x.node q) (logins_same complete [] t) (λ r. absurd (no (sym is.off ∙ r))) (λ one. mild_asks one now ask is.mild (λ ours h. small ask e ours)) (λ one. answered_quiet w g layer q b (Ours q) request bytes one complete [] now t (k one)))
+              (asked_called (up ask e) now ask x (login_at x.node q) (logins_same complete [] t) (λ r. absurd (false≢true (sym is.off ∙ r))) (λ one. mild_asks one now ask is.mild (λ ours h. small ask e ours)) (λ one. answered_quiet w g layer q b (Ours q) request bytes one complete [] now t (k one)))
           by (Err refusal) e =
               let now = (point_step (N layer q) pointer).1 in
               let d : Desk = record (desk_at here.node q) { agent = now } in
@@ -414,7 +401,7 @@ module _ (w : WorldState) (g : Good w.target) (Ours Up : ℕ → Type 0) (Its : 
         where
           is_served : (x : Bool) (one : Login) → cond x (Some one) None ≡ Some login → Some one ≡ Some login
           is_served true one f = f
-          is_served false one f = absurd (none_login login f)
+          is_served false one f = absurd (none-some login f)
 
           served_is : (o : Option Login) → if_served (length w.target.units) o ≡ Some login → o ≡ Some login
           served_is None f = f

@@ -25,6 +25,7 @@ use Rattle.sbp_laws.specs.Packets.{id_for}
 use Rattle.sbp_laws.specs.Targets.{place_on, plain_of, target_at}
 use Rattle.sbp_laws.specs.Terms.{Request as Asked, ended_status, ran_status, request_at, status_of}
 use Rattle.std.proofs.lemmas.Bool.Decides.{nat_tests}
+use Rattle.std.proofs.lemmas.Option.{same_Some, none-some}
 use Rattle.sbp_world.specs.Lists.Statuses.{IsTold}
 
 -- ---- checks
@@ -170,11 +171,6 @@ found_row None plain place cdb bytes sense r = absurd r
 found_row (Some request) plain place cdb bytes sense r = runs_row request plain place cdb bytes sense r
 
 -- ---- by a history
-some_kind : (x y : StatusKind) → Some x ≡ Some y → x ≡ y
-some_kind x y e = cc
-
-none_kind : (x : StatusKind) → None ≡ Some x → ⊥
-none_kind x e = cc
 
 good_check : (sense : Sense) → kinds.Good ≡ kinds.Check sense → ⊥
 good_check sense e = cc
@@ -183,14 +179,14 @@ same_check : (x y : Sense) → kinds.Check x ≡ kinds.Check y → x ≡ y
 same_check x y e = cc
 
 check_of_run : (found : Option Asked) (plain : PlainDisk) (place : ℕ) (cdb bytes : List ℕ) (check : Option Sense) (sense : Sense) → Some (status_of check) ≡ Some (kinds.Check sense) → IsSomeAnd found (λ request. RunsOn request plain place cdb bytes check) → Row sense
-check_of_run found plain place cdb bytes None sense e r = absurd (good_check sense (some_kind kinds.Good (kinds.Check sense) e))
+check_of_run found plain place cdb bytes None sense e r = absurd (good_check sense (same_Some kinds.Good (kinds.Check sense) e))
 check_of_run found plain place cdb bytes (Some other) sense e r =
-    subst Row (same_check other sense (some_kind (kinds.Check other) (kinds.Check sense) e)) (found_row found plain place cdb bytes other r)
+    subst Row (same_check other sense (same_Some (kinds.Check other) (kinds.Check sense) e)) (found_row found plain place cdb bytes other r)
 
 module _ (wild : ℕ → Bool) (start : List Disk) (i : ℕ) (own : wild i ≡ false) where
   -- a command that ran and ended with a check
   ran_row : (past : List Moment) → ExecutionLaw wild start past → (n k : ℕ) (sense : Sense) → ran_status past i n k ≡ Some (kinds.Check sense) → Row sense
-  ran_row [] law n k sense e = absurd (none_kind (kinds.Check sense) e)
+  ran_row [] law n k sense e = absurd (none-some (kinds.Check sense) e)
   ran_row (said (notes.Ran j (Some m) (Some l) unit cdb bytes check) ∷ past) law n k sense e = by (nat_eq i j) (nat_eq n m) (nat_eq k l) refl (λ f. ran_row past law.1 n k sense f) e
     where
       here : nat_eq i j ≡ true → Some (status_of check) ≡ Some (kinds.Check sense) → Row sense
@@ -218,7 +214,7 @@ module _ (wild : ℕ → Bool) (start : List Disk) (i : ℕ) (own : wild i ≡ f
 
   -- and an ORB that ended
   pub ended_told : (past : List Moment) → ExecutionLaw wild start past → (n k : ℕ) (status : StatusKind) → ended_status past i n k ≡ Some status → IsTold status
-  ended_told [] law n k status e = absurd (none_kind status e)
+  ended_told [] law n k status e = absurd (none-some status e)
   ended_told (said (notes.Ended j (Some m) (Some l) last) ∷ past) law n k status e =
       by (nat_eq i j) (nat_eq n m) (nat_eq k l) refl (λ f. ended_told past law.1 n k status f) e
     where
@@ -228,7 +224,7 @@ module _ (wild : ℕ → Bool) (start : List Disk) (i : ℕ) (own : wild i ≡ f
           subst IsTold is (may_told past law.1 m l last (subst (λ a. MayEndWith last (ran_status past a m l)) (sym j_is) (law.0 (ap wild (sym j_is) ∙ own))))
 
       by : (x y z : Bool) → nat_eq i j ≡ x → (ended_status past i n k ≡ Some status → IsTold status) → cond x (cond y (cond z (Some last) (ended_status past i n k)) (ended_status past i n k)) (ended_status past i n k) ≡ Some status → IsTold status
-      by true true true same rest f = here same (some_kind last status f)
+      by true true true same rest f = here same (same_Some last status f)
       by true true false same rest f = rest f
       by true false z same rest f = rest f
       by false y z same rest f = rest f

@@ -1,6 +1,7 @@
 -- Each step of an agent along a list of an initiator names an ORB in a slot, and reads ahead alone; so what it hands out is as the calls of the target have it, where
 -- the bytes of an answer are written to no FIFO.
 use Rattle.std.proofs.Common.{arith, ◌≡◌, ◌∙◌, refl, ◌<◌, ◌^◌, nat_eq, ℕ, Bool, true, false, cond, is_some, List, [], ◌∷◌, length, Option, Some, None, IfSome, Result, Ok, Err}
+use Rattle.std.proofs.lemmas.Bool.{false≢true}
 use Rattle.async_packet.specs.Labels.{LabelParts}
 use Rattle.async_packet.specs.Packet.{Packet, header_in}
 use Rattle.label_table.specs.Layer.{Layer, judging_step, of_request, of_response}
@@ -56,9 +57,6 @@ use Rattle.sbp_world.proofs.Lists.StatusPackets.{IsInbox}
 use Rattle.sbp_world.proofs.Lists.StatusSteps.{Leaves, lost_leaves, replied_leaves}
 use Rattle.sbp_world.proofs.Lists.Turns.{Ready}
 
-no : false ≡ true → ⊥
-no e = cc
-
 -- ---- each ORB has a slot
 slot_or : (x y z : Bool) (slot old : ℕ) → slot < 32 → old < 32 → cond x (cond y (cond z slot old) old) old < 32
 slot_or true true true slot old a b = a
@@ -88,14 +86,14 @@ module _ (past : List Moment) (i n : ℕ) (small : (k : ℕ) → slot_at past i 
   by_phase p phases.WritingLastStatus m k h = place_small k.over.last m.present k.over.place
   by_phase p phases.ReadingNext m k h = place_small k.over.last m.present k.over.place
   by_phase p phases.Suspended m k h = place_small k.over.last m.present k.over.place
-  by_phase p phases.Reset m k h = absurd (no h)
-  by_phase p phases.Dead m k h = absurd (no h)
+  by_phase p phases.Reset m k h = absurd (false≢true h)
+  by_phase p phases.Dead m k h = absurd (false≢true h)
 
   pub along_small : (p : Progress) (m : Machine) → Along l p m → has_list m.phase ≡ true → m.present < 2 ^ 48
   along_small p m a h = by_phase p m.phase m a.main h
 
   ended_small : (p : Progress) (ended : Option StatusKind) (s : AgentStep × Machine) → IfSome ended (λ kind. IsEnd l p kind s.1.present s.1.orb s.1.outgoing s.0.ask) → is_some ended ≡ true → s.1.present < 2 ^ 48
-  ended_small p None s e h = absurd (no h)
+  ended_small p None s e h = absurd (false≢true h)
   ended_small p (Some kind) s e h = place_small p.ended s.1.present e.turn.place
 
   -- a step along the list
@@ -121,8 +119,8 @@ begun_phase _ m at e = refl
 
 rung_phase : (phase : Phase) (m : Machine) → has_list (doorbell_step (record m { phase = phase })).1.phase ≡ true → has_list phase ≡ true
 unfolding doorbell_step
-rung_phase phases.Reset m h = absurd (no h)
-rung_phase phases.Dead m h = absurd (no h)
+rung_phase phases.Reset m h = absurd (false≢true h)
+rung_phase phases.Dead m h = absurd (false≢true h)
 rung_phase phases.WritingLastStatus m h = h
 rung_phase _ m h = refl
 

@@ -2,6 +2,8 @@
 -- last its ORB is the last that ended. And where the agent is at the end of its list then, the status block that leaves has src 1.
 use Rattle.std.proofs.Common.{arith, ◌≡◌, ◌∙◌, refl, sym, ap, subst, ◌==◌, ◌&&◌, ℕ, suc, nat_eq, Bool, true, false, cond, List, [], ◌∷◌, Option, Some, None}
 use Rattle.std.proofs.lemmas.Bool.Decides.{nat_tests}
+use Rattle.std.proofs.lemmas.Bool.{false≢true}
+use Rattle.std.proofs.lemmas.Option.{none-some, same_Some}
 use Rattle.command_agent.specs.Machine.{Machine}
 use Rattle.orb_layout.specs.declared.status.StatusKind.{StatusKind}
 use Rattle.orb_list.specs.Tickets.{TicketParts}
@@ -22,29 +24,15 @@ use Rattle.sbp_world.proofs.Agents.Management.Still.{hist}
 use Rattle.sbp_world.specs.Hosts.Handing.{AreOthers}
 use Rattle.sbp_world.proofs.Lists.Passing.{PassLaw}
 use Rattle.sbp_world.proofs.Lists.StatusNull.{AreNull, NullAt}
-use Rattle.sbp_world.proofs.Lists.StatusPackets.{AllPlain, AreOf, EndSide, IsOf, IsPlain, OfEnd, Spelled, one_end, or_before, read_plain, sends_none, sends_read, sends_write, told_end}
+use Rattle.sbp_world.proofs.Lists.StatusPackets.{AllPlain, AreOf, EndSide, IsOf, IsPlain, OfEnd, Spelled, one_end, read_plain, sends_none, sends_read, sends_write, told_end}
 use Rattle.sbp_world.proofs.Lists.StatusSends.{sent_generations, sent_on}
 use Rattle.sbp_world.proofs.Lists.StatusSteps.{rests}
 use Rattle.sbp_world.proofs.Lists.StatusTold.{one_leaves}
-
-no : false ≡ true → ⊥
-no e = cc
-
-itself : (a : ℕ) → nat_eq a a ≡ true
-itself a = grind (arith, nat_tests)
+use Rattle.sbp_world.proofs.Common.{itself}
+use Rattle.sbp_world.proofs.Lists.EndTells.{both_none}
 
 some_end : (one : EndSide) → Some one ≡ None → ⊥
 some_end one e = cc
-
-none_due : (one : EndedOrb) → None ≡ Some one → ⊥
-none_due one e = cc
-
-same_due : (x y : EndedOrb) → Some x ≡ Some y → x ≡ y
-same_due x y e = cc
-
-both_none : (x y : Option EndSide) → or_before x y ≡ None → (x ≡ None) × (y ≡ None)
-both_none None y e = (refl, e)
-both_none (Some x) y e = absurd (some_end x e)
 
 -- ---- what is told
 module _ (past : List Moment) (i n : ℕ) where
@@ -111,17 +99,17 @@ module _ (wild : ℕ → Bool) (i : ℕ) (own : wild i ≡ false) where
 
   ended_last : (past : List Moment) (j m l : ℕ) (status : StatusKind) → (wild j ≡ false → l ≡ ends past j m) → (one : EndedOrb) → Some (record { initiator = j; one = orb m l }) ≡ Some one → one.initiator ≡ i → ends (said (notes.Ended j (Some m) (Some l) status) ∷ past) i one.one.list ≡ suc one.one.number
   ended_last past j m l status at one e same =
-      let is : record { initiator = j; one = orb m l } ≡ one = same_due _ one e in
+      let is : record { initiator = j; one = orb m l } ≡ one = same_Some _ one e in
       let here : j ≡ i = ap (λ (x : EndedOrb). x.initiator) is ∙ same in
       subst (λ (x : EndedOrb). ends (said (notes.Ended j (Some m) (Some l) status) ∷ past) i x.one.list ≡ suc x.one.number) is
       (subst (λ a. ends (said (notes.Ended j (Some m) (Some l) status) ∷ past) a m ≡ suc l) here (ended_count past j m l status (at (ap wild here ∙ own))))
 
   pub due_last : (past : List Moment) → PassLaw wild past → (one : EndedOrb) → status_due past ≡ Some one → one.initiator ≡ i → ends past i one.one.list ≡ suc one.one.number
-  due_last [] law one e same = absurd (none_due one e)
-  due_last (asked line event ∷ past) law one e same = absurd (none_due one e)
-  due_last (said (notes.Got serial) ∷ past) law one e same = absurd (none_due one e)
-  due_last (said (notes.Ignored serial cause) ∷ past) law one e same = absurd (none_due one e)
-  due_last (said (notes.TimedOut serial) ∷ past) law one e same = absurd (none_due one e)
+  due_last [] law one e same = absurd (none-some one e)
+  due_last (asked line event ∷ past) law one e same = absurd (none-some one e)
+  due_last (said (notes.Got serial) ∷ past) law one e same = absurd (none-some one e)
+  due_last (said (notes.Ignored serial cause) ∷ past) law one e same = absurd (none-some one e)
+  due_last (said (notes.TimedOut serial) ∷ past) law one e same = absurd (none-some one e)
   due_last (said (notes.Ended j (Some m) (Some l) status) ∷ past) law one e same = ended_last past j m l status (λ mild. (law.0 mild).turn.number) one e same
   due_last (said (notes.Ended j (Some m) None status) ∷ past) law one e same = due_last past law.1 one e same
   due_last (said (notes.Ended j None l status) ∷ past) law one e same = due_last past law.1 one e same
@@ -129,13 +117,13 @@ module _ (wild : ℕ → Bool) (i : ℕ) (own : wild i ≡ false) where
 
 -- ---- what leaves behind an end
 all_four : (a b c d : Bool) → (a && b && c && d) ≡ true → d ≡ true
-all_four false b c d e = absurd (no e)
-all_four true false c d e = absurd (no e)
-all_four true true false d e = absurd (no e)
+all_four false b c d e = absurd (false≢true e)
+all_four true false c d e = absurd (false≢true e)
+all_four true true false d e = absurd (false≢true e)
 all_four true true true d e = e
 
 due_to : (due : Option EndedOrb) (i n k to : ℕ) → is_due due i n k to ≡ true → to ≡ suc i
-due_to None i n k to e = absurd (no e)
+due_to None i n k to e = absurd (false≢true e)
 due_to (Some one) i n k to e = let z = all_four (one.initiator == i) (one.one.list == n) (one.one.number == k) (to == suc i) e in (let same : to ≡ suc i = grind (arith, nat_tests) in same)
 
 abbrev gen_of : WorldState → ℕ

@@ -3,6 +3,8 @@
 use Rattle.std.proofs.Common.{arith, ◌≡◌, ◌∙◌, ◌⊎◌, inl, inr, refl, sym, ap, subst, ◌<◌, ◌≤◌, ◌^◌, nat_le, is_some, ℕ, Bool, true, false, cond, List, [], ◌∷◌, ◌++◌, length, Option, Some, None, IfSome, Ok}
 use Rattle.std.proofs.lemmas.Bool.Decides.{nat_tests}
 use Rattle.std.proofs.Math.ListN.{length-set}
+use Rattle.std.proofs.lemmas.Bool.{false≢true}
+use Rattle.std.proofs.lemmas.Option.{same_Some, none-some}
 use Rattle.async_packet.specs.Labels.{LabelParts}
 use Rattle.bus_memory.specs.declared.window.Window.TheVariants as windows
 use Rattle.bus_memory.specs.Windows.{window_at}
@@ -39,13 +41,7 @@ use Rattle.sbp_world.proofs.Lists.StatusBytes.{Wrote, written_at, wrote}
 use Rattle.sbp_world.proofs.Lists.StatusLosses.{block_ends, lost_asks, lost_present, place_ends, quiet_ahead, sent_has}
 use Rattle.sbp_world.proofs.Lists.StatusPackets.{AllFed, AllLogged, IsLogged, all_logged, logged_more, plain_logged, AllNamed, AllRead, AreOf, EndSide, IsEnd, IsEndOf, IsFed, IsFedBy, IsInbox, IsNamed, IsOfEnd, Spelled, ToldSo, all_fed, all_named, all_reads, apart_named, at_own, end_of, fed_more, named_more, of_another, of_buffer, of_fifo, one_plain, one_writes, or_before, read_apart, read_fed, read_plain, reads_more, spelled_as, step_end, step_of, step_packets, told_end}
 use Rattle.sbp_world.proofs.Lists.StatusReads.{IsOfBody, IsRead, asked_body, body_reads, reads_body}
-use Rattle.sbp_world.proofs.Lists.StatusSteps.{EndsSo, Leaves, lost_leaves, rests}
-
-same_access : (x y : Access) → Some x ≡ Some y → x ≡ y
-same_access x y e = cc
-
-no : false ≡ true → ⊥
-no e = cc
+use Rattle.sbp_world.proofs.Lists.StatusSteps.{EndsSo, Leaves, lost_leaves, rests, none_wrote}
 
 -- ---- at a place
 module _ (q : ℕ) (b : q < 8) (login : Login) (Ours : Type 0) (machines : ℕ → Machine) where
@@ -210,7 +206,7 @@ module _ (q : ℕ) (b : q < 8) (login : Login) (Ours : Type 0) (machines : ℕ �
         of_logged packet is ours slot block w access e =
             let bytes_are = ap (λ (p : Outgoing). p.bytes) is ∙ of in
             let x : Wrote access at payload = wrote asked.label.number s.node.layer.node login.node at payload small access (subst (λ bytes. access_in_bytes bytes ≡ Some access) bytes_are e) in
-            logged ours access.offset x.offset_is (subst (λ (a : Access). IsFifo a.offset) (same_access w.access access (sym w.is ∙ e)) w.goes)
+            logged ours access.offset x.offset_is (subst (λ (a : Access). IsFifo a.offset) (same_Some w.access access (sym w.is ∙ e)) w.goes)
 
         of_buffers : (packet : Outgoing) → packet ≡ record { to = login.node; label = Some asked.label; bytes = asked.bytes } → IsFed s.node.logins login Ours packet
         of_buffers packet is y =
@@ -286,9 +282,6 @@ module _ (q : ℕ) (b : q < 8) (login : Login) (Ours : Type 0) (machines : ℕ �
 
   other_set : (node : NodeState) (m : Machine) (p : ℕ) → length node.desks ≡ 8 → (p ≡ q → ⊥) → (desk_at (with_agent node q m) p).agent ≡ (desk_at node p).agent
   other_set node m p e f = ap (λ (x : Desk). x.agent) (set_there node q p (record (desk_at node q) { agent = m }) (inside node e) f)
-
-  none_wrote : (offset size : ℕ) → asks.Nothing ≡ asks.Write offset size → ⊥
-  none_wrote offset size e = cc
 
   loss_mild : (m : Machine) → (Ours → m.present < 2 ^ 48) → Mild (Loss m).0 (Loss m).1
   loss_mild m small = record {
@@ -374,7 +367,7 @@ module _ (q : ℕ) (b : q < 8) (login : Login) (Ours : Type 0) (machines : ℕ �
 
   unsent_by : (told : Option EndSide) (m : Machine) (s : Scene) → Quiet told m s → has_list m.phase ≡ false → (y : Bool) → is_sent (A s).phase ≡ y → is_sent (A s).phase ≡ false
   unsent_by told m s k e false f = f
-  unsent_by told m s k e true f = absurd (no (sym e ∙ sent_has m.phase (ap (λ (x : Machine). is_sent x.phase) (sym k.agent) ∙ f)))
+  unsent_by told m s k e true f = absurd (false≢true (sym e ∙ sent_has m.phase (ap (λ (x : Machine). is_sent x.phase) (sym k.agent) ∙ f)))
 
   loses_main : (told : Option EndSide) (m : Machine) (s : Scene) → (Ours → has_list m.phase ≡ true → m.present < 2 ^ 48) → Quiet told m s → Followed told m (lose_main q login s)
   unfolding lose_main
@@ -419,18 +412,12 @@ module _ (q : ℕ) (b : q < 8) (login : Login) (Ours : Type 0) (machines : ℕ �
         pick_done _ (false, s) (ahead_sent q login.node s.node (request_step s.node.layer s.outbox login.node body (purposes.Agent q))) d
         (one_more body (f body refl) (asking_step s.node.layer login.node body (purposes.Agent q)) (asked_body s.node.layer login.node body (purposes.Agent q)))
 
-    same_body : (x y : Body) → Some x ≡ Some y → x ≡ y
-    same_body x y e = cc
-
-    none_body : (x : Body) → None ≡ Some x → ⊥
-    none_body x e = cc
-
     picked_reads : (x : Bool) (offset len : ℕ) (one : Body) → cond x (Some (block_read offset len)) None ≡ Some one → reads_body one ≡ true
-    picked_reads true offset len one e = ap reads_body (sym (same_body (block_read offset len) one e))
-    picked_reads false offset len one e = absurd (none_body one e)
+    picked_reads true offset len one e = ap reads_body (sym (same_Some (block_read offset len) one e))
+    picked_reads false offset len one e = absurd (none-some one e)
 
     ahead_reads : (ask : Ask) (outgoing : List ℕ) → ((offset size : ℕ) → ask ≡ asks.Write offset size → ⊥) → (one : Body) → agent_body ask false login.fifo outgoing ≡ Some one → reads_body one ≡ true
-    ahead_reads asks.Nothing outgoing f one e = absurd (none_body one e)
+    ahead_reads asks.Nothing outgoing f one e = absurd (none-some one e)
     ahead_reads (asks.Read offset len) outgoing f one e = picked_reads (nat_le len 2048) offset len one e
     ahead_reads (asks.Write offset size) outgoing f one e = absurd (f offset size refl)
 

@@ -1,5 +1,6 @@
 -- What the target hands out in a turn of the agent of a place: each write of a status that is sent to an initiator is the packet of the ORB that ended in it.
 use Rattle.std.proofs.Common.{arith, ◌≡◌, ◌∙◌, refl, sym, ap, subst, ◌≤◌, ℕ, suc, Bool, false, List, Option, Some, None, ◌<◌}
+use Rattle.std.proofs.lemmas.Option.{same_Some, none-some}
 use Rattle.bus_memory.specs.Windows.{slot_of}
 use Rattle.command_agent.specs.Machine.{Machine}
 use Rattle.orb_layout.specs.declared.status.StatusBlock.{StatusBlock}
@@ -26,18 +27,6 @@ use Rattle.sbp_world.proofs.Lists.StatusMoments.{HasTaken, below as below_ends}
 use Rattle.sbp_world.proofs.Lists.StatusPackets.{EndSide, IsOfEnd, Spelled, ToldSo}
 use Rattle.sbp_world.proofs.Lists.StatusSends.{AllOut, Fits, all_send}
 use Rattle.sbp_world.proofs.Lists.StatusTold.{IsDue, Leaves, all_leave, law_before, told_due}
-
-none_end : (one : EndSide) → None ≡ Some one → ⊥
-none_end one e = cc
-
-same_end : (x y : EndSide) → Some x ≡ Some y → x ≡ y
-same_end x y e = cc
-
-same_some : (x y : ℕ) → Some x ≡ Some y → x ≡ y
-same_some x y e = cc
-
-none_some : (x : ℕ) → None ≡ Some x → ⊥
-none_some x e = cc
 
 module _ (wild : ℕ → Bool) (i : ℕ) (own : wild i ≡ false) (past : List Moment) (w : WorldState) where
   -- behind the first note of a turn
@@ -104,10 +93,10 @@ module _ (wild : ℕ → Bool) (i : ℕ) (own : wild i ≡ false) (past : List M
     -- no end was told
     pub none_told : ToldSo q outbox.sides None → Spelled q peer Ours None m outbox.packets → AllOut (Ours × Mine) outbox.packets → EachMoment (SentSo i) (hist past (handed_out 0 0 outbox u))
     none_told so spelled out =
-        all_send i 0 0 gen q peer Ours Mine ⊥ None m (λ mine block of. none_end of.one of.is) past outbox.packets x spelled out (gen_is None so spelled) (ours_there None so spelled) (record {
+        all_send i 0 0 gen q peer Ours Mine ⊥ None m (λ mine block of. none-some of.one of.is) past outbox.packets x spelled out (gen_is None so spelled) (ours_there None so spelled) (record {
           due = λ t. absurd t;
           none = λ t. absurd t;
-          fits = λ mine slot block of at. absurd (none_end of.one of.is);
+          fits = λ mine slot block of at. absurd (none-some of.one of.is);
           sends = each_there None so spelled;
         })
 
@@ -121,7 +110,7 @@ module _ (wild : ℕ → Bool) (i : ℕ) (own : wild i ≡ false) (past : List M
 
       by_ticket : (t : Option TicketParts) → ticket_of w i one.orb ≡ t → EachMoment (SentSo i) (hist past (handed_out 0 0 outbox u))
       by_ticket None e =
-          let absent : Mine → ⊥ = λ mine. let d = due_of mine in none_some d.list (ap list_in (sym (begins.tickets one.orb ∙ e)) ∙ d.list_is) in
+          let absent : Mine → ⊥ = λ mine. let d = due_of mine in none-some d.list (ap list_in (sym (begins.tickets one.orb ∙ e)) ∙ d.list_is) in
           all_send i 0 0 gen q peer Ours Mine ⊥ told m (λ mine block of. absent mine) past outbox.packets x spelled out (gen_is told so spelled) (ours_there told so spelled) (record {
             due = λ t. absurd t;
             none = λ t. absurd t;
@@ -137,10 +126,10 @@ module _ (wild : ℕ → Bool) (i : ℕ) (own : wild i ≡ false) (past : List M
           })
         where
           list_same : (mine : Mine) → t.list ≡ (due_of mine).list
-          list_same mine = let d = due_of mine in same_some t.list d.list (ap list_in (sym (begins.tickets one.orb ∙ e)) ∙ d.list_is)
+          list_same mine = let d = due_of mine in same_Some t.list d.list (ap list_in (sym (begins.tickets one.orb ∙ e)) ∙ d.list_is)
 
           number_same : (mine : Mine) → t.number ≡ (due_of mine).number
-          number_same mine = let d = due_of mine in same_some t.number d.number (ap orb_in (sym (begins.tickets one.orb ∙ e)) ∙ d.number_is)
+          number_same mine = let d = due_of mine in same_Some t.number d.number (ap orb_in (sym (begins.tickets one.orb ∙ e)) ∙ d.number_is)
 
           above : Mine → ends (hist past w) i t.list ≤ t.number
           above mine =
@@ -167,7 +156,7 @@ module _ (wild : ℕ → Bool) (i : ℕ) (own : wild i ≡ false) (past : List M
           fits_it : (mine : Mine) (slot : ℕ) (block : StatusBlock) (of : IsOfEnd q told m block) → slot_of block.orb ≡ Some slot → Fits i t.list t.number gen q peer Ours Mine Mine told m (λ mine block of. mine) (hist past x) slot block
           fits_it mine slot block of at =
               let d = due_of mine in
-              let same : one ≡ of.one = same_end one of.one of.is in
+              let same : one ≡ of.one = same_Some one of.one of.is in
               let up = above mine in
               let free = untaken told so spelled t.list t.number up in
               let at_start : HasTaken (hist past u) i t.list t.number → ⊥ = λ h. free (untaken_start told so spelled t.list t.number h) in

@@ -2,6 +2,8 @@
 -- as it is sent. A status is taken right behind the note that its packet was got, and until then the slot of the ORB keeps it.
 use Rattle.std.proofs.Common.{arith, ◌≡◌, ◌∙◌, refl, sym, ap, subst, inl, inr, ◌⊎◌, ◌<◌, ◌≤◌, ℕ, suc, Bool, true, false, List, [], ◌∷◌, ◌++◌, Option, Some, None}
 use Rattle.std.specs.Prelude.{IsSomeAnd}
+use Rattle.std.proofs.lemmas.Bool.{false≢true}
+use Rattle.std.proofs.lemmas.Option.{same_Some}
 use Rattle.async_packet.specs.Reading.{reading}
 use Rattle.bus_memory.specs.declared.window.Window.TheVariants as windows
 use Rattle.bus_memory.specs.Windows.{start}
@@ -29,16 +31,7 @@ use Rattle.sbp_world.proofs.Lists.Passing.{PassLaw}
 use Rattle.sbp_world.proofs.Lists.Stands.{Stands, standing}
 use Rattle.sbp_world.proofs.Lists.StatusKnown.{IsKnown, WaitsSo, Where, generation_grows, got_by, is_before, is_here, known_less, old_seen, old_waits, sent_where, some_of, spelled, taken_judged, waits_so, writes_no_rom}
 use Rattle.sbp_world.proofs.Lists.StatusMoments.{HasTaken, below, latest_of}
-
-no : false ≡ true → ⊥
-no e = cc
-
-same_serial : (x y : ℕ) → Some x ≡ Some y → x ≡ y
-same_serial x y e = cc
-
-split : (a b c : List Moment) → a ++ (b ++ c) ≡ (a ++ b) ++ c
-split [] b c = refl
-split (m ∷ a) b c = ap (λ ms. m ∷ ms) (split a b c)
+use Rattle.sbp_world.proofs.Common.{moments_split}
 
 module _ (wild : ℕ → Bool) (i : ℕ) (own : wild i ≡ false) (all : List Moment) (counted : SerialsCount all) (once : (serial : ℕ) (packet : Sending) (access : Access) → (terms all).sent serial ≡ Some packet → packet.from ≡ 0 → access_in_bytes packet.bytes ≡ Some access → access.is_write ≡ true → (terms all).news serial ≤ 1) where
   -- ---- a status that is taken right behind the note that its packet was got
@@ -56,7 +49,7 @@ module _ (wild : ℕ → Bool) (i : ℕ) (own : wild i ≡ false) (all : List Mo
 
     to_by : (o : Option Sending) → (terms q).sent s ≡ o → receiver_in o ≡ Some (suc i) → IsTo
     to_by None e f = absurd (let z : None ≡ Some (suc i) = f in cc)
-    to_by (Some packet) e f = record { packet = packet; there = e; to = same_serial packet.to (suc i) f }
+    to_by (Some packet) e f = record { packet = packet; there = e; to = same_Some packet.to (suc i) f }
 
     to_it : receiver_in ((terms got).sent s) ≡ Some (suc i) → IsTo
     to_it e = to_by ((terms q).sent s) refl (ap (λ (f : ℕ → Option Sending). receiver_in (f s)) (sym sent_same) ∙ e)
@@ -162,7 +155,7 @@ module _ (wild : ℕ → Bool) (i : ℕ) (own : wild i ≡ false) (all : List Mo
     known_past = known_less wild m past i known
 
     each : EachMoment (TakenSo i) ms
-    each = (at_moment m past (λ n k status t. taken_so past b known_past (later ++ m ∷ []) (sym (split later (m ∷ []) past) ∙ is) n k status t) known.takings.0, b.here.taken)
+    each = (at_moment m past (λ n k status t. taken_so past b known_past (later ++ m ∷ []) (sym (moments_split later (m ∷ []) past) ∙ is) n k status t) known.takings.0, b.here.taken)
 
     sent_so : (serial slot : ℕ) (block : StatusBlock) (packet : Sending) → packet.from ≡ 0 → packet.to ≡ suc i → IsStatusWrite packet.bytes slot block → m ≡ said (notes.Sent serial packet.generation packet.from packet.to packet.bytes) → IsSentSo past i serial packet.generation packet.from packet.to packet.bytes slot block
     sent_so serial slot block packet of to write e = (subst (λ x. SentSo i x past) e so) of to slot block write
@@ -206,7 +199,7 @@ module _ (wild : ℕ → Bool) (i : ℕ) (own : wild i ≡ false) (all : List Mo
   both_of : (past : List Moment) → IsKnown wild past i → EachMoment (SentSo i) past → (later : List Moment) → later ++ past ≡ all → Both past
   both_of [] known so later is = none_statuses
   both_of (m ∷ past) known so later is =
-      next_both m past (both_of past (known_less wild m past i known) so.1 (later ++ m ∷ []) (sym (split later (m ∷ []) past) ∙ is)) known later is so.0
+      next_both m past (both_of past (known_less wild m past i known) so.1 (later ++ m ∷ []) (sym (moments_split later (m ∷ []) past) ∙ is)) known later is so.0
 
   pub statuses_of : IsKnown wild all i → EachMoment (SentSo i) all → AreStatuses all i
   statuses_of known each = (both_of all known each [] refl).here

@@ -2,6 +2,8 @@
 use Rattle.std.proofs.Common.{arith, ◌≡◌, ◌∙◌, refl, sym, ap, subst, inl, inr, ◌⊎◌, ◌<◌, ◌≤◌, ◌==◌, ◌+◌, ◌&&◌, ℕ, suc, nat_eq, nat_lt, Bool, true, false, cond, List, [], ◌∷◌, ◌++◌, Option, Some, None, Result, Ok, Err}
 use Rattle.std.specs.Prelude.{IsSomeAnd}
 use Rattle.std.proofs.lemmas.Bool.Decides.{nat_tests}
+use Rattle.std.proofs.lemmas.Bool.{false≢true}
+use Rattle.std.proofs.lemmas.Option.{same_Some, none-some}
 use Rattle.async_packet.specs.declared.fault.PacketFault.{PacketFault}
 use Rattle.async_packet.specs.Packet.{Packet, lock, lock_response, read_block, read_block_response, read_quadlet, read_quadlet_response, write_block, write_quadlet, write_response}
 use Rattle.bus_transactions.specs.Judging.{AreJudged, facts_of, may_get}
@@ -32,18 +34,8 @@ use Rattle.sbp_world.proofs.Lists.Passing.{PassLaw}
 use Rattle.sbp_world.proofs.Lists.Rises.{Rises}
 use Rattle.sbp_world.proofs.Lists.SlotsHeld.{slots_stay_law}
 use Rattle.sbp_world.proofs.Lists.StatusMoments.{HasTaken, below, ended_stays, over_taken, packet_stays, taken_stays}
-
-no : false ≡ true → ⊥
-no e = cc
-
-some_packet : (x y : Sending) → Some x ≡ Some y → x ≡ y
-some_packet x y e = cc
-
-same_serial : (x y : ℕ) → Some x ≡ Some y → x ≡ y
-same_serial x y e = cc
-
-itself : (a : ℕ) → nat_eq a a ≡ true
-itself a = grind (arith, nat_tests)
+use Rattle.sbp_world.proofs.Common.{itself, moments_split}
+use Rattle.sbp_world.proofs.Agents.CrewFirsts.{current_by}
 
 -- ---- what each history of a run is
 
@@ -113,15 +105,12 @@ pub record IsSpelled (read : Result Packet PacketFault) (access : Access) : Type
   pub is : read ≡ Ok packet
   pub asks : access_of packet ≡ Some access
 
-no_access : (access : Access) → None ≡ Some access → ⊥
-no_access access e = cc
-
 pub spelled : (read : Result Packet PacketFault) (access : Access) → access_in (spelled_by read) ≡ Some access → IsSpelled read access
-spelled (Err fault) access e = absurd (no_access access e)
+spelled (Err fault) access e = absurd (none-some access e)
 spelled (Ok p) access e = record { packet = p; is = refl; asks = e }
 
 not_read : (found access : Access) → Some found ≡ Some access → found.is_write ≡ false → access.is_write ≡ true → ⊥
-not_read found access e none w = let same : found ≡ access = cc in no (sym none ∙ (ap (λ (a : Access). a.is_write) same ∙ w))
+not_read found access e none w = let same : found ≡ access = cc in false≢true (sym none ∙ (ap (λ (a : Access). a.is_write) same ∙ w))
 
 pub writes_no_rom : (p : Packet) (access : Access) → access_of p ≡ Some access → access.is_write ≡ true → reads_rom p ≡ false
 writes_no_rom (write_quadlet header offset value) access e w = refl
@@ -134,12 +123,8 @@ writes_no_rom (read_quadlet_response header rcode value) access e w = refl
 writes_no_rom (read_block_response header rcode payload) access e w = refl
 writes_no_rom (lock_response header rcode extended payload) access e w = refl
 
-current_at : (c n r a x : Bool) → may_get (row_of (record { is_current = c; is_for_node = n; is_response = r; is_awaited = a; is_repeated = x })) ≡ true → c ≡ true
-current_at true n r a x e = refl
-current_at false n r a x e = absurd (no e)
-
-current_of : (f : Facts) → may_get (row_of f) ≡ true → f.is_current ≡ true
-current_of f e = current_at f.is_current f.is_for_node f.is_response f.is_awaited f.is_repeated e
+pub current_of : (f : Facts) → may_get (row_of f) ≡ true → f.is_current ≡ true
+current_of f e = current_by f.is_current f.is_for_node f.is_response f.is_awaited f.is_repeated e
 
 pub got_by : (serial : ℕ) (past : List Moment) (packet : Sending) → AreJudged (said (notes.Got serial) ∷ past) → (terms past).sent serial ≡ Some packet → packet.generation ≡ (terms past).generation packet.to
 got_by serial past packet h e =
@@ -152,10 +137,10 @@ pub record WaitsSo (past : List Moment) (i n k : ℕ) : Type 0 where
   pub appended : k < appends past i n
   pub none : taken_at past i n k ≡ None
 
-all_three : (a b c : Bool) → (a && b && c) ≡ true → (a ≡ true) × (b ≡ true) × (c ≡ true)
-all_three false b c e = absurd (no e)
-all_three true false c e = absurd (no e)
-all_three true true false e = absurd (no e)
+pub all_three : (a b c : Bool) → (a && b && c) ≡ true → (a ≡ true) × (b ≡ true) × (c ≡ true)
+all_three false b c e = absurd (false≢true e)
+all_three true false c e = absurd (false≢true e)
+all_three true true false e = absurd (false≢true e)
 all_three true true true e = (refl, refl, refl)
 
 pub waits_so : (past : List Moment) (i n k : ℕ) → waits_in past i n k ≡ true → WaitsSo past i n k
@@ -169,12 +154,12 @@ waits_so past i n k e =
     }
   where
     listed : (o : Option ℕ) → present_list past i ≡ o → is_list o n ≡ true → present_list past i ≡ Some n
-    listed None f g = absurd (no g)
+    listed None f g = absurd (false≢true g)
     listed (Some m) f g = f ∙ ap Some (let z : m ≡ n = grind (arith, nat_tests) in z)
 
     untaken : (o : Option TakenStatus) → is_none_taken o ≡ true → o ≡ None
     untaken None f = refl
-    untaken (Some t) f = absurd (no f)
+    untaken (Some t) f = absurd (false≢true f)
 
 -- ---- what was taken before was judged
 pub record IsJudged (past : List Moment) (i n k : ℕ) : Type 0 where
@@ -214,19 +199,16 @@ generation_grows (m ∷ later) before node r =
     let a = generation_grows later before node r.1 in let b = not_lower node m (later ++ before) r.0 in omega (arith, a, b)
 
 -- ---- lists of moments
-split : (a b c : List Moment) → a ++ (b ++ c) ≡ (a ++ b) ++ c
-split [] b c = refl
-split (m ∷ a) b c = ap (λ ms. m ∷ ms) (split a b c)
 
 pub each_from : (At : Moment → List Moment → Type 0) (later before : List Moment) → EachMoment At (later ++ before) → EachMoment At before
 each_from At [] before h = h
 each_from At (m ∷ later) before h = each_from At later before h.1
 
-own_sight : (node generation : ℕ) (old : ℕ → ℕ) → cond (nat_eq node node) generation (old node) ≡ generation
+pub own_sight : (node generation : ℕ) (old : ℕ → ℕ) → cond (nat_eq node node) generation (old node) ≡ generation
 own_sight node generation old = ap (λ b. cond b generation (old node)) (itself node)
 
-unlike : (x y : ℕ) → (x == y) ≡ false → x ≡ y → ⊥
-unlike x y e f = no (sym e ∙ (let z : (x == y) ≡ true = grind (arith, nat_tests) in z))
+pub unlike : (x y : ℕ) → (x == y) ≡ false → x ≡ y → ⊥
+unlike x y e f = false≢true (sym e ∙ (let z : (x == y) ≡ true = grind (arith, nat_tests) in z))
 
 -- ---- over some moments of a turn
 module _ (wild : ℕ → Bool) (i : ℕ) (own : wild i ≡ false) (before : List Moment) where
@@ -235,9 +217,9 @@ module _ (wild : ℕ → Bool) (i : ℕ) (own : wild i ≡ false) (before : List
     none_over : (front back : List Moment) → front ++ back ≡ mid → HasTaken (back ++ before) i one.list one.number → ⊥
     none_over front back is taken =
         let later : HasTaken (front ++ (back ++ before)) i one.list one.number = taken_stays front (back ++ before) i one.list one.number taken in
-        let same : front ++ (back ++ before) ≡ mid ++ before = split front back before ∙ ap (λ ms. ms ++ before) is in
+        let same : front ++ (back ++ before) ≡ mid ++ before = moments_split front back before ∙ ap (λ ms. ms ++ before) is in
         let j = taken_judged i (mid ++ before) each one.list one.number (subst (λ ms. HasTaken ms i one.list one.number) same later) in
-        let number : j.serial ≡ serial = same_serial j.serial serial (sym j.sent ∙ sent) in
+        let number : j.serial ≡ serial = same_Some j.serial serial (sym j.sent ∙ sent) in
         let some = subst (λ s. 0 < (terms (mid ++ before)).news s) number j.judged in
         omega (arith, some, fresh)
 
@@ -245,7 +227,7 @@ module _ (wild : ℕ → Bool) (i : ℕ) (own : wild i ≡ false) (before : List
     none_saw front back generation is differs =
         let x = said (notes.Seen (suc i) generation) in
         let there = x ∷ (back ++ before) in
-        let whole : front ++ there ≡ mid ++ before = split front (x ∷ back) before ∙ ap (λ ms. ms ++ before) is in
+        let whole : front ++ there ≡ mid ++ before = moments_split front (x ∷ back) before ∙ ap (λ ms. ms ++ before) is in
         let rises : Rises (front ++ there) = subst Rises (sym whole) known.rises in
         let here : Rises there = each_from _ front there rises in
         let a = generation_grows back before (suc i) here.1 in

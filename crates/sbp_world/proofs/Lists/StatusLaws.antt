@@ -1,6 +1,6 @@
 -- The status law of runs: each status is taken as its ORB ended, of the packet that the end sent.
-use Rattle.std.proofs.Common.{◌≡◌, ◌∙◌, sym, ap, subst, ◌⊎◌, inl, inr, ◌<◌, ◌≤◌, nat_eq, arith, ℕ, Bool, true, false, List, [], ◌∷◌, ◌++◌, map, length, Option, Some, None, IsSomeAnd}
-use Rattle.std.proofs.lemmas.Bool.Decides.{nat_tests}
+use Rattle.std.proofs.Common.{◌≡◌, ◌∙◌, sym, ap, subst, ◌⊎◌, inl, inr, ◌<◌, ◌≤◌, ℕ, Bool, true, false, List, [], ◌∷◌, ◌++◌, map, length, Option, Some, None, IsSomeAnd}
+use Rattle.std.proofs.lemmas.Bool.{false≢true}
 use Rattle.bus_memory.specs.declared.window.Window.TheVariants as windows
 use Rattle.bus_memory.specs.Windows.{start as start_of}
 use Rattle.orb_layout.specs.declared.status.StatusKind.{StatusKind}
@@ -20,7 +20,6 @@ use Rattle.sbp_world.specs.Histories.{history_of}
 use Rattle.sbp_world.specs.Runs.{Run, after, beginning}
 use Rattle.sbp_world.specs.Settling.{after_all}
 use Rattle.sbp_world.specs.Worlds.{begun}
-use Rattle.sbp_world.specs.Agents.Management.Terms.{DeliversMore}
 use Rattle.sbp_world.specs.Hosts.Runs.{IsRun, more_deliveries}
 use Rattle.sbp_world.specs.Hosts.Statuses.Taking.{IsTakenBy, Spells, TakenOf, is_place_fifo}
 use Rattle.sbp_world.proofs.Hosts.Runs.{count_after, count_between}
@@ -34,12 +33,7 @@ use Rattle.sbp_world.specs.Lists.Statuses.{AllStatuses, IsTakenSo, TakenSo}
 use Rattle.sbp_world.specs.Lists.StatusRuns.{AllTakenOf, AtLogin, IsTakenOf, SpellsStatusTo, StatusOfLaw, StatusOfRunLaw, TakenOfAt, TakenOfOne}
 use Rattle.sbp_world.proofs.Lists.Executes.{execution_run_law}
 use Rattle.sbp_world.proofs.Lists.StatusChecks.{ended_told}
-
-no : false ≡ true → ⊥
-no e = cc
-
-itself : (a : ℕ) → nat_eq a a ≡ true
-itself a = grind (arith, nat_tests)
+use Rattle.sbp_world.proofs.Common.{itself, delivers}
 
 -- ---- of one initiator
 spells_to : (found : Option Access) (host : Host) (address : ℕ) (status : StatusKind) → IsSomeAnd found (λ access. Spells access host address status) → IsSomeAnd found (λ access. SpellsStatusTo access host address status)
@@ -78,7 +72,7 @@ to_login (Some access) host address status s f = record { is_write = s.is_write;
   where
     by : (access.offset ≡ fifo_of host) ⊎ (is_place_fifo access.offset ≡ true) → access.offset ≡ fifo_of host
     by (inl g) = g
-    by (inr g) = absurd (no (sym f ∙ g))
+    by (inr g) = absurd (false≢true (sym f ∙ g))
 
 at_login : (past : List Moment) (i n k : ℕ) (status : StatusKind) → IsTakenOf past i n k status → IsSomeAnd (access_at (terms past) (last_got past)) (λ access. is_place_fifo access.offset ≡ false) → IsTaken past i n k status
 at_login past i n k status t f = record {
@@ -95,9 +89,6 @@ all_logins wild (said note ∷ past) t f = (tt, all_logins wild past t.1 f.1)
 all_logins wild (asked line event ∷ past) t f = (tt, all_logins wild past t.1 f.1)
 
 -- ---- of runs
-delivers : (most : Option ℕ) → DeliversMore (more_deliveries most)
-delivers (Some count) = tt
-delivers None = tt
 
 module _ (statuses : Under (WhereTameOrFew AllStatuses)) where
   places : Under (WhereTameOrFew AllTakenOf)

@@ -3,6 +3,7 @@ use Rattle.std.proofs.Common.{arith, ◌≡◌, refl, sym, subst, ℕ, suc, ◌+
 use Rattle.std.specs.Prelude.{if◌then◌else◌, slice_set}
 use Rattle.std.specs.List.{AllByRecursion}
 use Rattle.std.proofs.lemmas.Bool.Decides.{nat_tests}
+use Rattle.std.proofs.lemmas.Bool.{false≢true}
 use Rattle.async_packet.specs.Labels.{LabelParts}
 use Rattle.sbp_world.specs.Hosts.Handing.{AreOthers, history}
 use Rattle.sbp_world.proofs.Hosts.ActLeft.{act_left}
@@ -54,16 +55,13 @@ use Rattle.sbp_world.specs.declared.parts.delivering.Arrival.{Arrival}
 use Rattle.sbp_world.specs.Delivering.{arrived, at_target, delivered, delivered_by, initiator_received, initiators_received, marked, received_by, received_step, target_received, whole_of, with_initiators}
 use Rattle.sbp_world.proofs.Wire.Comes.{own_inside, own_outside, received_is, to_own, to_zero}
 
-no : false ≡ true → ⊥
-no e = cc
-
 -- a note is of no packet that is sent
 abbrev pub is_plain : Note → Bool
 is_plain (notes.Sent serial generation from to bytes) = false
 is_plain _ = true
 
 tame_plain : (note : Note) → is_tame note ≡ true → is_plain note ≡ true
-tame_plain (notes.Sent serial generation from to bytes) e = absurd (no e)
+tame_plain (notes.Sent serial generation from to bytes) e = absurd (false≢true e)
 tame_plain _ e = refl
 
 -- ---- what the target hands out as a second passes, or a generation is seen
@@ -85,7 +83,7 @@ abbrev pub S : ℕ → List Moment → WorldState → Type 0
 S o past w = EachMoment (SentSo o) (history w past)
 
 pub plain_on : (o : ℕ) (note : Note) (ms : List Moment) → is_plain note ≡ true → EachMoment (SentSo o) ms → EachMoment (SentSo o) (said note ∷ ms)
-plain_on o (notes.Sent serial generation from to bytes) ms e h = absurd (no e)
+plain_on o (notes.Sent serial generation from to bytes) ms e h = absurd (false≢true e)
 plain_on o _ ms e h = (tt, h)
 
 -- ---- what a node tells

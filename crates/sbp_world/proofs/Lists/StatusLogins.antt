@@ -1,6 +1,5 @@
 -- The status of an ORB was taken at the FIFO of a login, where each status block was sent to one.
-use Rattle.std.proofs.Common.{arith, ◌≡◌, ◌∙◌, sym, ap, subst, ◌<◌, nat_eq, ℕ, suc, Bool, true, false, List, [], ◌∷◌, ◌++◌, Option, Some, IsSomeAnd}
-use Rattle.std.proofs.lemmas.Bool.Decides.{nat_tests}
+use Rattle.std.proofs.Common.{◌≡◌, ◌∙◌, sym, ap, subst, ◌<◌, ℕ, suc, Bool, false, List, [], ◌∷◌, ◌++◌, Option, Some, IsSomeAnd}
 use Rattle.orb_layout.specs.declared.status.StatusBlock.{StatusBlock}
 use Rattle.orb_layout.specs.declared.status.StatusKind.{StatusKind}
 use Rattle.sbp_journal.specs.Addresses.{Access}
@@ -16,9 +15,7 @@ use Rattle.sbp_world.proofs.Hosts.SentMoments.{WasSent, sent_moment}
 use Rattle.sbp_world.proofs.Hosts.Statuses.Ranges.{InsideIn}
 use Rattle.sbp_world.specs.Lists.Statuses.{IsStatusWrite, IsTakenSo, SentSo, TakenSo}
 use Rattle.sbp_world.specs.Lists.StatusRuns.{AtLogin}
-
-itself : (a : ℕ) → nat_eq a a ≡ true
-itself a = grind (arith, nat_tests)
+use Rattle.sbp_world.proofs.Common.{itself}
 
 each_there : (P : Moment → List Moment → Type 0) (later : List Moment) (m : Moment) (past : List Moment) → EachMoment P (later ++ m ∷ past) → P m past
 each_there P [] m past h = h.0

@@ -1,5 +1,6 @@
 -- A transaction of an agent that is lost, and the status block of an ORB that ended: which address and which status it has, and that its src is 1 at the end of a list.
 use Rattle.std.proofs.Common.{arith, ◌≡◌, ◌∙◌, refl, sym, ap, ◌<◌, ◌^◌, ℕ, Bool, true, false, cond, Option, Some, None, Ok}
+use Rattle.std.proofs.lemmas.Bool.{false≢true}
 use Rattle.command_agent.specs.declared.phase.Phase.{Phase}
 use Rattle.command_agent.specs.declared.phase.Phase.TheVariants as phases
 use Rattle.command_agent.specs.declared.step.Which.TheVariants.{Ahead, Main}
@@ -16,10 +17,7 @@ use Rattle.sbp_target.specs.Telling.{or_zero, orb_of}
 use Rattle.sbp_world.specs.Agents.Alike.{has_list}
 use Rattle.sbp_world.proofs.Lists.StatusBytes.{fields, kind_as, reads_as}
 use Rattle.sbp_world.proofs.Lists.StatusPackets.{EndSide, IsEndOf, IsOfEnd, end_of, or_before}
-use Rattle.sbp_world.proofs.Lists.StatusSteps.{EndsSo, rests_in}
-
-no : false ≡ true → ⊥
-no e = cc
+use Rattle.sbp_world.proofs.Lists.StatusSteps.{EndsSo, rests_in, some_none}
 
 -- ---- what is lost
 pub quiet_ahead : (m : Machine) (cause : FailCause) → (lost_step m Ahead cause).0 ≡ quiet
@@ -29,9 +27,6 @@ quiet_ahead m cause = by (is_ahead m.ahead)
     by : (b : Bool) → (cond b (ahead_lost m cause) (quiet, m)).0 ≡ quiet
     by true = refl
     by false = refl
-
-pub some_none : (kind : StatusKind) → Some kind ≡ None → ⊥
-some_none kind e = cc
 
 pub asks_none : (phase : Phase) (m : Machine) (cause : FailCause) → (main_lost phase m cause).0.ended ≡ None → (main_lost phase m cause).0.ask ≡ asks.Nothing
 asks_none phases.Fetching m cause e = absurd (some_none _ e)
@@ -66,23 +61,23 @@ unfolding lost_step
 lost_present m cause = present_by m.phase m cause
 
 pub sent_has : (phase : Phase) → is_sent phase ≡ true → has_list phase ≡ true
-sent_has phases.Reset e = absurd (no e)
-sent_has phases.Dead e = absurd (no e)
+sent_has phases.Reset e = absurd (false≢true e)
+sent_has phases.Dead e = absurd (false≢true e)
 sent_has _ e = refl
 
 -- ---- the block of an ORB that ended
 pub null_src : (phase : Phase) (next : OrbPointer) → has_present phase ≡ true → rests_in phase next ≡ true → src_of next ≡ 1
 null_src phases.WritingStatus Null h r = refl
-null_src phases.WritingStatus (At offset) h r = absurd (no r)
-null_src phases.ReadingNext next h r = absurd (no h)
-null_src phases.Suspended next h r = absurd (no h)
-null_src phases.Fetching next h r = absurd (no r)
-null_src phases.ReadingTable next h r = absurd (no r)
-null_src (phases.ReadingData wanted) next h r = absurd (no r)
-null_src phases.Answering next h r = absurd (no r)
-null_src phases.WritingLastStatus next h r = absurd (no r)
-null_src phases.Reset next h r = absurd (no r)
-null_src phases.Dead next h r = absurd (no r)
+null_src phases.WritingStatus (At offset) h r = absurd (false≢true r)
+null_src phases.ReadingNext next h r = absurd (false≢true h)
+null_src phases.Suspended next h r = absurd (false≢true h)
+null_src phases.Fetching next h r = absurd (false≢true r)
+null_src phases.ReadingTable next h r = absurd (false≢true r)
+null_src (phases.ReadingData wanted) next h r = absurd (false≢true r)
+null_src phases.Answering next h r = absurd (false≢true r)
+null_src phases.WritingLastStatus next h r = absurd (false≢true r)
+null_src phases.Reset next h r = absurd (false≢true r)
+null_src phases.Dead next h r = absurd (false≢true r)
 
 pub src_small : (next : OrbPointer) → src_of next < 2
 src_small Null = omega arith

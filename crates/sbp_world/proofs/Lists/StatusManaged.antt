@@ -3,6 +3,7 @@
 use Rattle.std.proofs.Common.{arith, ◌≡◌, ◌∙◌, refl, sym, ap, subst, ◌<◌, ◌≤◌, ◌+◌, ◌*◌, ◌/◌, ◌%◌, ◌^◌, ◌==◌, not, nat_lt, ℕ, zero, suc, Bool, true, false, cond, List, [], ◌∷◌, ◌++◌, length, take, Option, Some, None, Result, Ok, Err}
 use Rattle.std.specs.List.{cons_option}
 use Rattle.std.proofs.lemmas.Bool.Decides.{nat_tests}
+use Rattle.std.proofs.lemmas.Bool.{false≢true}
 use Rattle.bus_memory.specs.declared.window.Window.TheVariants as windows
 use Rattle.bus_memory.specs.Windows.{slot_of, start as start_of}
 use Rattle.bus_memory.proofs.Found.{slot_of_law}
@@ -43,24 +44,19 @@ use Rattle.orb_layout.specs.QueryResponses.{entries_bytes, query_bytes}
 use Rattle.orb_layout.specs.Replies.{Answer, payload_of, write_failure}
 use Rattle.orb_layout.specs.StatusBlocks.{in_row, kind_of, read_block, whole_length}
 use Rattle.sbp_base.specs.Quadlets.{quad}
-use Rattle.sbp_world.proofs.Lists.StatusBytes.{reads_as}
-
-no : false ≡ true → ⊥
-no e = cc
+use Rattle.sbp_world.proofs.Lists.StatusBytes.{reads_as, not_read}
+use Rattle.sbp_world.proofs.Lists.StatusSteps.{none_wrote}
 
 -- ---- bytes that are no status of an ORB in a slot
 abbrev pub Silent : List ℕ → Type 0
 Silent bytes = (block : StatusBlock) → read_block false bytes ≡ Ok block → (slot : ℕ) → slot_of block.orb ≡ Some slot → ⊥
-
-not_read : (fault : OrbFault) (block : StatusBlock) → Err fault ≡ Ok block → ⊥
-not_read fault block e = cc
 
 -- bytes that are longer than their first quadlet says
 long_by : (short x long : Bool) (a b c : OrbFault) (r : Result StatusBlock OrbFault) (block : StatusBlock) → (short ≡ false → long ≡ true) → cond short (Err a) (cond x (Err b) (cond long (Err c) r)) ≡ Ok block → ⊥
 long_by true x long a b c r block f e = not_read a block e
 long_by false true long a b c r block f e = not_read b block e
 long_by false false true a b c r block f e = not_read c block e
-long_by false false false a b c r block f e = no (f refl)
+long_by false false false a b c r block f e = false≢true (f refl)
 
 -- bytes that are no status block, of whatever kind
 abbrev pub Unread : List ℕ → Type 0
@@ -89,7 +85,7 @@ none_unread zero management block e = not_read (Length 8) block e
 none_unread (suc k) management block e = not_read (Length 8) block e
 
 -- the status block of an ORB that is in no slot
-number_small : (status : Status) → number_of status < 2 ^ 8
+pub number_small : (status : Status) → number_of status < 2 ^ 8
 number_small statuses.NoFault = omega arith
 number_small statuses.RequestType = omega arith
 number_small statuses.AccessDenied = omega arith
@@ -210,9 +206,6 @@ module _ (m : management.Machine) (t : Table) (keys : List (List ℕ)) (answer :
   pick_mild true x y h k = h
   pick_mild false x y h k = k
 
-  none_mild : (at len : ℕ) → asks.Nothing ≡ asks.Write at len → ⊥
-  none_mild at len e = cc
-
   read_mild : (from size at len : ℕ) → asks.Read from size ≡ asks.Write at len → ⊥
   read_mild from size at len e = cc
 
@@ -230,27 +223,27 @@ module _ (m : management.Machine) (t : Table) (keys : List (List ℕ)) (answer :
   decides orb eui = decided_mild orb (decide orb own.source eui t keys) (decide_small orb own.source eui t keys most size)
 
   orb_mild : (bytes : Result (List ℕ) FailCause) → Mild (management.orb_got bytes m own t keys)
-  orb_mild (Err cause) at len e = absurd (none_mild at len e)
+  orb_mild (Err cause) at len e = absurd (none_wrote at len e)
   orb_mild (Ok bytes) at len e =
       let orb = management_orb bytes in
       pick_mild (reads_eui orb) (management.beside t (management.eui_step m own (phases.HighEui orb) management.high_eui_at)) (management.decide_step m own orb 0 t keys)
       (λ to size f. absurd (read_mild management.high_eui_at 4 to size f)) (decides orb 0) at len e
 
   high_mild : (bytes : Result (List ℕ) FailCause) (orb : ManagementOrb) → Mild (management.beside t (management.high_got bytes m own orb))
-  high_mild (Err cause) orb at len e = absurd (none_mild at len e)
+  high_mild (Err cause) orb at len e = absurd (none_wrote at len e)
   high_mild (Ok bytes) orb at len e = absurd (read_mild management.low_eui_at 4 at len e)
 
   low_mild : (bytes : Result (List ℕ) FailCause) (orb : ManagementOrb) (high : ℕ) → Mild (management.low_got bytes m own orb high t keys)
-  low_mild (Err cause) orb high at len e = absurd (none_mild at len e)
+  low_mild (Err cause) orb high at len e = absurd (none_wrote at len e)
   low_mild (Ok bytes) orb high at len e = decides orb (high * 2 ^ 32 + quad bytes 0) at len e
 
   response_mild : (failure : Option FailCause) (fifo : ℕ) → Mild (management.beside t (management.response_written failure m own fifo))
-  response_mild (Some cause) fifo at len e = absurd (none_mild at len e)
+  response_mild (Some cause) fifo at len e = absurd (none_wrote at len e)
   response_mild None fifo at len e = block_silent own.orb statuses.NoFault low free
 
   status_mild : (failure : Option FailCause) → Mild (management.beside t (management.status_written failure m))
-  status_mild None at len e = absurd (none_mild at len e)
-  status_mild (Some cause) at len e = absurd (none_mild at len e)
+  status_mild None at len e = absurd (none_wrote at len e)
+  status_mild (Some cause) at len e = absurd (none_wrote at len e)
 
   phase_mild : (phase : Phase) → Mild (management.reply_in phase m own t keys answer)
   phase_mild phases.Orb = orb_mild (payload_of answer 32)

@@ -2,6 +2,8 @@
 -- below that of the ends, keeps its status and the packet that its end sent, and one whose status was taken has a status from then on.
 use Rattle.std.proofs.Common.{arith, ◌≡◌, ◌∙◌, refl, sym, ap, subst, ◌<◌, ◌≤◌, ◌==◌, ◌&&◌, ℕ, zero, suc, nat_eq, Bool, true, false, cond, List, [], ◌∷◌, ◌++◌, Option, Some, None}
 use Rattle.std.proofs.lemmas.Bool.Decides.{nat_tests}
+use Rattle.std.proofs.lemmas.Bool.{false≢true}
+use Rattle.std.proofs.lemmas.Option.{same_Some, none-some}
 use Rattle.orb_layout.specs.declared.status.StatusKind.{StatusKind}
 use Rattle.sbp_journal.specs.Run.{Moment, asked, said}
 use Rattle.sbp_journal.specs.declared.note.Note.TheVariants as notes
@@ -11,12 +13,7 @@ use Rattle.sbp_laws.specs.OnceLaw.{is_write_in}
 use Rattle.sbp_laws.specs.StatusLaw.{EndedOrb, first_of, is_due, status_due, status_packet}
 use Rattle.sbp_laws.specs.Terms.{ended_status, ends, lists}
 use Rattle.sbp_world.proofs.Lists.Passing.{PassLaw}
-
-no : false ≡ true → ⊥
-no e = cc
-
-itself : (a : ℕ) → nat_eq a a ≡ true
-itself a = grind (arith, nat_tests)
+use Rattle.sbp_world.proofs.Common.{itself}
 
 -- ---- the packet that an end sent
 module _ (i n k serial : ℕ) where
@@ -69,17 +66,11 @@ pub record IsBelow (past : List Moment) (i : ℕ) : Type 0 where
   pub due : (one : EndedOrb) → status_due past ≡ Some one → one.initiator ≡ i → one.one.number < ends past i one.one.list
   pub packet : (n k serial : ℕ) → status_packet past i n k ≡ Some serial → k < ends past i n
 
-none_due : (one : EndedOrb) → None ≡ Some one → ⊥
-none_due one e = cc
-
-same_due : (x y : EndedOrb) → Some x ≡ Some y → x ≡ y
-same_due x y e = cc
-
 all_four : (a b c d : Bool) → (a && b && c && d) ≡ true → (a ≡ true) × (b ≡ true) × (c ≡ true) × (d ≡ true)
-all_four false b c d e = absurd (no e)
-all_four true false c d e = absurd (no e)
-all_four true true false d e = absurd (no e)
-all_four true true true false e = absurd (no e)
+all_four false b c d e = absurd (false≢true e)
+all_four true false c d e = absurd (false≢true e)
+all_four true true false d e = absurd (false≢true e)
+all_four true true true false e = absurd (false≢true e)
 all_four true true true true e = (refl, refl, refl, refl)
 
 -- what is due is of this ORB
@@ -91,7 +82,7 @@ pub record DueIs (due : Option EndedOrb) (i n k : ℕ) : Type 0 where
   pub number : one.one.number ≡ k
 
 pub due_is : (due : Option EndedOrb) (i n k to : ℕ) → is_due due i n k to ≡ true → DueIs due i n k
-due_is None i n k to e = absurd (no e)
+due_is None i n k to e = absurd (false≢true e)
 due_is (Some one) i n k to e =
     let all = all_four (one.initiator == i) (one.one.list == n) (one.one.number == k) (to == suc i) e in
     let a = all.0 in
@@ -108,17 +99,17 @@ due_is (Some one) i n k to e =
 module _ (wild : ℕ → Bool) (i : ℕ) (own : wild i ≡ false) where
   ends_due : (past : List Moment) (j m l : ℕ) (status : StatusKind) → (wild j ≡ false → l ≡ ends past j m) → (one : EndedOrb) → Some (record { initiator = j; one = orb m l }) ≡ Some one → one.initiator ≡ i → one.one.number < ends (said (notes.Ended j (Some m) (Some l) status) ∷ past) i one.one.list
   ends_due past j m l status at one e same =
-      let is : record { initiator = j; one = orb m l } ≡ one = same_due _ one e in
+      let is : record { initiator = j; one = orb m l } ≡ one = same_Some _ one e in
       let here : j ≡ i = ap (λ (x : EndedOrb). x.initiator) is ∙ same in
       subst (λ (x : EndedOrb). x.one.number < ends (said (notes.Ended j (Some m) (Some l) status) ∷ past) i x.one.list) is
       (subst (λ a. l < ends (said (notes.Ended j (Some m) (Some l) status) ∷ past) a m) here (ended_below past j m l status (at (ap wild here ∙ own))))
 
   pub below : (past : List Moment) → PassLaw wild past → IsBelow past i
-  below [] law = record { due = λ one e same. absurd (none_due one e); packet = λ n k serial e. absurd (let z : None ≡ Some serial = e in cc) }
-  below (asked line event ∷ past) law = record { due = λ one e same. absurd (none_due one e); packet = (below past law.1).packet }
-  below (said (notes.Got serial) ∷ past) law = record { due = λ one e same. absurd (none_due one e); packet = (below past law.1).packet }
-  below (said (notes.Ignored serial cause) ∷ past) law = record { due = λ one e same. absurd (none_due one e); packet = (below past law.1).packet }
-  below (said (notes.TimedOut serial) ∷ past) law = record { due = λ one e same. absurd (none_due one e); packet = (below past law.1).packet }
+  below [] law = record { due = λ one e same. absurd (none-some one e); packet = λ n k serial e. absurd (let z : None ≡ Some serial = e in cc) }
+  below (asked line event ∷ past) law = record { due = λ one e same. absurd (none-some one e); packet = (below past law.1).packet }
+  below (said (notes.Got serial) ∷ past) law = record { due = λ one e same. absurd (none-some one e); packet = (below past law.1).packet }
+  below (said (notes.Ignored serial cause) ∷ past) law = record { due = λ one e same. absurd (none-some one e); packet = (below past law.1).packet }
+  below (said (notes.TimedOut serial) ∷ past) law = record { due = λ one e same. absurd (none-some one e); packet = (below past law.1).packet }
   below (said (notes.Ended j (Some m) (Some l) status) ∷ past) law =
       let b = below past law.1 in
       record {
@@ -185,7 +176,7 @@ taken_stays (_ ∷ later) before i n k h = let t = taken_stays later before i n 
 
 -- an ORB that is over has one
 taken_of : (past : List Moment) (i n k : ℕ) (found : Option TakenStatus) (linked passed : ℕ) (pinned : Bool) → taken_at past i n k ≡ found → is_over_by found linked passed k pinned ≡ true → HasTaken past i n k
-taken_of past i n k None linked passed pinned e o = absurd (no o)
+taken_of past i n k None linked passed pinned e o = absurd (false≢true o)
 taken_of past i n k (Some t) linked passed pinned e o = record { taken = t; is = e }
 
 pub over_taken : (past : List Moment) (i : ℕ) (one : Orb) → is_over past i one ≡ true → HasTaken past i one.list one.number
@@ -196,12 +187,9 @@ append_latest : (b : Bool) (m n before : ℕ) → m ≡ n → cond b m (suc m) �
 append_latest true m n before same list = omega (arith, same, list)
 append_latest false m n before same list = omega (arith, same, list)
 
-same_list : (m n : ℕ) → Some m ≡ Some n → m ≡ n
-same_list m n e = cc
-
 append_by : (x b : Bool) (m n of own : ℕ) (present : Option ℕ) → (present ≡ Some n → suc n ≡ own) → cond b m (suc m) ≡ of → cond x (Some m) present ≡ Some n → suc n ≡ cond x (cond b (suc of) of) own
 append_by false b m n of own present old list g = old g
-append_by true b m n of own present old list g = append_latest b m n of (same_list m n g) list
+append_by true b m n of own present old list g = append_latest b m n of (same_Some m n g) list
 
 drop_by : (x : Bool) (n own : ℕ) (present : Option ℕ) → (present ≡ Some n → suc n ≡ own) → cond x None present ≡ Some n → suc n ≡ own
 drop_by true n own present old g = absurd (let z : None ≡ Some n = g in cc)

@@ -3,6 +3,8 @@
 use Rattle.std.proofs.Common.{arith, ◌≡◌, ◌∙◌, refl, sym, ap, subst, ◌<◌, ◌≤◌, ◌==◌, ◌&&◌, ◌||◌, ◌+◌, not, ℕ, zero, suc, nat_eq, nat_lt, Bool, true, false, cond, List, [], ◌∷◌, ◌++◌, Option, Some, None}
 use Rattle.std.specs.Prelude.{max}
 use Rattle.std.proofs.lemmas.Bool.Decides.{nat_tests}
+use Rattle.std.proofs.lemmas.Bool.{false≢true}
+use Rattle.std.proofs.lemmas.Option.{same_Some, none-some}
 use Rattle.bus_transactions.specs.Packets.{SerialsCount}
 use Rattle.orb_layout.specs.declared.status.StatusBlock.{StatusBlock}
 use Rattle.orb_layout.specs.declared.status.StatusKind.{StatusKind}
@@ -25,24 +27,10 @@ use Rattle.sbp_world.proofs.Lists.Passing.{PassLaw}
 use Rattle.sbp_world.proofs.Lists.StatusBytes.{reads_as}
 use Rattle.sbp_world.proofs.Lists.StatusKnown.{each_from}
 use Rattle.sbp_world.proofs.Lists.StatusMoments.{below, due_is, ends_grow, packet_stays}
-
-no : false ≡ true → ⊥
-no e = cc
-
-same_number : (x y : ℕ) → Some x ≡ Some y → x ≡ y
-same_number x y e = cc
-
-none_number : (x : ℕ) → None ≡ Some x → ⊥
-none_number x e = cc
+use Rattle.sbp_world.proofs.Lists.RomKeys.{third}
 
 none_status : (t : TakenStatus) → None ≡ Some t → ⊥
 none_status t e = cc
-
-same_status : (x y : TakenStatus) → Some x ≡ Some y → x ≡ y
-same_status x y e = cc
-
-same_sending : (x y : Sending) → Some x ≡ Some y → x ≡ y
-same_sending x y e = cc
 
 module _ (i n k : ℕ) where
   -- each status block that is sent behind the end of the ORB has src 1
@@ -67,7 +55,7 @@ module _ (i n k : ℕ) where
         absurd (h (let a : j ≡ i = grind (arith, nat_tests) in a) (let a : m ≡ n = grind (arith, nat_tests) in a) (let a : l ≡ k = grind (arith, nat_tests) in a))
 
     null_step : (m : Moment) (past : List Moment) → PassLaw wild (m ∷ past) → suc k ≤ ends past i n → NotDue past → NullAt m past × NotDue (m ∷ past)
-    null_step (said (notes.Sent serial generation zero to bytes)) past law l none = ((λ due slot block w. absurd (no (sym (none to) ∙ due))), none)
+    null_step (said (notes.Sent serial generation zero to bytes)) past law l none = ((λ due slot block w. absurd (false≢true (sym (none to) ∙ due))), none)
     null_step (said (notes.Sent serial generation (suc from) to bytes)) past law l none = (tt, none)
     null_step (said (notes.Got serial)) past law l none = (tt, λ to. refl)
     null_step (said (notes.Ignored serial cause)) past law l none = (tt, λ to. refl)
@@ -128,7 +116,7 @@ module _ (i n k : ℕ) where
 
   first_due : (past : List Moment) (other generation to : ℕ) (bytes : List ℕ) (serial : ℕ) → is_due (status_due past) i n k to ≡ true → (status_packet past i n k ≡ Some serial → WasDue past serial) → (o : Option ℕ) → status_packet past i n k ≡ o → first_of o other ≡ Some serial → WasDue (said (notes.Sent other generation 0 to bytes) ∷ past) serial
   first_due past other generation to bytes serial d ih None f e =
-      record { later = []; before = past; generation = generation; to = to; bytes = bytes; is = ap (λ s. said (notes.Sent s generation 0 to bytes) ∷ past) (sym (same_number other serial e)); due = d }
+      record { later = []; before = past; generation = generation; to = to; bytes = bytes; is = ap (λ s. said (notes.Sent s generation 0 to bytes) ∷ past) (sym (same_Some other serial e)); due = d }
   first_due past other generation to bytes serial d ih (Some one) f e = further (said (notes.Sent other generation 0 to bytes)) past serial (ih (f ∙ e))
 
   sent_due : (past : List Moment) (other generation to : ℕ) (bytes : List ℕ) (serial : ℕ) → (status_packet past i n k ≡ Some serial → WasDue past serial) → (x y : Bool) → is_due (status_due past) i n k to ≡ x → cond (x && y) (first_of (status_packet past i n k) other) (status_packet past i n k) ≡ Some serial → WasDue (said (notes.Sent other generation 0 to bytes) ∷ past) serial
@@ -137,7 +125,7 @@ module _ (i n k : ℕ) where
   sent_due past other generation to bytes serial ih false y d e = further (said (notes.Sent other generation 0 to bytes)) past serial (ih e)
 
   pub was_due : (past : List Moment) (serial : ℕ) → status_packet past i n k ≡ Some serial → WasDue past serial
-  was_due [] serial e = absurd (none_number serial e)
+  was_due [] serial e = absurd (none-some serial e)
   was_due (said (notes.Sent other generation zero to bytes) ∷ past) serial e =
       sent_due past other generation to bytes serial (was_due past serial) (is_due (status_due past) i n k to) (is_write_in (access_in_bytes bytes)) refl e
   was_due (said (notes.Sent other generation (suc from) to bytes) ∷ past) serial e = further (said (notes.Sent other generation (suc from) to bytes)) past serial (was_due past serial e)
@@ -156,7 +144,7 @@ module _ (i n k : ℕ) where
       let was : Sending = record { generation = d.generation; from = 0; to = d.to; bytes = d.bytes; injected = (terms d.before).injected serial } in
       let sent_here : (terms here).sent serial ≡ Some was = sent_there d.before serial d.generation 0 d.to d.bytes in
       let sent_past : (terms past).sent serial ≡ Some was = ap (λ ms. (terms ms).sent serial) (sym d.is) ∙ ((remains d.later here whole).sent serial (omega (arith, number, count)) ∙ sent_here) in
-      let same : d.bytes ≡ packet.bytes = ap (λ (s : Sending). s.bytes) (same_sending was packet (sym sent_past ∙ there)) in
+      let same : d.bytes ≡ packet.bytes = ap (λ (s : Sending). s.bytes) (same_Some was packet (sym sent_past ∙ there)) in
       let at : AreNull here = each_from NullAt d.later here (subst AreNull (sym d.is) null) in
       at.0 d.due slot block (subst (λ bytes. IsStatusWrite bytes slot block) (sym same) w)
 
@@ -208,7 +196,7 @@ note_from i past j m l status answer n k t counted old so true true true e f g i
     let same_n : m ≡ n = grind (arith, nat_tests) in
     let same_k : l ≡ k = grind (arith, nat_tests) in
     let here : IsFrom past i n k (new_taken past status) = subst (λ a. IsFrom past i a k (new_taken past status)) same_n (subst (λ a. IsFrom past i m a (new_taken past status)) same_k (from_here past i m l status (so e))) in
-    from_on (said (notes.Taken j m l status answer)) past i n k t counted (subst (IsFrom past i n k) (same_status (new_taken past status) t is) here)
+    from_on (said (notes.Taken j m l status answer)) past i n k t counted (subst (IsFrom past i n k) (same_Some (new_taken past status) t is) here)
 note_from i past j m l status answer n k t counted old so true true false e f g is = from_on (said (notes.Taken j m l status answer)) past i n k t counted (old is)
 note_from i past j m l status answer n k t counted old so true false z e f g is = from_on (said (notes.Taken j m l status answer)) past i n k t counted (old is)
 note_from i past j m l status answer n k t counted old so false y z e f g is = from_on (said (notes.Taken j m l status answer)) past i n k t counted (old is)
@@ -240,11 +228,6 @@ module _ (wild : ℕ → Bool) (i : ℕ) (own : wild i ≡ false) (n : ℕ) wher
   passed_low (asked line event ∷ past) law each = passed_low past law.1 each.1
 
 -- ---- it is not over
-tests : (a b c d : Bool) → (a && b && c && d) ≡ true → c ≡ true
-tests false b c d e = absurd (no e)
-tests true false c d e = absurd (no e)
-tests true true false d e = absurd (no e)
-tests true true true d e = refl
 
 module _ (wild : ℕ → Bool) (i : ℕ) (own : wild i ≡ false) (n k : ℕ) (all : List Moment) (passes : PassLaw wild all) (counted : SerialsCount all) (each : EachMoment (TakenSo i) all) (null : AreNull i n k all) (ended : ends all i n ≡ suc k) where
   module _ (later before : List Moment) (is : later ++ before ≡ all) where
@@ -270,15 +253,15 @@ module _ (wild : ℕ → Bool) (i : ℕ) (own : wild i ≡ false) (n k : ℕ) (a
     src_or : (x y : Bool) (src : ℕ) → (src == 0) ≡ x → nat_lt (suc k) (passed before i n) ≡ y → src ≡ 1 → (x || y) ≡ true → ⊥
     src_or true y src e f g h = (let z : src ≡ 0 = grind (arith, nat_tests) in omega (arith, z, g))
     src_or false true src e f g h = (let z : suc k < passed before i n = grind (arith, nat_tests) in let l = low in omega (arith, z, l))
-    src_or false false src e f g h = no h
+    src_or false false src e f g h = false≢true h
 
     by_taken : (o : Option TakenStatus) → taken_at before i n k ≡ o → is_over_by o (linked before i n) (passed before i n) k (is_pinned (pinned_orb before i) n k) ≡ true → ⊥
-    by_taken None e h = no h
+    by_taken None e h = false≢true h
     by_taken (Some t) e h =
         let f = taken_from i before serials takes n k t e in
         let one : t.src ≡ 1 = f.src ∙ sent_null i n k before serials null_before f.serial f.sent f.packet f.there f.slot f.block f.writes in
         src_or (t.src == 0) (nat_lt (suc k) (passed before i n)) t.src refl refl one
-        (tests ((row_of t.status).resp == 0) (nat_lt (suc k) (linked before i n)) ((t.src == 0) || nat_lt (suc k) (passed before i n)) (not (is_pinned (pinned_orb before i) n k)) h)
+        (third ((row_of t.status).resp == 0) (nat_lt (suc k) (linked before i n)) ((t.src == 0) || nat_lt (suc k) (passed before i n)) (not (is_pinned (pinned_orb before i) n k)) h)
 
     pub never_over : is_over before i (orb n k) ≡ true → ⊥
     never_over h = by_taken (taken_at before i n k) refl h

@@ -2,6 +2,8 @@
 -- is of a place of management. So each status that it sends then is as it is to be.
 use Rattle.std.proofs.Common.{arith, ◌≡◌, ◌∙◌, refl, sym, ap, subst, ◌<◌, ◌≤◌, ◌+◌, ◌==◌, nat_le, ℕ, zero, suc, Bool, true, false, cond, List, [], ◌∷◌, ◌++◌, map, length, Option, Some, None}
 use Rattle.std.proofs.lemmas.Bool.Decides.{nat_tests}
+use Rattle.std.proofs.lemmas.Bool.{false≢true}
+use Rattle.std.proofs.lemmas.Option.{none-some}
 use Rattle.bus_memory.specs.declared.window.Window.TheVariants as windows
 use Rattle.bus_memory.specs.Windows.{slot_of, start as start_of}
 use Rattle.command_agent.specs.Machine.{new_machine, state_in}
@@ -52,13 +54,10 @@ use Rattle.sbp_world.proofs.Lists.StatusActs.{first}
 use Rattle.sbp_world.proofs.Lists.StatusBytes.{wrote}
 use Rattle.sbp_world.proofs.Lists.StatusLines.{S, is_plain, plain_on, target_hands}
 use Rattle.sbp_world.proofs.Lists.StatusManaged.{Silent, place_free, reply_mild}
-use Rattle.sbp_world.proofs.Lists.StatusPackets.{EndSide, IsPlain, Spelled, read_plain, sends_write}
+use Rattle.sbp_world.proofs.Lists.StatusPackets.{IsPlain, Spelled, read_plain, sends_write}
 use Rattle.sbp_world.proofs.Lists.StatusReads.{IsOfBody, IsRead, asked_body, body_reads}
 use Rattle.sbp_world.proofs.Lists.StatusSends.{AllOut, all_send}
 use Rattle.sbp_world.proofs.Lists.StatusTurn.{Behind, IsFirst, got_first, ignored_first, late_first}
-
-no : false ≡ true → ⊥
-no e = cc
 
 -- ---- what its decision leaves: no packet, and the management as it is
 module _ (m : management.Machine) where
@@ -263,9 +262,6 @@ first_plain _ (got_first serial) = refl
 first_plain _ (ignored_first serial cause) = refl
 first_plain _ (late_first serial) = refl
 
-none_end : (one : EndSide) → None ≡ Some one → ⊥
-none_end one e = cc
-
 module _ (i : ℕ) (past : List Moment) (w : WorldState) (g : Good w.target) (placed : ArePlacedFor w i) (each : EachMoment (SentSo i) (hist past w)) where
   module _ (note : Note) (f : IsFirst note) (u : WorldState) (b : Behind note w u) (outbox : OutboxState) (others : AreOthers outbox.sides) where
     abbrev x : WorldState
@@ -291,9 +287,9 @@ module _ (i : ℕ) (past : List Moment) (w : WorldState) (g : Good w.target) (pl
         let ours = Ours w g i placed source in
         let spelled : Spelled 0 source ours None new_machine outbox.packets =
         subst (λ ps. Spelled 0 source ours None new_machine ps) (sym e) (sends_write packet [] (λ slot block s. record { to_is = to; of = λ own. absurd (plain own slot block s) }) tt) in
-        all_send i 0 0 (topology_at x.generations 0).generation 0 source ours (Unit {0}) ⊥ None new_machine (λ mine block of. none_end of.one of.is) past outbox.packets x spelled (subst (λ ps. AllOut (ours × Unit {0}) ps) (sym e) ((λ own slot block s access f. absurd (plain own.0 slot block s)), tt)) refl
+        all_send i 0 0 (topology_at x.generations 0).generation 0 source ours (Unit {0}) ⊥ None new_machine (λ mine block of. none-some of.one of.is) past outbox.packets x spelled (subst (λ ps. AllOut (ours × Unit {0}) ps) (sym e) ((λ own slot block s access f. absurd (plain own.0 slot block s)), tt)) refl
         (λ o. (ap (λ (gs : GenerationsState). node_of gs 0 source) (sym same_generations) ∙ o, tt))
-        (record { due = λ t. absurd t; none = λ t. absurd t; fits = λ mine slot block of at. absurd (none_end of.one of.is); sends = told_sends })
+        (record { due = λ t. absurd t; none = λ t. absurd t; fits = λ mine slot block of at. absurd (none-some of.one of.is); sends = told_sends })
 
     by_source : (source : Option ℕ) → IfLeaves (Ours w g i placed) source outbox.packets → S i past (handed_out 0 0 outbox u)
     by_source None l = sends_none_left l

@@ -2,6 +2,7 @@
 use Rattle.std.proofs.Common.{arith, ◌≡◌, ◌∙◌, refl, sym, ap, subst, ◌-◌, ℕ, suc, nat_eq, nat_lt, Bool, true, false, cond, List, [], ◌∷◌, ◌++◌, map, length, None}
 use Rattle.std.specs.Prelude.{slice_index_or, slice_set}
 use Rattle.std.proofs.lemmas.Bool.Decides.{nat_tests}
+use Rattle.std.proofs.lemmas.Bool.{false≢true}
 use Rattle.packet_store.specs.declared.sent.Sent.{Sent}
 use Rattle.sbp_bus.specs.Packets.{judged_note, no_packet}
 use Rattle.sbp_journal.specs.declared.cause.Judged.{Judged}
@@ -42,9 +43,6 @@ use Rattle.sbp_world.proofs.Lists.OpenedMoments.{all_weaker, of_others, others_r
 use Rattle.sbp_world.proofs.Lists.OpenedNotes.{own_handed}
 use Rattle.sbp_world.proofs.Lists.OpenedOthers.{OthersDo, refused_does}
 use Rattle.sbp_world.proofs.Lists.StatusTargets.{judged_due, judged_first, late_first}
-
-no : false ≡ true → ⊥
-no e = cc
 
 not_zero : (j : ℕ) → nat_eq (suc j) 0 ≡ false
 not_zero j = grind (arith, nat_tests)

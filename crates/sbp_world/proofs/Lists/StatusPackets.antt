@@ -1,6 +1,7 @@
 -- What a call of the target hands out, as far as status blocks go: of its packets at most one writes a status block, the first one that writes; and it has the status
 -- of the ORB whose end was told last.
 use Rattle.std.proofs.Common.{◌≡◌, ◌∙◌, refl, sym, ap, ℕ, true, false, List, [], ◌∷◌, ◌++◌, length, Option, Some, None, Ok}
+use Rattle.std.proofs.lemmas.Bool.{false≢true}
 use Rattle.bus_memory.specs.declared.window.Window.TheVariants as windows
 use Rattle.bus_memory.specs.Windows.{start as start_of, window_at}
 use Rattle.login_table.specs.declared.login.Login.{Login}
@@ -27,9 +28,6 @@ use Rattle.sbp_world.specs.Lists.Statuses.{IsFifo, IsStatusWrite, IsTold}
 use Rattle.sbp_world.proofs.Lists.StatusBytes.{written_at}
 use Rattle.sbp_world.proofs.Lists.StatusReads.{IsRead}
 use Rattle.sbp_world.proofs.Lists.StatusSteps.{rests}
-
-no : false ≡ true → ⊥
-no e = cc
 
 -- ---- the end that was told last
 
@@ -160,7 +158,7 @@ AllRead [] = Unit {0}
 AllRead (packet ∷ later) = IsRead packet.bytes × AllRead later
 
 pub read_plain : (packet : Outgoing) → IsRead packet.bytes → IsPlain packet
-read_plain packet r slot block w = no (sym r ∙ (ap is_write_in w.is ∙ w.writes))
+read_plain packet r slot block w = false≢true (sym r ∙ (ap is_write_in w.is ∙ w.writes))
 
 pub plain_more : (packets : List Outgoing) (packet : Outgoing) → AllPlain packets → IsPlain packet → AllPlain (packets ++ packet ∷ [])
 plain_more [] packet h p = (p, tt)
@@ -222,7 +220,7 @@ abbrev pub IsApart : Outgoing → Type 0
 IsApart packet = (place : ℕ) → IsPlaceWrite packet.bytes place → ⊥
 
 pub read_apart : (packet : Outgoing) → IsRead packet.bytes → IsApart packet
-read_apart packet r place w = no (sym r ∙ (ap is_write_in w.is ∙ w.writes))
+read_apart packet r place w = false≢true (sym r ∙ (ap is_write_in w.is ∙ w.writes))
 
 -- the end that was told last is of the ORB at an address
 pub record IsEndOf (told : Option EndSide) (orb : ℕ) : Type 0 where
@@ -275,7 +273,7 @@ abbrev pub IsUnboxed : Outgoing → Type 0
 IsUnboxed packet = IsBufferWrite packet.bytes → ⊥
 
 pub read_unboxed : (packet : Outgoing) → IsRead packet.bytes → IsUnboxed packet
-read_unboxed packet r x = no (sym r ∙ (ap is_write_in x.is ∙ x.writes))
+read_unboxed packet r x = false≢true (sym r ∙ (ap is_write_in x.is ∙ x.writes))
 
 -- a FIFO of an initiator, or a place in its response buffers
 pub data IsInbox (offset : ℕ) : Type 0 where

@@ -1,6 +1,7 @@
 -- An ORB of the present list of an initiator, of which no status was taken, has its slot.
 use Rattle.std.proofs.Common.{◌≡◌, ◌∙◌, refl, sym, ap, subst, inl, ◌<◌, ℕ, zero, suc, List, [], ◌∷◌, map, Option, Some, None}
 use Rattle.std.specs.Prelude.{slice_index_or}
+use Rattle.std.proofs.lemmas.Option.{same_Some, none-some}
 use Rattle.orb_list.specs.declared.list.PresentList.{PresentList}
 use Rattle.orb_list.specs.declared.slot.Slot.{Slot}
 use Rattle.orb_list.specs.declared.slot.SlotState.{SlotState}
@@ -17,14 +18,8 @@ use Rattle.sbp_world.proofs.Hosts.Over.{last_at as last_fits}
 use Rattle.sbp_world.specs.Lists.SlotsStay.{HasSlot}
 use Rattle.sbp_world.proofs.Lists.OpenListed.{stands_there}
 
-some_list : (x y : ℕ) → Some x ≡ Some y → x ≡ y
-some_list x y e = cc
-
 same_ticket : (x y : TicketParts) → Some x ≡ Some y → x ≡ y
 same_ticket x y e = cc
-
-none_ticket : (t : TicketParts) → None ≡ Some t → ⊥
-none_ticket t e = cc
 
 row_at : (all : List Slot) (k : ℕ) → slice_index_or (map row all) k vacant ≡ row (slot_in all k)
 row_at [] k = refl
@@ -32,17 +27,17 @@ row_at (slot ∷ all) zero = refl
 row_at (slot ∷ all) (suc k) = row_at all k
 
 row_waits : (state : SlotState) (last : Option TicketParts) (t : TicketParts) → waits_in state last ≡ Some t → row_by state last ≡ used (name t)
-row_waits states.Free last t e = absurd (none_ticket t e)
-row_waits states.Waiting None t e = absurd (none_ticket t e)
+row_waits states.Free last t e = absurd (none-some t e)
+row_waits states.Waiting None t e = absurd (none-some t e)
 row_waits states.Waiting (Some u) t e = ap (λ (x : TicketParts). used (name x)) (same_ticket u t e)
-row_waits (states.Taken had_next) last t e = absurd (none_ticket t e)
-row_waits states.Resting last t e = absurd (none_ticket t e)
+row_waits (states.Taken had_next) last t e = absurd (none-some t e)
+row_waits states.Resting last t e = absurd (none-some t e)
 
 module _ (past : List Moment) (i n k : ℕ) (s : SlotTable) (rows : AreRows past i s) (inside : k < appends past i n) (none : taken_at past i n k ≡ None) where
   uses_slot : (present : Option PresentList) → present_list past i ≡ present_in present → IfList (terms_at past i) s.slots s.lists present → present_list past i ≡ Some n → slice_index_or (slots past i) (slot_at past i n k) vacant ≡ used (orb n k)
   uses_slot None p l f = absurd (let z : None ≡ Some n = sym p ∙ f in cc)
   uses_slot (Some list) p l f =
-      let same : list.tail.list ≡ n = some_list list.tail.list n (sym p ∙ f) in
+      let same : list.tail.list ≡ n = same_Some list.tail.list n (sym p ∙ f) in
       let w = l.waits k (subst (λ m. k < appends past i m) (sym same) inside) (subst (λ m. taken_at past i m k ≡ None) (sym same) none) in
       let slot = slot_in s.slots w.ticket.slot in
       let fits = last_fits (terms_at past i) s rows.fits w.ticket.slot w.ticket w.small (waits_last slot w.ticket w.waits) in

@@ -1,6 +1,7 @@
 -- The present list of an initiator whose agent acts, while the two are in one generation: that of the list which the agent has open; or, as a pointer is taken, the list
 -- for which this was written.
 use Rattle.std.proofs.Common.{◌≡◌, ◌∙◌, refl, sym, ap, subst, ◌<◌, ℕ, suc, Bool, true, false, List, length, Some, Ok}
+use Rattle.std.proofs.lemmas.Option.{same_Some}
 use Rattle.async_packet.specs.Packet.{Packet}
 use Rattle.bus_transactions.specs.Wire.{as_sending}
 use Rattle.command_agent.specs.Steps.{point_step}
@@ -37,9 +38,6 @@ use Rattle.sbp_world.proofs.Lists.OpenWorlds.{taken}
 use Rattle.sbp_world.proofs.Lists.Sites.{Site}
 use Rattle.sbp_world.proofs.Lists.StatusTurn.{Acting, Up}
 use Rattle.sbp_world.proofs.Lists.StatusUps.{AllCaught, generation_is, lives_access, lives_open, up_access, up_open}
-
-same_sending : (x y : Sending) → Some x ≡ Some y → x ≡ y
-same_sending x y e = cc
 
 module _ (wild : ℕ → Bool) (i : ℕ) (own : wild i ≡ false) (units logins : ℕ) (has : 0 < units) (start : List Disk) {past : List Moment} {lines : ℕ} (w : WorldState) (h : Holding units logins start past lines w) (site : Site start past w) (inside : i < length w.initiators) (calm : IsCalm (hist past w) i) (lists : OpenLists (hist past w) w) (opened : AreOpened (hist past w) w) (caught : AllCaught (hist past w) w) (pointers : (j : ℕ) → j < length w.initiators → PointersAt (hist past w) j) (first : AreFirsts (hist past w) w) (here : IsHere (hist past w) w i) where
   abbrev ms : List Moment
@@ -101,7 +99,7 @@ module _ (wild : ℕ → Bool) (i : ℕ) (own : wild i ≡ false) (units logins 
         let c = calm_of q mine in
         let f : IsFirst ms j is_for.serial address = first j came.inside c is_for.serial (as_sending sent) q address sent_is points in
         let k = (pointers j came.inside).each f.list is_for.serial f.pointed in
-        let packet_is : k.packet ≡ as_sending sent = same_sending k.packet (as_sending sent) (sym k.sent ∙ sent_is) in
+        let packet_is : k.packet ≡ as_sending sent = same_Some k.packet (as_sending sent) (sym k.sent ∙ sent_is) in
         let x = writes_of k.packet.bytes _ k.spelled refl in
         let fresh : (terms ms).news is_for.serial ≡ 0 =
         never_new w stands is_for.serial sent is_for.found is_for.to x.label (ap (λ (s : Sending). part_of s.bytes) (sym packet_is) ∙ x.part)

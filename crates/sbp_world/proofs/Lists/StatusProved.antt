@@ -12,7 +12,6 @@ use Rattle.sbp_world.specs.Runs.{Run, after, beginning}
 use Rattle.sbp_world.specs.Settling.{after_all}
 use Rattle.sbp_world.specs.Worlds.{Scene, WorldState, begun, initiator_at, without_notes}
 use Rattle.sbp_world.proofs.Sessions.Runs.{caught_between_law, caught_law}
-use Rattle.sbp_world.specs.Agents.Management.Terms.{DeliversMore}
 use Rattle.sbp_world.proofs.Agents.Management.Still.{hist}
 use Rattle.sbp_world.specs.Hosts.Answering.{IsDelivering}
 use Rattle.sbp_world.specs.Hosts.Fits.{AreRows}
@@ -43,6 +42,7 @@ use Rattle.sbp_world.proofs.Lists.StatusWalk.{Facts, Given, turn_sends}
 use Rattle.sbp_world.proofs.Lists.Turns.{Ready}
 use Rattle.sbp_world.proofs.Lists.TameWalks.{Where, still_after, still_between}
 use Rattle.sbp_world.proofs.Lists.Walks.{Step, Walks}
+use Rattle.sbp_world.proofs.Common.{delivers}
 
 -- ---- what is known of every run at a place
 pub record Ground (ms : List Moment) (w : WorldState) : Type 0 where
@@ -52,10 +52,6 @@ pub record Ground (ms : List Moment) (w : WorldState) : Type 0 where
   pub takings : (i : ℕ) → i < length w.initiators → EachMoment (TakenOf i) ms
   pub sources : (i : ℕ) → i < length w.initiators → AllOfTarget ms i
   pub orbs : (i : ℕ) → i < length w.initiators → HoldsOrbs ms i (initiator_at w i)
-
-delivers : (most : Option ℕ) → DeliversMore (more_deliveries most)
-delivers (Some count) = tt
-delivers None = tt
 
 delivering : (most : Option ℕ) (told : List (Option Told)) → IsDelivering (more_deliveries most) told
 delivering (Some count) told = tt

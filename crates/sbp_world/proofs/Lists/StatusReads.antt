@@ -1,13 +1,12 @@
 -- Which packets of the target write nothing: its responses, and its requests that read; and the bytes of a request are those of its body, under its label.
-use Rattle.std.proofs.Common.{arith, ◌≡◌, ◌∙◌, refl, ap, ◌<◌, ◌+◌, ◌*◌, ◌/◌, ◌%◌, ◌^◌, nat_eq, ℕ, Bool, true, false, cond, List, [], ◌∷◌, ◌++◌, Option, Some, None}
+use Rattle.std.proofs.Common.{arith, ◌≡◌, ◌∙◌, refl, ap, ◌<◌, ◌+◌, ◌*◌, ◌^◌, nat_eq, ℕ, Bool, true, false, cond, List, ◌++◌, Option, Some, None}
 use Rattle.async_packet.specs.declared.fault.PacketFault.{PacketFault}
 use Rattle.async_packet.specs.Canon.{canon, four, three}
 use Rattle.async_packet.specs.Fields.{tcode_of}
 use Rattle.async_packet.specs.Faults.{fault_of}
 use Rattle.async_packet.specs.Packet.{Packet, lock, lock_response, read_block, read_block_response, read_quadlet, read_quadlet_response, write_block, write_quadlet, write_response}
 use Rattle.async_packet.specs.Reading.{packet_in, reading, unless_fault}
-use Rattle.byteorder.specs.Endian.{big_bytes, big_number}
-use Rattle.byteorder.specs.Numbers.{big_from-bytes}
+use Rattle.byteorder.specs.Endian.{big_bytes}
 use Rattle.label_table.specs.declared.judgement.Asked.{Asked}
 use Rattle.label_table.specs.Bodies.{Body, block_read, block_write, header_to, quadlet_read, quadlet_write, request_with, response_to}
 use Rattle.label_table.specs.Layer.{Layer, answering_step, asked_at, asking_in, asking_step, peer_at, peer_place, unlabelled}
@@ -17,7 +16,7 @@ use Rattle.label_table.specs.Table.{begin_at, begin_step, lowest_from}
 use Rattle.sbp_laws.specs.OnceLaw.{is_write_in}
 use Rattle.sbp_laws.specs.Packets.{access_in, access_in_bytes, spelled_by}
 use Rattle.sbp_target.specs.declared.purpose.Purpose.{Purpose}
-use Rattle.sbp_world.proofs.Sessions.Codes.{first_code}
+use Rattle.sbp_world.proofs.Hosts.Mild.{quad_tcode, tcode_same}
 
 -- it writes nothing
 abbrev pub IsRead : List ℕ → Type 0
@@ -53,16 +52,9 @@ code_reads bytes e f = by (fault_of bytes)
 
 -- ---- the tcode stands in the first quadlet
 
-quad_code : (peer label tcode : ℕ) (bytes rest : List ℕ) → tcode < 16 → bytes ≡ big_bytes 4 (peer * 2 ^ 16 + label * 2 ^ 10 + 1 * 2 ^ 8 + tcode * 2 ^ 4 + 0) ++ rest → tcode_of bytes ≡ tcode
-unfolding tcode_of
-quad_code peer label tcode bytes rest small e =
-    ap (λ xs. big_number 4 xs / 2 ^ 4 % 2 ^ 4) e
-    ∙ ap (λ n. n / 2 ^ 4 % 2 ^ 4) (big_from-bytes 4 (peer * 2 ^ 16 + label * 2 ^ 10 + 1 * 2 ^ 8 + tcode * 2 ^ 4 + 0) rest)
-    ∙ first_code peer label tcode small
-
 coded : (peer label tcode : ℕ) (bytes rest : List ℕ) → tcode < 16 → nat_eq tcode 0 ≡ false → nat_eq tcode 1 ≡ false → bytes ≡ big_bytes 4 (peer * 2 ^ 16 + label * 2 ^ 10 + 1 * 2 ^ 8 + tcode * 2 ^ 4 + 0) ++ rest → IsRead bytes
 coded peer label tcode bytes rest small none one e =
-    let c = quad_code peer label tcode bytes rest small e in
+    let c = quad_tcode peer label tcode bytes rest small e in
     code_reads bytes (ap (λ n. nat_eq n 0) c ∙ none) (ap (λ n. nat_eq n 1) c ∙ one)
 
 -- ---- a response
@@ -107,16 +99,9 @@ reads_body (quadlet_read offset) = true
 reads_body (block_read offset asked) = true
 reads_body body = false
 
-label_code : (number : ℕ) (bytes : List ℕ) → tcode_of (with_label number bytes) ≡ tcode_of bytes
-unfolding with_label tcode_of
-label_code number [] = refl
-label_code number (x ∷ []) = refl
-label_code number (x ∷ y ∷ []) = refl
-label_code number (x ∷ y ∷ z ∷ bytes) = omega arith
-
 labelled : (peer tcode number : ℕ) (plain rest : List ℕ) → tcode < 16 → nat_eq tcode 0 ≡ false → nat_eq tcode 1 ≡ false → plain ≡ big_bytes 4 (peer * 2 ^ 16 + 0 * 2 ^ 10 + 1 * 2 ^ 8 + tcode * 2 ^ 4 + 0) ++ rest → IsRead (with_label number plain)
 labelled peer tcode number plain rest small none one e =
-    let c = label_code number plain ∙ quad_code peer 0 tcode plain rest small e in
+    let c = tcode_same number plain ∙ quad_tcode peer 0 tcode plain rest small e in
     code_reads (with_label number plain) (ap (λ n. nat_eq n 0) c ∙ none) (ap (λ n. nat_eq n 1) c ∙ one)
 
 pub body_reads : (number node peer : ℕ) (body : Body) → reads_body body ≡ true → IsRead (with_label number (canon (request_with (header_to node peer 0) body)))

@@ -1,7 +1,8 @@
 -- At each place of a run in which no initiator injected packets, or few logins were given, and before which lists were open as they should be, an ORB whose next pointer is read again stands in
 -- its slot: it is the last one of its list that ended, and told so by the src of its status block.
-use Rattle.std.proofs.Common.{arith, ◌≡◌, ◌∙◌, refl, sym, ap, subst, ◌<◌, ℕ, suc, nat_eq, Bool, true, false, List, [], ◌∷◌, ◌++◌, map, length, Option, Some, None}
+use Rattle.std.proofs.Common.{arith, ◌≡◌, ◌∙◌, refl, sym, ap, subst, ◌<◌, ℕ, suc, nat_eq, Bool, true, false, List, [], ◌∷◌, ◌++◌, map, length, Some}
 use Rattle.std.proofs.lemmas.Bool.Decides.{nat_tests}
+use Rattle.std.proofs.lemmas.Bool.{false≢true}
 use Rattle.rbc_disk.specs.Disk.{Disk}
 use Rattle.bus_transactions.specs.Wire.{Node}
 use Rattle.sbp_bus.specs.Generations.{topology_at}
@@ -21,7 +22,6 @@ use Rattle.sbp_world.specs.Sessions.Joined.{JoinedLaw}
 use Rattle.sbp_world.specs.Agents.Alike.{has_list}
 use Rattle.sbp_world.specs.Agents.Holders.{AreHeldAt}
 use Rattle.sbp_world.proofs.Agents.Management.Holding.{past_terms, target_generation}
-use Rattle.sbp_world.specs.Agents.Management.Terms.{DeliversMore}
 use Rattle.sbp_world.proofs.Agents.Management.Still.{hist}
 use Rattle.sbp_world.specs.Hosts.Fits.{AreRows}
 use Rattle.sbp_world.specs.Hosts.Lasting.{Lasts}
@@ -52,9 +52,7 @@ use Rattle.sbp_world.specs.Lists.FewLogins.{IsTameOrFew}
 use Rattle.sbp_world.proofs.Lists.Beside.{tame_or_few_before}
 use Rattle.sbp_world.proofs.Lists.TameWalks.{still_after, still_between}
 use Rattle.sbp_world.proofs.Lists.Walks.{Step, Walks}
-
-no : false ≡ true → ⊥
-no e = cc
+use Rattle.sbp_world.proofs.Common.{delivers}
 
 -- ---- what is known of every run at a place
 pub record Grounds (ms : List Moment) (w : WorldState) : Type 0 where
@@ -62,10 +60,6 @@ pub record Grounds (ms : List Moment) (w : WorldState) : Type 0 where
   pub begins : (i : ℕ) → i < length w.initiators → Begins i ms
   pub lasts : (i : ℕ) → i < length w.initiators → (later before : List Moment) → later ++ before ≡ ms → Lasts before ms i
   pub numbers : (i : ℕ) → i < length w.initiators → (initiator_at w i).number ≡ i
-
-delivers : (most : Option ℕ) → DeliversMore (more_deliveries most)
-delivers (Some count) = tt
-delivers None = tt
 
 pub grounds_law : Always Ground → JoinedLaw → Always Grounds
 grounds_law ground joined = record {

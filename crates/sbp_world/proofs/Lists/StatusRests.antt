@@ -2,6 +2,7 @@
 use Rattle.std.proofs.Common.{◌≡◌, ◌∙◌, refl, sym, ap, subst, inl, inr, ◌⊎◌, ℕ, zero, suc, ◌+◌, Bool, true, false, cond, List, [], ◌∷◌, length, map, Option, Some, None, Result, Ok, Err}
 use Rattle.std.specs.Prelude.{slice_index_or, slice_set}
 use Rattle.std.proofs.Math.ListN.{length-map, length-set}
+use Rattle.std.proofs.lemmas.Bool.{false≢true}
 use Rattle.async_packet.specs.Packet.{Packet, header_in}
 use Rattle.label_table.specs.Bodies.{Body}
 use Rattle.label_table.specs.declared.judgement.Asked.{Asked}
@@ -41,7 +42,7 @@ use Rattle.sbp_world.proofs.Lists.StatusPackets.{one_end, or_before, told_end, t
 use Rattle.sbp_world.proofs.Lists.StatusSteps.{rests}
 
 -- a desk that is set is there, and the others are as they were
-desk_either : (desks : List Desk) (k p : ℕ) (d : Desk) → ((p ≡ k) × (slice_index_or (slice_set desks k d) p new_desk ≡ d)) ⊎ (slice_index_or (slice_set desks k d) p new_desk ≡ slice_index_or desks p new_desk)
+pub desk_either : (desks : List Desk) (k p : ℕ) (d : Desk) → ((p ≡ k) × (slice_index_or (slice_set desks k d) p new_desk ≡ d)) ⊎ (slice_index_or (slice_set desks k d) p new_desk ≡ slice_index_or desks p new_desk)
 desk_either [] k p d = inr refl
 desk_either (x ∷ desks) zero zero d = inl (refl, refl)
 desk_either (x ∷ desks) zero (suc p) d = inr refl
@@ -55,18 +56,15 @@ desk_either (x ∷ desks) (suc k) (suc p) d = by (desk_either desks k p d)
 abbrev Here : NodeState → ℕ → Machine
 Here node p = (desk_at node p).agent
 
-no : false ≡ true → ⊥
-no e = cc
-
 reset_rests : (m : Machine) → rests (reset_step m) ≡ true → rests m ≡ true
 unfolding reset_step
-reset_rests m r = absurd (no r)
+reset_rests m r = absurd (false≢true r)
 
 abort_rests : (m : Machine) (orb : ℕ) → rests (abort_step m orb) ≡ true → rests m ≡ true
 unfolding abort_step
 abort_rests m orb r = r
 
-map_agents : (desks : List Desk) (p : ℕ) → (slice_index_or (map disabled desks) p new_desk).agent ≡ (slice_index_or desks p new_desk).agent
+pub map_agents : (desks : List Desk) (p : ℕ) → (slice_index_or (map disabled desks) p new_desk).agent ≡ (slice_index_or desks p new_desk).agent
 map_agents [] p = refl
 map_agents (d ∷ desks) zero = refl
 map_agents (d ∷ desks) (suc p) = map_agents desks p

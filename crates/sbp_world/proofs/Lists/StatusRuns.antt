@@ -1,5 +1,6 @@
 -- Statuses are taken as the ORBs ended in every run in which no initiator injected packets, or few logins were given, and the target sends them so, as lists were open as they should be before.
 use Rattle.std.proofs.Common.{arith, ◌≡◌, ◌∙◌, refl, sym, ap, subst, ℕ, ◌<◌, ◌≤◌, Bool, true, false, List, ◌∷◌, ◌++◌, map, length, Option, Some, None}
+use Rattle.std.proofs.lemmas.Bool.{false≢true}
 use Rattle.rbc_disk.specs.Runs.{Told}
 use Rattle.sbp_journal.specs.Addresses.{Access}
 use Rattle.sbp_journal.specs.Run.{Moment, asked, said}
@@ -38,9 +39,7 @@ use Rattle.sbp_world.proofs.Lists.Passing.{PassLaw}
 use Rattle.sbp_world.proofs.Lists.Rises.{Rises, rises}
 use Rattle.sbp_world.proofs.Lists.StatusKept.{statuses_of, untaken_above}
 use Rattle.sbp_world.proofs.Lists.StatusKnown.{IsKnown}
-
-no : false ≡ true → ⊥
-no e = cc
+use Rattle.sbp_world.proofs.Common.{delivers}
 
 -- ---- a write of the target is taken as new once at most
 abbrev pub Once : List Moment → Type 0
@@ -99,10 +98,6 @@ pub delivering : (event : Event) (told : List (Option Told)) → DeliversMore ev
 delivering (events.Step count) told d = tt
 delivering events.Settle told d = tt
 delivering _ told d = absurd d
-
-delivers : (most : Option ℕ) → DeliversMore (more_deliveries most)
-delivers (Some count) = tt
-delivers None = tt
 
 -- ---- of a run
 module _ (line : ℕ) (run : Run) (r : IsRun run) (has : 0 < run.units) (small : run.units ≤ 4) (size : length run.start.disks ≡ run.units) where

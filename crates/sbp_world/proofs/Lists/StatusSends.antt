@@ -1,6 +1,6 @@
 -- The packets of the target that leave behind an end: of those to an initiator, one that writes a status block is the packet of the ORB that ended.
-use Rattle.std.proofs.Common.{arith, ◌≡◌, ◌∙◌, refl, sym, ap, subst, ◌≤◌, ◌==◌, ◌&&◌, ◌+◌, nat_eq, ℕ, suc, Bool, true, false, cond, List, [], ◌∷◌, Option, Some, None}
-use Rattle.std.proofs.lemmas.Bool.Decides.{nat_tests}
+use Rattle.std.proofs.Common.{arith, ◌≡◌, ◌∙◌, refl, sym, ap, subst, ◌≤◌, ◌==◌, ◌&&◌, ◌+◌, ℕ, suc, Bool, true, false, cond, List, [], ◌∷◌, Option, Some, None}
+use Rattle.std.proofs.lemmas.Bool.{false≢true}
 use Rattle.async_packet.specs.Labels.{LabelParts}
 use Rattle.bus_memory.specs.Windows.{slot_of}
 use Rattle.command_agent.specs.Machine.{Machine}
@@ -27,25 +27,20 @@ use Rattle.sbp_world.proofs.Lists.StatusMoments.{HasTaken}
 use Rattle.sbp_world.proofs.Lists.StatusPackets.{AllPlain, EndSide, IsOfEnd, IsPlain, OfEnd, Spelled, read_plain, sends_none, sends_read, sends_write}
 use Rattle.sbp_world.proofs.Lists.StatusReads.{IsRead}
 use Rattle.sbp_world.proofs.Lists.StatusSlots.{slot_on}
-
-no : false ≡ true → ⊥
-no e = cc
-
-itself : (a : ℕ) → nat_eq a a ≡ true
-itself a = grind (arith, nat_tests)
+use Rattle.sbp_world.proofs.Common.{itself}
 
 abbrev next : List Moment → (s g to : ℕ) → List ℕ → List Moment
 next ms s g to bytes = said (notes.Sent s g 0 to bytes) ∷ ms
 
 four : (a b c d : Bool) → a ≡ true → b ≡ true → c ≡ true → d ≡ true → (a && b && c && d) ≡ true
 four true true true true e f g h = refl
-four false b c d e f g h = absurd (no e)
-four true false c d e f g h = absurd (no f)
-four true true false d e f g h = absurd (no g)
-four true true true false e f g h = absurd (no h)
+four false b c d e f g h = absurd (false≢true e)
+four true false c d e f g h = absurd (false≢true f)
+four true true false d e f g h = absurd (false≢true g)
+four true true true false e f g h = absurd (false≢true h)
 
 not_written : (x y : Bool) (found : Option ℕ) (s : ℕ) → y ≡ false → found ≡ None → cond (x && y) (first_of found s) found ≡ None
-not_written true true found s e f = absurd (no (sym e))
+not_written true true found s e f = absurd (false≢true (sym e))
 not_written true false found s e f = f
 not_written false y found s e f = f
 

@@ -1,19 +1,16 @@
 -- A slot has its ORB behind one more moment in which no generation is seen, while no status of the ORB is taken.
-use Rattle.std.proofs.Common.{◌≡◌, refl, sym, ap, subst, ◌∙◌, inl, inr, ◌⊎◌, ℕ, suc, List, [], ◌∷◌, ◌++◌}
+use Rattle.std.proofs.Common.{◌≡◌, sym, ap, subst, ◌∙◌, inl, inr, ◌⊎◌, ℕ, suc, List, [], ◌∷◌, ◌++◌}
 use Rattle.sbp_journal.specs.Run.{Moment, said}
 use Rattle.sbp_journal.specs.declared.note.Note.TheVariants as notes
 use Rattle.sbp_laws.specs.Lists.{Orb}
 use Rattle.sbp_world.specs.Lists.SlotsStay.{HasSlot, IsGone, saw, was_over}
 use Rattle.sbp_world.proofs.Lists.SlotsHeld.{slots_stay_law}
 use Rattle.sbp_world.proofs.Lists.StatusMoments.{HasTaken, over_taken, taken_stays}
+use Rattle.sbp_world.proofs.Common.{moments_split}
 
 abbrev pub IsUnseen : Moment → Type 0
 IsUnseen (said (notes.Seen node generation)) = ⊥
 IsUnseen moment = Unit {0}
-
-split : (a b c : List Moment) → a ++ (b ++ c) ≡ (a ++ b) ++ c
-split [] b c = refl
-split (m ∷ a) b c = ap (λ ms. m ∷ ms) (split a b c)
 
 not_seen : (m : Moment) → IsUnseen m → (front back : List Moment) (node generation : ℕ) → front ++ said (notes.Seen node generation) ∷ back ≡ m ∷ [] → ⊥
 not_seen m u [] back node generation e = subst IsUnseen (sym (let z : said (notes.Seen node generation) ≡ m = cc in z)) u
@@ -27,5 +24,5 @@ slot_on m ms i slot one u none h = by (slots_stay_law.stays (m ∷ []) ms i slot
     by (inl g) = g
     by (inr (was_over front back is o)) =
         let t = taken_stays front (back ++ ms) i one.list one.number (over_taken (back ++ ms) i one o) in
-        absurd (none (subst (λ h. HasTaken h i one.list one.number) (split front back ms ∙ ap (λ a. a ++ ms) is) t))
+        absurd (none (subst (λ h. HasTaken h i one.list one.number) (moments_split front back ms ∙ ap (λ a. a ++ ms) is) t))
     by (inr (saw front back generation is d)) = absurd (not_seen m u front back (suc i) generation is)

@@ -2,6 +2,7 @@
 -- is prepared, so that it is the last one which was prepared there.
 use Rattle.std.proofs.Common.{arith, ◌≡◌, ◌∙◌, refl, sym, ap, subst, inl, inr, ◌⊎◌, ◌<◌, ◌≤◌, ◌==◌, ℕ, suc, nat_eq, Bool, true, false, cond, List, [], ◌∷◌, ◌++◌, map, Some}
 use Rattle.std.proofs.lemmas.Bool.Decides.{nat_tests}
+use Rattle.std.proofs.lemmas.Bool.{false≢true}
 use Rattle.sbp_journal.specs.Run.{Moment, said}
 use Rattle.sbp_journal.specs.Wire.{terms}
 use Rattle.sbp_journal.specs.declared.note.Note.{Note}
@@ -14,27 +15,8 @@ use Rattle.sbp_world.proofs.Lists.OpenedMoments.{Same, all_same}
 use Rattle.sbp_world.proofs.Lists.Rises.{Rises}
 use Rattle.sbp_world.proofs.Lists.SlotsHeld.{slots_stay_law}
 use Rattle.sbp_world.proofs.Lists.Stands.{Stands}
-use Rattle.sbp_world.proofs.Lists.StatusKnown.{each_from, generation_grows}
-
-no : false ≡ true → ⊥
-no e = cc
-
-itself : (a : ℕ) → nat_eq a a ≡ true
-itself a = grind (arith, nat_tests)
-
-split : (a b c : List Moment) → a ++ (b ++ c) ≡ (a ++ b) ++ c
-split [] b c = refl
-split (m ∷ a) b c = ap (λ ms. m ∷ ms) (split a b c)
-
-joined : (a : List Moment) (m : Moment) (H : List Moment) → (a ++ m ∷ []) ++ H ≡ a ++ m ∷ H
-joined [] m H = refl
-joined (x ∷ a) m H = ap (λ ms. x ∷ ms) (joined a m H)
-
-unlike : (x y : ℕ) → (x == y) ≡ false → x ≡ y → ⊥
-unlike x y e f = no (sym e ∙ (let z : (x == y) ≡ true = grind (arith, nat_tests) in z))
-
-own_sight : (node generation : ℕ) (old : ℕ → ℕ) → cond (nat_eq node node) generation (old node) ≡ generation
-own_sight node generation old = ap (λ b. cond b generation (old node)) (itself node)
+use Rattle.sbp_world.proofs.Lists.StatusKnown.{each_from, generation_grows, unlike, own_sight}
+use Rattle.sbp_world.proofs.Common.{moments_split, moment_joined}
 
 pub record Slotted (past : List Moment) (i n k : ℕ) : Type 0 where
   pub placed : Stands (prepared_in past i) (slot_at past i n k) n k
@@ -67,7 +49,7 @@ module _ (i n k : ℕ) (H : List Moment) (m : Moment) (more : List Note) where
   gen ms node = (terms ms).generation node
 
   whole : later ++ H ≡ now
-  whole = joined (map said more) m H
+  whole = moment_joined (map said more) m H
 
   module _ (rest : AllOf of_rest more) (first : (slot : ℕ) → prepared_in (m ∷ H) i slot ≡ prepared_in H i slot) (still : gen (m ∷ H) 0 ≡ gen H 0) (low : gen H 0 ≤ gen H (suc i)) (rises : Rises now) (begins : Begins i now) (slot_same : slot_at now i n k ≡ slot_at H i n k) (never : (after before : List Moment) → after ++ before ≡ now → is_over before i (orb n k) ≡ true → ⊥) (was : Slotted H i n k) where
     abbrev slot : ℕ
@@ -94,13 +76,13 @@ module _ (i n k : ℕ) (H : List Moment) (m : Moment) (more : List Note) where
       was_one = let a = target_same in let b = own_same in omega (arith, a, b, one)
 
       none_over : (front back : List Moment) → front ++ back ≡ later → is_over (back ++ H) i (orb n k) ≡ true → ⊥
-      none_over front back is o = never front (back ++ H) (split front back H ∙ (ap (λ ms. ms ++ H) is ∙ whole)) o
+      none_over front back is o = never front (back ++ H) (moments_split front back H ∙ (ap (λ ms. ms ++ H) is ∙ whole)) o
 
       none_saw : (front back : List Moment) (generation : ℕ) → front ++ said (notes.Seen (suc i) generation) ∷ back ≡ later → (generation == gen (back ++ H) (suc i)) ≡ false → ⊥
       none_saw front back generation is differs =
           let x = said (notes.Seen (suc i) generation) in
           let there = x ∷ (back ++ H) in
-          let all : front ++ there ≡ later ++ H = split front (x ∷ back) H ∙ ap (λ ms. ms ++ H) is in
+          let all : front ++ there ≡ later ++ H = moments_split front (x ∷ back) H ∙ ap (λ ms. ms ++ H) is in
           let r : Rises (front ++ there) = subst Rises (sym all) rises_all in
           let here : Rises there = each_from _ front there r in
           let a = generation_grows back H (suc i) here.1 in

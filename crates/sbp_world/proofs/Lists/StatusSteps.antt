@@ -2,6 +2,7 @@
 -- next pointer is null or was not read; and an agent is at the end of its list only behind such a block, or where it was there before.
 use Rattle.std.proofs.Common.{◌≡◌, ◌∙◌, refl, sym, ap, arith, ◌<◌, ◌==◌, ◌+◌, ◌*◌, ◌^◌, ◌&&◌, not, nat_lt, ℕ, Bool, true, false, cond, List, ◌++◌, length, Option, Some, None, IfSome, Result, Ok, Err}
 use Rattle.std.specs.Prelude.{if◌then◌else◌}
+use Rattle.std.proofs.lemmas.Bool.{false≢true}
 use Rattle.orb_layout.specs.declared.ask.Ask.TheVariants as asks
 use Rattle.orb_layout.specs.declared.ask.FailCause.{FailCause}
 use Rattle.orb_layout.specs.declared.ask.FailCause.TheVariants as causes
@@ -34,9 +35,6 @@ use Rattle.command_agent.specs.Checks.{death_by, reads_table, refusal, verdict}
 use Rattle.command_agent.specs.Machine.{Machine, chunk_of, has_present, is_ahead, plan_of}
 use Rattle.command_agent.specs.Steps.{advanced, ahead_lost, ahead_of, ahead_read, ahead_step, answer_chunk, answer_step, block_of, check_step, checked, chunk_written, data_grown, data_read, data_step, elements_read, end_step, follow_step, judge_step, judged, lost_step, main_lost, next_read, orb_read, passed_step, quiet, ran_as, reply_step, reread_step, run_step, sent, served, status_written, table_read, told_or, turn_step, unread_buffer, wait_step, with_outcome}
 
-no : false ≡ true → ⊥
-no e = cc
-
 -- a status that an agent ends an ORB with: none of management, and one whose meaning is a byte
 abbrev pub IsFair : StatusKind → Type 0
 IsFair (kinds.Illegal meaning) = meaning < 256
@@ -66,10 +64,10 @@ pub record EndsSo (kind : StatusKind) (m : Machine) : Type 0 where
 abbrev pub Ends : AgentStep × Machine → Type 0
 Ends s = IfSome s.0.ended (λ kind. EndsSo kind s.1)
 
-none_wrote : (offset size : ℕ) → asks.Nothing ≡ asks.Write offset size → ⊥
+pub none_wrote : (offset size : ℕ) → asks.Nothing ≡ asks.Write offset size → ⊥
 none_wrote offset size e = cc
 
-read_wrote : (at len offset size : ℕ) → asks.Read at len ≡ asks.Write offset size → ⊥
+pub read_wrote : (at len offset size : ℕ) → asks.Read at len ≡ asks.Write offset size → ⊥
 read_wrote at len offset size e = cc
 
 -- and what it reads ahead is no write
@@ -85,7 +83,7 @@ record Goes (s : AgentStep × Machine) : Type 0 where
   off : s.0.ended ≡ None → rests s.1 ≡ false
 
 leaves : (before : Machine) (s : AgentStep × Machine) → Goes s → Leaves before s
-leaves before s g = record { ends = g.ends; tame = g.tame; stays = λ e r. absurd (no (sym (g.off e) ∙ r)) }
+leaves before s g = record { ends = g.ends; tame = g.tame; stays = λ e r. absurd (false≢true (sym (g.off e) ∙ r)) }
 
 abbrev MoveLeaves : Machine → Move × Machine → Type 0
 MoveLeaves before (moves.Send step, m) = Leaves before (step, m)
@@ -144,11 +142,11 @@ verdicts orb aborted =
     (pick_fair aborted (Some kinds.Aborted) (refusal orb) tt (refusals orb)))
 
 -- ---- ends
-end_has : (m : Machine) (kind : StatusKind) (dead : Option FailCause) → has_present (end_step m kind dead).1.phase ≡ true
+pub end_has : (m : Machine) (kind : StatusKind) (dead : Option FailCause) → has_present (end_step m kind dead).1.phase ≡ true
 end_has m kind None = refl
 end_has m kind (Some cause) = refl
 
-some_none : (kind : StatusKind) → Some kind ≡ None → ⊥
+pub some_none : (kind : StatusKind) → Some kind ≡ None → ⊥
 some_none kind e = cc
 
 ended : (m : Machine) (kind : StatusKind) (dead : Option FailCause) → IsFair kind → Goes (end_step m kind dead)
@@ -193,8 +191,8 @@ aheads_by (Some cause) next s h = h
 -- ---- replies
 module _ (before : Machine) where
   turns : (m : Machine) (next : ℕ) (ahead : ReadAhead) → MoveLeaves before (turn_step m next ahead)
-  turns m next aheads.Idle = record { ends = tt; tame = none_wrote; stays = λ e r. absurd (no r) }
-  turns m next (aheads.UnderWay rung) = record { ends = tt; tame = none_wrote; stays = λ e r. absurd (no r) }
+  turns m next aheads.Idle = record { ends = tt; tame = none_wrote; stays = λ e r. absurd (false≢true r) }
+  turns m next (aheads.UnderWay rung) = record { ends = tt; tame = none_wrote; stays = λ e r. absurd (false≢true r) }
   turns m next (aheads.Kept orb) = tt
 
   waits : (m : Machine) → rests before ≡ true → Leaves before (wait_step m)
@@ -205,11 +203,11 @@ module _ (before : Machine) where
   follows m Null h = waits m (h refl)
 
   statuses : (m : Machine) (failure : Option FailCause) → (is_null m.orb.next ≡ true → rests before ≡ true) → MoveLeaves before (status_written m failure)
-  statuses m (Some cause) h = record { ends = tt; tame = none_wrote; stays = λ e r. absurd (no r) }
+  statuses m (Some cause) h = record { ends = tt; tame = none_wrote; stays = λ e r. absurd (false≢true r) }
   statuses m None h = follows m m.orb.next h
 
   nexts : (m : Machine) (r : Result (List ℕ) FailCause) → rests before ≡ true → MoveLeaves before (next_read m r)
-  nexts m (Err cause) h = record { ends = tt; tame = none_wrote; stays = λ e r. absurd (no r) }
+  nexts m (Err cause) h = record { ends = tt; tame = none_wrote; stays = λ e r. absurd (false≢true r) }
   nexts m (Ok bytes) h = follows (record m { orb = record m.orb { next = pointer_at bytes 0 } }) (pointer_at bytes 0) (λ e. h)
 
   orbs_read : (m : Machine) (r : Result (List ℕ) FailCause) → MoveLeaves before (orb_read m r)
@@ -226,7 +224,7 @@ module _ (before : Machine) where
       pick before m.aborted (sent (end_step m kinds.Aborted None)) (elements_read m bytes (first_fault 0 (elements_of bytes))) (ends before m kinds.Aborted None tt) (elements m bytes (first_fault 0 (elements_of bytes)))
 
   grows : (m : Machine) (wanted : ℕ) → MoveLeaves before (data_grown m wanted)
-  grows m wanted = pick before (length m.payload == wanted) (moves.Run, m) (sent (data_step m wanted)) tt (record { ends = tt; tame = none_wrote; stays = λ e r. absurd (no r) })
+  grows m wanted = pick before (length m.payload == wanted) (moves.Run, m) (sent (data_step m wanted)) tt (record { ends = tt; tame = none_wrote; stays = λ e r. absurd (false≢true r) })
 
   data_reads : (m : Machine) (wanted : ℕ) (r : Result (List ℕ) FailCause) → MoveLeaves before (data_read m wanted r)
   data_reads m wanted (Err cause) = ends before m kinds.Failed (Some cause) tt
@@ -236,7 +234,7 @@ module _ (before : Machine) where
 
   answers : (m : Machine) → Leaves before (cond (m.written == length m.answer) (end_step m kinds.Good None) (answer_step m))
   answers m =
-      pick_leaves before (m.written == length m.answer) (end_step m kinds.Good None) (answer_step m) (ends before m kinds.Good None tt) (record { ends = tt; tame = none_wrote; stays = λ e r. absurd (no r) })
+      pick_leaves before (m.written == length m.answer) (end_step m kinds.Good None) (answer_step m) (ends before m kinds.Good None tt) (record { ends = tt; tame = none_wrote; stays = λ e r. absurd (false≢true r) })
 
   chunks : (m : Machine) (failure : Option FailCause) → MoveLeaves before (chunk_written m failure)
   chunks m (Some cause) = ends before m kinds.Failed (Some cause) tt
@@ -249,7 +247,7 @@ module _ (before : Machine) where
   moves_on phases.Answering m answer h p = chunks m (write_failure answer)
   moves_on phases.WritingStatus m answer h p = statuses m (write_failure answer) h
   moves_on phases.ReadingNext m answer h p = nexts m (payload_of answer 8) (h refl)
-  moves_on phases.WritingLastStatus m answer h p = record { ends = tt; tame = none_wrote; stays = λ e r. absurd (no r) }
+  moves_on phases.WritingLastStatus m answer h p = record { ends = tt; tame = none_wrote; stays = λ e r. absurd (false≢true r) }
   moves_on phases.Reset m answer h p = record { ends = tt; tame = none_wrote; stays = λ e r. h (ap (λ (x : Phase). rests_in x m.orb.next) p ∙ r) }
   moves_on phases.Suspended m answer h p = record { ends = tt; tame = none_wrote; stays = λ e r. h refl }
   moves_on phases.Dead m answer h p = record { ends = tt; tame = none_wrote; stays = λ e r. h (ap (λ (x : Phase). rests_in x m.orb.next) p ∙ r) }
@@ -278,9 +276,9 @@ loses phases.Fetching m cause p = ends m m kinds.Failed (Some cause) tt
 loses phases.ReadingTable m cause p = ends m m kinds.Failed (Some cause) tt
 loses (phases.ReadingData wanted) m cause p = ends m m kinds.Failed (Some cause) tt
 loses phases.Answering m cause p = ends m m kinds.Failed (Some cause) tt
-loses phases.WritingStatus m cause p = record { ends = tt; tame = none_wrote; stays = λ e r. absurd (no r) }
-loses phases.ReadingNext m cause p = record { ends = tt; tame = none_wrote; stays = λ e r. absurd (no r) }
-loses phases.WritingLastStatus m cause p = record { ends = tt; tame = none_wrote; stays = λ e r. absurd (no r) }
+loses phases.WritingStatus m cause p = record { ends = tt; tame = none_wrote; stays = λ e r. absurd (false≢true r) }
+loses phases.ReadingNext m cause p = record { ends = tt; tame = none_wrote; stays = λ e r. absurd (false≢true r) }
+loses phases.WritingLastStatus m cause p = record { ends = tt; tame = none_wrote; stays = λ e r. absurd (false≢true r) }
 loses phases.Reset m cause p = record { ends = tt; tame = none_wrote; stays = λ e r. r }
 loses phases.Suspended m cause p = record { ends = tt; tame = none_wrote; stays = λ e r. r }
 loses phases.Dead m cause p = record { ends = tt; tame = none_wrote; stays = λ e r. r }

@@ -3,6 +3,7 @@
 use Rattle.std.proofs.Common.{arith, ◌≡◌, ◌∙◌, refl, sym, ap, subst, inl, inr, ◌⊎◌, ◌<◌, ◌≤◌, ◌||◌, not, ℕ, nat_eq, nat_lt, Bool, true, false, cond, List, ◌∷◌, ◌++◌, map, length, Option, Some, None, Ok}
 use Rattle.std.proofs.lemmas.Bool.Decides.{nat_tests}
 use Rattle.std.proofs.Math.ListN.{get_or-map}
+use Rattle.std.proofs.lemmas.Bool.{false≢true}
 use Rattle.async_packet.specs.Labels.{LabelParts}
 use Rattle.async_packet.specs.Packet.{Packet}
 use Rattle.command_agent.specs.declared.step.AgentStep.{AgentStep}
@@ -77,12 +78,7 @@ use Rattle.sbp_world.proofs.Lists.Rises.{Rises, RisesAt}
 use Rattle.sbp_world.proofs.Lists.StatusKnown.{each_from}
 use Rattle.sbp_world.proofs.Lists.StatusBehind.{At, Then, after_of, inside_then, low_at}
 use Rattle.sbp_world.proofs.Lists.StatusRests.{Resting, sees as rest_sees, ticks as rest_ticks}
-
-no : false ≡ true → ⊥
-no e = cc
-
-nothing_wrote : (offset size : ℕ) → asks.Nothing ≡ asks.Write offset size → ⊥
-nothing_wrote offset size e = cc
+use Rattle.sbp_world.proofs.Lists.StatusSteps.{none_wrote}
 
 -- ---- the first notes of turns of the target
 pub judged_first : (i serial : ℕ) (j : Judged) (H : List Moment) → IsFirst i (said (judged_note serial j)) H
@@ -223,8 +219,8 @@ module _ (wild : ℕ → Bool) (past : List Moment) (w : WorldState) (at : At wi
 
   -- ---- a transaction of the target times out
   late_apart : (q : ℕ) (which : Which) → (lost_step (machine_at w q) which causes.Timeout).0.ended ≡ None → (offset size : ℕ) → (lost_step (machine_at w q) which causes.Timeout).0.ask ≡ asks.Write offset size → ⊥
-  late_apart q Main none offset size e = nothing_wrote offset size (sym (lost_asks (machine_at w q) causes.Timeout none) ∙ e)
-  late_apart q Ahead none offset size e = nothing_wrote offset size (sym (ap (λ (step : AgentStep). step.ask) (quiet_ahead (machine_at w q) causes.Timeout)) ∙ e)
+  late_apart q Main none offset size e = none_wrote offset size (sym (lost_asks (machine_at w q) causes.Timeout none) ∙ e)
+  late_apart q Ahead none offset size e = none_wrote offset size (sym (ap (λ (step : AgentStep). step.ask) (quiet_ahead (machine_at w q) causes.Timeout)) ∙ e)
 
   module _ (serial peer : ℕ) (label : LabelParts) (purpose : Option Purpose) (layer : Layer Purpose) where
     abbrev late_scene : TargetScene
@@ -273,7 +269,7 @@ module _ (wild : ℕ → Bool) (past : List Moment) (w : WorldState) (at : At wi
     where
       by : (x : Option Login) → held_login x ≡ Some login → ⊥
       by None f = absurd (let z : None ≡ Some login = f in cc)
-      by (Some old) f = no (ap live_of f ∙ l)
+      by (Some old) f = false≢true (ap live_of f ∙ l)
         where
           live_of : Option Login → Bool
           live_of None = true
@@ -281,7 +277,7 @@ module _ (wild : ℕ → Bool) (past : List Moment) (w : WorldState) (at : At wi
 
   held_all_dead : (r : Bool × Layer Purpose) (s : TargetScene) (p : ℕ) (login : Login) → r.0 ≡ true → login_at (reset_by r s).1.node p ≡ Some login → is_live login ≡ true → ⊥
   held_all_dead (true, layer) s p login e f l = dead (cut_all cuts.Reset None (scene (cleared_node layer s.node) s.outbox)).node.logins.places p login f l
-  held_all_dead (false, layer) s p login e f l = no e
+  held_all_dead (false, layer) s p login e f l = false≢true e
 
   sees_dead : (generation id : ℕ) (s : TargetScene) (p : ℕ) (login : Login) → s.node.layer.generation < generation → login_at (seen generation id s).1.node p ≡ Some login → is_live login ≡ true → ⊥
   unfolding seen

@@ -1,6 +1,7 @@
 -- What is told of the agent of a place, by the history: the ORB of the end that was told last has its status due, and ended with that; no packet leaves.
-use Rattle.std.proofs.Common.{arith, ◌≡◌, ◌∙◌, refl, sym, ap, subst, ◌≤◌, nat_eq, ℕ, Bool, true, false, cond, List, [], ◌∷◌, ◌++◌, Option, Some, None, ◌<◌, suc}
-use Rattle.std.proofs.lemmas.Bool.Decides.{nat_tests}
+use Rattle.std.proofs.Common.{arith, ◌≡◌, ◌∙◌, refl, sym, ap, subst, ◌≤◌, nat_eq, ℕ, Bool, false, cond, List, [], ◌∷◌, ◌++◌, Option, Some, None, ◌<◌, suc}
+use Rattle.std.proofs.lemmas.Bool.{false≢true}
+use Rattle.std.proofs.lemmas.Option.{none-some, same_Some}
 use Rattle.orb_layout.specs.declared.status.StatusKind.{StatusKind}
 use Rattle.orb_list.specs.Tickets.{TicketParts}
 use Rattle.sbp_bus.specs.declared.places.Holder.{Holder}
@@ -27,20 +28,10 @@ use Rattle.sbp_world.proofs.Lists.Passing.{PassLaw}
 use Rattle.sbp_world.proofs.Lists.StatusMoments.{HasTaken, ends_grow}
 use Rattle.sbp_world.proofs.Lists.StatusPackets.{AreOf, EndSide, IsOf, one_end, or_before, told_end}
 use Rattle.sbp_world.proofs.Lists.StatusSlots.{IsUnseen, slot_on}
+use Rattle.sbp_world.proofs.Common.{itself}
+use Rattle.sbp_world.proofs.Lists.EndTells.{both_none}
 
-no : false ≡ true → ⊥
-no e = cc
-
-itself : (a : ℕ) → nat_eq a a ≡ true
-itself a = grind (arith, nat_tests)
-
-none_end : (one : EndSide) → None ≡ Some one → ⊥
-none_end one e = cc
-
-same_end : (x y : EndSide) → Some x ≡ Some y → x ≡ y
-same_end x y e = cc
-
-opened_initiator : (places : List (Option Holder)) (q : ℕ) (list : Option ℕ) → (holder_at (opened_step q list places) q).initiator ≡ (holder_at places q).initiator
+pub opened_initiator : (places : List (Option Holder)) (q : ℕ) (list : Option ℕ) → (holder_at (opened_step q list places) q).initiator ≡ (holder_at places q).initiator
 unfolding opened_step
 opened_initiator places q list = by (place_in places q) refl
   where
@@ -148,10 +139,6 @@ module _ (past : List Moment) (q : ℕ) where
   one_same (sides.Left login) w h e = absurd h
   one_same (sides.Cleared unit) w h e = absurd h
 
-  both_none : (x y : Option EndSide) → or_before x y ≡ None → (x ≡ None) × (y ≡ None)
-  both_none None y e = (refl, e)
-  both_none (Some x) y e = absurd (none_end x (sym e))
-
   none_same : (side : List Side) (w : WorldState) → AreOf q side → told_end side ≡ None → SameDue w (told_all 0 side w)
   unfolding told_all
   none_same [] w h e = record { due = refl; status = λ i n k. refl }
@@ -180,7 +167,7 @@ module _ (past : List Moment) (q : ℕ) where
         ∙ (ap (λ b. cond b (cond (nat_eq k k) (Some status) (ended_status past i n k)) (ended_status past i n k)) (itself n) ∙ ap (λ b. cond b (Some status) (ended_status past i n k)) (itself k))
 
     names : (ms : List Moment) (j : ℕ) (one : EndSide) (t : Option TicketParts) → j ≡ i → PassLaw wild (said (notes.Ended j (list_in t) (orb_in t) one.kind) ∷ ms) → IsDue i ms (said (notes.Ended j (list_in t) (orb_in t) one.kind) ∷ ms) t one
-    names ms j one None e law = absurd (no (sym own ∙ (ap wild (sym e) ∙ law.0)))
+    names ms j one None e law = absurd (false≢true (sym own ∙ (ap wild (sym e) ∙ law.0)))
     names ms j one (Some t) e law =
         let next = law.0 (ap wild e ∙ own) in
         let number : t.number ≡ ends ms j t.list = next.turn.number in
@@ -200,18 +187,18 @@ module _ (past : List Moment) (q : ℕ) where
     one_due : (side : Side) (w : WorldState) → IsOf q side → (one : EndSide) → one_end side ≡ Some one → (holder w q).initiator ≡ i → PassLaw wild (hist past (told 0 side w)) → IsDue i (hist past w) (hist past (told 0 side w)) (ticket_of w i one.orb) one
     unfolding told
     one_due (sides.Ended place at status) w h one e owner law =
-        let is : record { place = place; orb = at; kind = status } ≡ one = same_end _ one e in
+        let is : record { place = place; orb = at; kind = status } ≡ one = same_Some _ one e in
         let here : (holder w place).initiator ≡ i = ap (λ p. (holder w p).initiator) h ∙ owner in
         let t : ticket_at w place at ≡ ticket_of w i at = ap (λ j. ticket_of w j at) here in
         let note : List Moment = said (notes.Ended (holder w place).initiator (list_in (ticket_at w place at)) (orb_in (ticket_at w place at)) status) ∷ hist past w in
         subst (λ (x : EndSide). IsDue i (hist past w) note (ticket_of w i x.orb) x) is
         (subst (λ t. IsDue i (hist past w) note t (record { place = place; orb = at; kind = status })) t
         (names (hist past w) (holder w place).initiator (record { place = place; orb = at; kind = status }) (ticket_at w place at) here law))
-    one_due (sides.Opened place at) w h one e owner law = absurd (none_end one e)
-    one_due (sides.Ran place at cdb payload outcome) w h one e owner law = absurd (none_end one e)
-    one_due (sides.Dead place cause) w h one e owner law = absurd (none_end one e)
-    one_due (sides.Unsolicited place) w h one e owner law = absurd (none_end one e)
-    one_due (sides.Unsent place) w h one e owner law = absurd (none_end one e)
+    one_due (sides.Opened place at) w h one e owner law = absurd (none-some one e)
+    one_due (sides.Ran place at cdb payload outcome) w h one e owner law = absurd (none-some one e)
+    one_due (sides.Dead place cause) w h one e owner law = absurd (none-some one e)
+    one_due (sides.Unsolicited place) w h one e owner law = absurd (none-some one e)
+    one_due (sides.Unsent place) w h one e owner law = absurd (none-some one e)
     one_due (sides.Own note) w h one e owner law = absurd h
     one_due (sides.Cut place cause) w h one e owner law = absurd h
     one_due (sides.Managed node function subject status login) w h one e owner law = absurd h
@@ -264,7 +251,7 @@ module _ (past : List Moment) (q : ℕ) where
 
     pub told_due : (side : List Side) (w : WorldState) → AreOf q side → (one : EndSide) → told_end side ≡ Some one → (holder w q).initiator ≡ i → PassLaw wild (hist past (told_all 0 side w)) → IsDue i (hist past w) (hist past (told_all 0 side w)) (ticket_of w i one.orb) one
     unfolding told_all
-    told_due [] w h one e owner law = absurd (none_end one e)
+    told_due [] w h one e owner law = absurd (none-some one e)
     told_due (side ∷ later) w h one e owner law =
         let u = told 0 side w in
         let l = one_leaves side w h.0 in

@@ -83,13 +83,11 @@ use Rattle.sbp_world.proofs.Lists.StatusMoments.{HasTaken, latest_of}
 use Rattle.sbp_world.proofs.Lists.StatusPackets.{AllLogged, AllPlain, AllRead, EndSide, IsInbox, Spelled, ToldSo, read_plain}
 use Rattle.sbp_world.proofs.Lists.StatusSlots.{slot_on}
 use Rattle.sbp_world.proofs.Lists.Turns.{Ready}
+use Rattle.sbp_world.proofs.Lists.StatusSteps.{none_wrote}
 
 in_cond : (b : Bool) (x : Option TicketParts) (t : TicketParts) → cond b x None ≡ Some t → x ≡ Some t
 in_cond true x t e = e
 in_cond false x t e = absurd (let z : None ≡ Some t = e in cc)
-
-nothing_wrote : (offset size : ℕ) → asks.Nothing ≡ asks.Write offset size → ⊥
-nothing_wrote offset size e = cc
 
 reads_plain : (packets : List Outgoing) → AllRead packets → AllPlain packets
 reads_plain [] h = tt
@@ -237,8 +235,8 @@ module _ (wild : ℕ → Bool) (i : ℕ) (own : wild i ≡ false) (past : List M
 
     -- ---- a transaction of it times out
     late_apart : (q : ℕ) (which : Which) → (lost_step (machine_at w q) which causes.Timeout).0.ended ≡ None → (offset size : ℕ) → (lost_step (machine_at w q) which causes.Timeout).0.ask ≡ asks.Write offset size → ⊥
-    late_apart q Main none offset size e = nothing_wrote offset size (sym (lost_asks (machine_at w q) causes.Timeout none) ∙ e)
-    late_apart q Ahead none offset size e = nothing_wrote offset size (sym (ap (λ (step : AgentStep). step.ask) (quiet_ahead (machine_at w q) causes.Timeout)) ∙ e)
+    late_apart q Main none offset size e = none_wrote offset size (sym (lost_asks (machine_at w q) causes.Timeout none) ∙ e)
+    late_apart q Ahead none offset size e = none_wrote offset size (sym (ap (λ (step : AgentStep). step.ask) (quiet_ahead (machine_at w q) causes.Timeout)) ∙ e)
 
     module _ (layer : Layer Purpose) (peer : ℕ) (label : LabelParts) (purpose : Option Purpose) (serial : ℕ) where
       abbrev y : Scene

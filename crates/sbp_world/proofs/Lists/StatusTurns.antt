@@ -1,6 +1,7 @@
 -- In a run in which lists were open as they should be before, each turn keeps that the last ORB of a list stands in its slot while its agent is at the end of the list.
 use Rattle.std.proofs.Common.{arith, ◌≡◌, ◌∙◌, refl, sym, ap, subst, ◌<◌, ◌≤◌, ℕ, zero, suc, nat_eq, nat_lt, Bool, true, false, cond, List, [], ◌∷◌, length, Option, Some, None, Result, Ok, Err}
 use Rattle.std.specs.Prelude.{slice_index_or, slice_set}
+use Rattle.std.proofs.lemmas.Bool.{false≢true}
 use Rattle.label_table.specs.declared.reply.Stale.{Stale}
 use Rattle.label_table.specs.Layer.{Layer, expiring_step}
 use Rattle.packet_store.specs.declared.sent.Sent.{Sent}
@@ -49,9 +50,6 @@ use Rattle.sbp_world.proofs.Lists.StatusOthers.{hears_rests, key_rests, line_res
 use Rattle.sbp_world.proofs.Lists.StatusTargets.{delivery_rests, lapse_rests, sight_rests, tick_rests}
 use Rattle.sbp_world.proofs.Lists.Turned.{IsOne}
 use Rattle.sbp_world.proofs.Lists.Walks.{Turn, by_delivery, by_end, by_line, by_start}
-
-no : false ≡ true → ⊥
-no e = cc
 
 end_first : (i : ℕ) (done : Bool) (H : List Moment) → IsFirst i (said (end_note done)) H
 end_first i true H = record { null = λ n k. tt; prepared = λ slot. refl; begun = refl; ended = λ n. refl; appended = λ n. refl; still = moment_generation 0 (said notes.Settled) H refl }

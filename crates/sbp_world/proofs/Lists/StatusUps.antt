@@ -1,5 +1,6 @@
 -- The agent of a place whose login is live: where packets that leave to its node are one initiator's, this has the place, and is in the target's generation or ahead.
 use Rattle.std.proofs.Common.{arith, ◌≡◌, ◌∙◌, sym, ap, subst, ◌<◌, ◌≤◌, ◌+◌, ℕ, suc, Bool, true, false, List, length, Some}
+use Rattle.std.proofs.lemmas.Option.{same_Some}
 use Rattle.bus_transactions.proofs.Reaches.{goes_on}
 use Rattle.login_table.specs.declared.login.Login.{Login}
 use Rattle.login_table.specs.Table.{is_live}
@@ -30,9 +31,6 @@ use Rattle.sbp_world.specs.Sessions.Caught.{HasCaught}
 use Rattle.sbp_world.specs.Lists.Needs.{machine_at}
 use Rattle.sbp_world.specs.Lists.Opens.{AreOpened}
 use Rattle.sbp_world.proofs.Lists.StatusTurn.{Up}
-
-same_login : (x y : Login) → Some x ≡ Some y → x ≡ y
-same_login x y e = cc
 
 -- the initiator of each live login is in the target's generation or ahead
 abbrev pub AllCaught : List Moment → WorldState → Type 0
@@ -83,7 +81,7 @@ module _ (wild : ℕ → Bool) (i : ℕ) (own : wild i ≡ false) (start : List 
 
     pub up_of : Up wild i own past w q
     up_of = record {
-      mine = λ other f n. mine (subst (λ (x : Login). node_of w.generations 0 x.node ≡ Some (suc i)) (same_login other login (sym f ∙ e)) n);
+      mine = λ other f n. mine (subst (λ (x : Login). node_of w.generations 0 x.node ≡ Some (suc i)) (same_Some other login (sym f ∙ e)) n);
       caught = ahead;
       present = present;
     }
@@ -101,7 +99,7 @@ abbrev Lives : WorldState → ℕ → Type 0
 Lives w q = (login : Login) → login_at w.target q ≡ Some login → is_live login ≡ true
 
 lives_by : (w : WorldState) (q : ℕ) (login : Login) → login_at w.target q ≡ Some login → is_live login ≡ true → Lives w q
-lives_by w q login e live other f = ap is_live (same_login other login (sym f ∙ e)) ∙ live
+lives_by w q login e live other f = ap is_live (same_Some other login (sym f ∙ e)) ∙ live
 
 pub lives_open : (ms : List Moment) (w : WorldState) → AreOpened ms w → (q : ℕ) → q < 8 → is_reset (state_in (machine_at w q).phase) ≡ false → Lives w q
 lives_open ms w opens q b up = let o = opens q b up in lives_by w q o.login o.is o.live

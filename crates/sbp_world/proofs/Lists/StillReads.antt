@@ -27,6 +27,7 @@ use Rattle.sbp_world.specs.Lists.OrbNames.{IsNamedBrought, IsStillBrought}
 use Rattle.sbp_world.proofs.Lists.ManageTerms.{untrue}
 use Rattle.sbp_world.proofs.Lists.OrbSteps.{Reads, holds_read}
 use Rattle.sbp_world.proofs.Lists.Sites.{Site, named_prepared}
+use Rattle.sbp_world.proofs.Lists.KeptPhases.{kept_idle}
 
 -- of each agent that has a list open of an initiator that injected no packets
 abbrev pub AreStill : List Disk → List Moment → WorldState → Type 0
@@ -94,9 +95,6 @@ knows_main phases.Suspended l p m k e = untrue e
 same_offset : (a b : ℕ) → At a ≡ At b → a ≡ b
 same_offset a b e = cc
 
-kept_not_idle : {A : Type 0} (orb : CommandOrb) → aheads.Kept orb ≡ aheads.Idle → A
-kept_not_idle orb e = absurd (let no : aheads.Kept orb ≡ aheads.Idle = e in cc)
-
 knows_ahead : (phase : Phase) (l : OrbList) (p : Progress) (next : OrbPointer) (orb : CommandOrb) → KnowsAhead l p phase next (aheads.Kept orb) → (offset : ℕ) → next ≡ At offset → IsAt l (number_behind phase p.ended) p.ended (aligned offset)
 knows_ahead phases.ReadingTable l p next orb k offset e =
     record { place = ap aligned (same_offset offset k.0.offset (sym e ∙ k.0.named)) ∙ k.0.place; linked = k.0.linked; from = omega arith }
@@ -106,12 +104,12 @@ knows_ahead phases.Answering l p next orb k offset e =
     record { place = ap aligned (same_offset offset k.0.offset (sym e ∙ k.0.named)) ∙ k.0.place; linked = k.0.linked; from = omega arith }
 knows_ahead phases.WritingStatus l p next orb k offset e =
     record { place = ap aligned (same_offset offset k.0.offset (sym e ∙ k.0.named)) ∙ k.0.place; linked = k.0.linked; from = omega arith }
-knows_ahead phases.Reset l p next orb k offset e = kept_not_idle orb k
-knows_ahead phases.Dead l p next orb k offset e = kept_not_idle orb k
-knows_ahead phases.Fetching l p next orb k offset e = kept_not_idle orb k
-knows_ahead phases.WritingLastStatus l p next orb k offset e = kept_not_idle orb k
-knows_ahead phases.ReadingNext l p next orb k offset e = kept_not_idle orb k
-knows_ahead phases.Suspended l p next orb k offset e = kept_not_idle orb k
+knows_ahead phases.Reset l p next orb k offset e = kept_idle orb k
+knows_ahead phases.Dead l p next orb k offset e = kept_idle orb k
+knows_ahead phases.Fetching l p next orb k offset e = kept_idle orb k
+knows_ahead phases.WritingLastStatus l p next orb k offset e = kept_idle orb k
+knows_ahead phases.ReadingNext l p next orb k offset e = kept_idle orb k
+knows_ahead phases.Suspended l p next orb k offset e = kept_idle orb k
 
 -- ---- its name, by its slot
 module _ (units ready : ℕ) (has : 0 < units) (start : List Disk) {past : List Moment} {lines : ℕ} (w : WorldState) (h : Holding units ready start past lines w) (s : Site start past w) (lists : OpenLists (hist past w) w) (along : AreAlong (hist past w) w) (place : ℕ) (b : place < 8) (open_there : is_open_at w place ≡ true) (calm : IsCalm (hist past w) (initiator_in w place)) where

@@ -25,16 +25,13 @@ use Rattle.sbp_world.proofs.Lists.LedRuns.{led_as_got}
 use Rattle.sbp_world.proofs.Lists.LinedAppends.{lined_appends, lined_between}
 use Rattle.sbp_world.proofs.Lists.LiveRuns.{goes_tame_or_few}
 use Rattle.sbp_world.proofs.Lists.ManageTerms.{untrue}
-use Rattle.sbp_world.proofs.Lists.OpenProved.{opens_law}
+use Rattle.sbp_world.proofs.Lists.OpenProved.{opens_law, nobody_needs}
 use Rattle.sbp_world.proofs.Lists.OrbWaits.{asked_everywhere, brought_everywhere}
 use Rattle.sbp_world.proofs.Lists.RunLaws.{along_law, order_run_law}
 use Rattle.sbp_world.proofs.Lists.RunSites.{site_after, site_between}
 use Rattle.sbp_world.proofs.Lists.Runs.{KeptAfter, holds_at, kept_after}
 use Rattle.sbp_world.proofs.Lists.StillReads.{AreStill}
 use Rattle.sbp_world.proofs.Lists.StillTurns.{Ground, turn_still}
-
-nobody : (A : Type 0) → true ≡ false → A
-nobody A e = untrue (sym e)
 
 abbrev wilds : ℕ → Bool
 wilds = λ i. true
@@ -50,7 +47,7 @@ module _ (open_lists : OpenListsLaw) (line : ℕ) (run : Run) (r : IsRun run) (h
   logins = ready_logins run.initiators run.ready
 
   kept : KeptAfter wilds opened line run r.few has small size run.entries last.world
-  kept = kept_after wilds opened line run r.few has small size run.entries r.short r.entries r.lines (λ i f. nobody (OpenBefore line run run.entries) f) (λ i f. nobody (IsCalm (history_of line run) i) f)
+  kept = kept_after wilds opened line run r.few has small size run.entries r.short r.entries r.lines (λ i f. nobody_needs (OpenBefore line run run.entries) f) (λ i f. nobody_needs (IsCalm (history_of line run) i) f)
 
   inside : (i : ℕ) → i < length last.world.initiators → i < run.initiators
   inside i b = subst (λ n. i < n) (count_after run run.entries) b

@@ -2,6 +2,7 @@
 -- ones prepared last in their slots still: an initiator prepares ORBs in the line of its action alone, and this leaves the target as it is.
 use Rattle.std.proofs.Common.{arith, ◌≡◌, ◌∙◌, refl, sym, ap, subst, ◌<◌, ◌≤◌, ℕ, suc, nat_eq, nat_lt, Bool, true, false, cond, List, [], ◌∷◌, ◌++◌, map, length, Option, Some, None}
 use Rattle.std.proofs.lemmas.Bool.Decides.{nat_tests}
+use Rattle.std.proofs.lemmas.Option.{same_Some}
 use Rattle.agent_laws.specs.Along.Steps.{number_behind}
 use Rattle.command_agent.specs.declared.phase.Phase.{Phase}
 use Rattle.command_agent.specs.declared.phase.Phase.TheVariants as phases
@@ -306,12 +307,9 @@ module _ (units ready : ℕ) (has : 0 < units) (start : List Disk) (past : List 
       abbrev n_now : ℕ
       n_now = (o units ready has start v h_now site_now lists_now q_now.along p b e calm_now).n
 
-      same_list : (a c : ℕ) → Some a ≡ Some c → a ≡ c
-      same_list a c e = cc
-
       list_same : n_now ≡ n
       list_same =
-          same_list n_now n
+          same_Some n_now n
           (sym (o units ready has start v h_now site_now lists_now q_now.along p b e calm_now).list
           ∙ (ap (λ (k : Holder). k.list) holder_same ∙ (o units ready has start w h site lists q.along p b f calm).list))
 

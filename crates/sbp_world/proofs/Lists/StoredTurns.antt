@@ -61,6 +61,7 @@ use Rattle.sbp_world.proofs.Lists.OrbsHeard.{asked_by_it, manages_is, served_onc
 use Rattle.sbp_world.proofs.Lists.OrbsInPlace.{IsRequest, of_request}
 use Rattle.sbp_world.proofs.Lists.ReplyTurns.{asks_it}
 use Rattle.sbp_world.proofs.Lists.ResponsePackets.{response_packet}
+use Rattle.sbp_world.proofs.Lists.BufferTurns.{place_small}
 
 -- ---- a login response is read at the front of bytes
 number_front : (out rest : List ℕ) → 4 ≤ length out → big_number 4 (out ++ rest) ≡ big_number 4 out
@@ -97,9 +98,6 @@ place_is u running e m =
     let other : Work = record { operation = running.operation; place = placed_in running.managed } in
     let same : one ≡ other = same_some one other e in
     placed_by (is_management u.operation) u.place running.managed m (ap (λ (x : Work). x.place) same)
-
-place_small : (running : Running) → place_in running < 2
-place_small running = omega arith
 
 other_phase : (phase : Phase) (fifo : ℕ) → phase ≡ phases.Response fifo → phase ≡ phases.Status → ⊥
 other_phase phase fifo e f = let no : phases.Response fifo ≡ phases.Status = sym e ∙ f in cc

@@ -26,6 +26,7 @@ use Rattle.target_base.specs.declared.address.Demand.TheVariants as demands
 use Rattle.sbp_target.specs.Histories.Judgements.{asked_at, asked_of}
 use Rattle.sbp_target.proofs.Histories.Asked.{Rows, demand_is, serves_is}
 use Rattle.sbp_world.proofs.Lists.SendsLast.{AllEffects, AllSends, Hands, IsEffect, IsSend, IsUnheard, Led, opens, passes}
+use Rattle.sbp_world.proofs.Agents.Demands.{none_some}
 
 -- ---- a demand, at a place with this list before
 module _ (past : List Moment) (T : Target) (wire : Terms) (p : ℕ) (before : Option ℕ) where
@@ -55,9 +56,6 @@ module _ (past : List Moment) (T : Target) (wire : Terms) (p : ℕ) (before : Op
   register_listed orb_pointer place access s = pointer_listed access.is_write place access s
   register_listed doorbell place access s = either (access.is_write && start_serves (register place doorbell) access) (writes doorbell place access) refl
   register_listed unsolicited_enable place access s = either (access.is_write && start_serves (register place unsolicited_enable) access) (writes unsolicited_enable place access) refl
-
-  none_some : (d : Demand) → Some d ≡ None → ⊥
-  none_some d e = cc
 
   -- a start that serves it, and one that does not
   start_listed : (start : Start) (access : Access) (d : Demand) → start_serves start access ≡ true → Some d ≡ asked_at start access → At (write_of start access) ≡ listed_for d

@@ -1,5 +1,5 @@
 -- What is told of a step of the agent of a place: notes of the ORB behind those that have ended, which the order law has there.
-use Rattle.std.proofs.Common.{◌≡◌, ◌∙◌, refl, sym, ap, subst, ◌<◌, ◌≤◌, ◌||◌, ℕ, suc, is_some, Bool, true, false, cond, List, ◌∷◌, ◌++◌, map, Option, Some, None, IfSome, arith}
+use Rattle.std.proofs.Common.{◌≡◌, ◌∙◌, refl, sym, ap, subst, ◌<◌, ◌≤◌, ◌||◌, ℕ, suc, is_some, Bool, true, false, List, ◌∷◌, ◌++◌, map, Option, Some, None, IfSome, arith}
 use Rattle.orb_layout.specs.declared.ask.Ask.{Ask}
 use Rattle.orb_layout.specs.declared.ask.FailCause.{FailCause}
 use Rattle.orb_layout.specs.declared.status.StatusKind.{StatusKind}
@@ -22,7 +22,7 @@ use Rattle.sbp_journal.specs.declared.note.Note.TheVariants as notes
 use Rattle.sbp_laws.specs.Lists.{linked, slot_at}
 use Rattle.sbp_laws.specs.OrderLaw.{is_cut}
 use Rattle.sbp_laws.specs.Terms.{appends, ends, lists, ran_status, runs}
-use Rattle.sbp_target.specs.Telling.{or_zero, orb_of}
+use Rattle.sbp_target.specs.Telling.{orb_of}
 use Rattle.sbp_world.specs.Telling.{holder, ticket_at}
 use Rattle.sbp_world.specs.Worlds.{WorldState}
 use Rattle.sbp_world.specs.Agents.Alike.{has_list}
@@ -34,6 +34,8 @@ use Rattle.sbp_world.specs.Lists.Along.{GoesAlong}
 use Rattle.sbp_world.proofs.Lists.Later.{had_next}
 use Rattle.sbp_world.proofs.Lists.Passing.{PassLaw, EndsNext, GoesOn, HasRun}
 use Rattle.sbp_world.proofs.Lists.Named.{IsTurn, as_read, ended_more, ended_other, no, order_ended, order_ran}
+use Rattle.sbp_world.proofs.Lists.StatusLosses.{present_is}
+use Rattle.sbp_world.proofs.Lists.OpenedCauses.{either as or_left, or_else}
 
 -- what is known of the agent of a place, by who has it
 abbrev pub AgentAt : (ℕ → Bool) → List Moment → Holder → Machine → Type 0
@@ -139,9 +141,6 @@ module _ (wild : ℕ → Bool) (past : List Moment) (v : WorldState) (q n : ℕ)
     list = λ k b c. l.list k (omega arith) c;
     number = λ k b c. l.number k (omega arith) c;
   }
-
-  present_is : (m : Machine) → has_present m.phase ≡ true → orb_of m ≡ m.present
-  present_is m e = ap (λ (b : Bool). or_zero (cond b (Some m.present) None)) e
 
   -- how far the list is behind a step
   abbrev ended_by : Option StatusKind → ℕ → ℕ
@@ -305,14 +304,6 @@ module _ (wild : ℕ → Bool) (past : List Moment) (v : WorldState) (q n : ℕ)
   either true b f g e = f refl
   either false b f g e = g e
 
-  or_left : (a b : Bool) → a ≡ true → (a || b) ≡ true
-  or_left true b e = refl
-  or_left false b e = absurd (no e)
-
-  or_right : (a b : Bool) → b ≡ true → (a || b) ≡ true
-  or_right true b e = refl
-  or_right false b e = e
-
   -- what is due of a step, where so many have ended and the list is known
   pub record Due (step : AgentStep) (m : Machine) (ms : List Moment) : Type 0 where
     pub listed : IsListed ms
@@ -355,7 +346,7 @@ module _ (wild : ℕ → Bool) (past : List Moment) (v : WorldState) (q n : ℕ)
       stage_ended step m p apart own step.ended (dead_fresh step.dead (ran_fresh step.ran m fresh))
       (end_ended step.ended (src_of m.orb.next) q ∙ ap (λ x. ended_by step.ended x) (run_ended step.ran m.answer p))
       (end_outcome step.ended (src_of m.orb.next) q)
-      (or_right (is_some step.ran) (is_some step.ended)) dead
+      (or_else (is_some step.ran) (is_some step.ended)) dead
 
   wild_no : wild i ≡ true → wild i ≡ false → ⊥
   wild_no e f = no (sym f ∙ e)

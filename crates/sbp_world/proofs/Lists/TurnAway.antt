@@ -1,6 +1,7 @@
 -- A turn that leaves the target sends no packet of it: what initiators do, what is lost or injected, a reset, and the end of a line that settles.
 use Rattle.std.proofs.Common.{arith, ◌≡◌, ◌∙◌, refl, sym, ap, subst, ℕ, suc, ◌+◌, ◌-◌, nat_eq, nat_lt, Bool, true, false, cond, List, [], ◌∷◌, ◌++◌, map, length, Option, Some, None}
 use Rattle.std.specs.Prelude.{slice_index_or}
+use Rattle.std.proofs.lemmas.Option.{same_Some}
 use Rattle.packet_store.specs.declared.sent.Kept.{Kept}
 use Rattle.packet_store.specs.declared.sent.Sent.{Sent}
 use Rattle.packet_store.specs.Kept.{found_sent}
@@ -39,16 +40,13 @@ use Rattle.sbp_world.proofs.Lists.Gots.{split}
 use Rattle.sbp_world.proofs.Lists.LiveTold.{AllAway, AwayFrom, IsAway, IsOwnPacket, hands_told, judged_away, none_told, one_told, posted_told}
 use Rattle.sbp_world.proofs.Lists.TurnCalls.{NoneSent}
 
-some_is : (one other : Sending) → Some one ≡ Some other → one ≡ other
-some_is one other e = cc
-
 -- ---- notes that are none of the target
 module _ (i own : ℕ) (kept : List Kept) (serial : ℕ) (sending : Sending) (zero_from : sending.from ≡ 0) where
   abbrev WasSent : List Moment → Type 0
   WasSent ms = (terms ms).sent serial ≡ Some sending
 
   other_sent : (ms : List Moment) (s generation from to : ℕ) (bytes : List ℕ) → (from ≡ 0 → ⊥) → (b : Bool) → cond b (Some (sending_of ms s generation from to bytes)) ((terms ms).sent serial) ≡ Some sending → WasSent ms
-  other_sent ms s generation from to bytes other true e = absurd (other (ap (λ (q : Sending). q.from) (some_is (sending_of ms s generation from to bytes) sending e) ∙ zero_from))
+  other_sent ms s generation from to bytes other true e = absurd (other (ap (λ (q : Sending). q.from) (same_Some (sending_of ms s generation from to bytes) sending e) ∙ zero_from))
   other_sent ms s generation from to bytes other false e = e
 
   one_none : (note : Note) (ms : List Moment) → IsAway i own kept note → WasSent (said note ∷ ms) → WasSent ms

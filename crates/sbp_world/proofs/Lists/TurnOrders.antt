@@ -18,6 +18,7 @@ use Rattle.sbp_world.specs.Worlds.{Scene, begun, without_notes}
 use Rattle.sbp_world.specs.Hosts.Runs.{more_deliveries}
 use Rattle.sbp_world.specs.Lists.SendsLast.{SendsLast, SendsLastLaw}
 use Rattle.sbp_world.proofs.Lists.SendsLast.{AllEffects, AllSends, Hands, Hears, IsEffect, IsSend, IsStart, Shaped, acts, begins, delivery_hears, goes, hears, injects, judged_starts, keys, late, led, loses, one_comes, resets, sights, ticks, unheard}
+use Rattle.sbp_world.proofs.Common.{said_split}
 
 -- ---- notes, the latest one first, in the order of time
 abbrev behind : List Note → List Note → List Note
@@ -95,10 +96,6 @@ more_sends : (more : List Note) (past : List Moment) (rest : List Note) → AllS
 more_sends [] past rest q e = e
 more_sends (note ∷ more) past rest q e = send_on note (map said more ++ past) rest q.0 (more_sends more past (note ∷ rest) q.1 e)
 
-split : (a b : List Note) (past : List Moment) → map said (a ++ b) ++ past ≡ map said a ++ (map said b ++ past)
-split [] b past = refl
-split (n ∷ a) b past = ap (λ ms. said n ∷ ms) (split a b past)
-
 hands_on : (old new : List Note) (past : List Moment) → Hands old new → ((rest : List Note) → IsGood rest → E (map said old ++ past) rest) → E (map said new ++ past) []
 hands_on old new past h base =
     let sends = h.sent.more in
@@ -106,8 +103,8 @@ hands_on old new past h base =
     let last = behind sends [] in
     let good = behind_effects told last h.told.effects (sends_good last (behind_sends sends [] h.sent.sends tt)) in
     let middle : E (map said h.middle ++ past) last =
-    subst (λ ns. E (map said ns ++ past) last) h.told.is (subst (λ ms. E ms last) (sym (split told old past)) (more_effects told (map said old ++ past) last h.told.effects (base (behind told last) good))) in
-    subst (λ ns. E (map said ns ++ past) []) h.sent.is (subst (λ ms. E ms []) (sym (split sends h.middle past)) (more_sends sends (map said h.middle ++ past) [] h.sent.sends middle))
+    subst (λ ns. E (map said ns ++ past) last) h.told.is (subst (λ ms. E ms last) (sym (said_split told old past)) (more_effects told (map said old ++ past) last h.told.effects (base (behind told last) good))) in
+    subst (λ ns. E (map said ns ++ past) []) h.sent.is (subst (λ ms. E ms []) (sym (said_split sends h.middle past)) (more_sends sends (map said h.middle ++ past) [] h.sent.sends middle))
 
 shaped_on : (old new : List Note) (past : List Moment) → Shaped old new → ((rest : List Note) → IsGood rest → E (map said old ++ past) rest) → E (map said new ++ past) []
 shaped_on old new past (goes h) base = hands_on old new past h base

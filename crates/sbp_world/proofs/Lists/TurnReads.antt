@@ -30,6 +30,7 @@ use Rattle.sbp_world.proofs.Lists.OrbWaits.{over_twice}
 use Rattle.sbp_world.proofs.Lists.Quiet.{AllQuiet, Comes, Hears, IsQuiet, Quietly, acts, comes, delivery_hears, hears, injects, keys, late, loses, nothing, one_comes, quiet_none, resets, sights, ticks, unheard}
 use Rattle.sbp_world.proofs.Lists.Turned.{IsOne}
 use Rattle.sbp_world.proofs.Lists.WasReads.{each_at}
+use Rattle.sbp_world.proofs.Common.{said_split}
 
 -- ---- a turn, by its first moments
 pub data Course (before now : List Moment) : Type 0 where
@@ -38,11 +39,7 @@ pub data Course (before now : List Moment) : Type 0 where
   by_noted : (front : List Note) → AllQuiet front → (note : Note) (line : ℕ) (event : Event) → map said front ++ said note ∷ asked line event ∷ before ≡ now → Course before now
   by_judged : (front : List Note) → AllQuiet front → (serial : ℕ) (judged : Judged) → map said front ++ said (judged_note serial judged) ∷ before ≡ now → Course before now
 
-split : (a b : List Note) (past : List Moment) → map said (a ++ b) ++ past ≡ map said a ++ (map said b ++ past)
-split [] b past = refl
-split (n ∷ a) b past = ap (λ ms. said n ∷ ms) (split a b past)
-
-none_behind : (a : List Note) → a ++ [] ≡ a
+pub none_behind : (a : List Note) → a ++ [] ≡ a
 none_behind [] = refl
 none_behind (n ∷ a) = ap (λ ns. n ∷ ns) (none_behind a)
 
@@ -50,7 +47,7 @@ of_hears : (past : List Moment) (old new : List Note) → Hears old new → Cour
 of_hears past old new (unheard e) = as_it_was (ap (λ ns. map said ns ++ past) e)
 of_hears past old new (hears serial judged q) =
     by_judged q.more q.quiet serial judged
-    (subst (λ ms. ms ≡ map said new ++ past) (split q.more (judged_note serial judged ∷ old) past) (ap (λ ns. map said ns ++ past) q.is))
+    (subst (λ ms. ms ≡ map said new ++ past) (said_split q.more (judged_note serial judged ∷ old) past) (ap (λ ns. map said ns ++ past) q.is))
 
 module _ (line : ℕ) (event : Event) (past : List Moment) (new : List Note) where
   abbrev now : List Moment
@@ -65,7 +62,7 @@ module _ (line : ℕ) (event : Event) (past : List Moment) (new : List Note) whe
   line_comes (nothing e) = by_asked [] tt line event (ap (λ ns. map said ns ++ asked line event ∷ past) (sym e))
   line_comes (comes note q) =
       by_noted q.more q.quiet note line event
-      (subst (λ ms. ms ≡ now) (split q.more (note ∷ []) (asked line event ∷ past)) (ap (λ ns. map said ns ++ asked line event ∷ past) q.is))
+      (subst (λ ms. ms ≡ now) (said_split q.more (note ∷ []) (asked line event ∷ past)) (ap (λ ns. map said ns ++ asked line event ∷ past) q.is))
 
 pub line_course : (past : List Moment) (s : Scene) (line : ℕ) (event : Event) (told : List (Option Told)) → IsOne event → MayHappen event told s → Course (hist past s.world) (hist (asked line event ∷ hist past s.world) (happens line event told s).world)
 unfolding happens MayHappen

@@ -57,12 +57,9 @@ use Rattle.sbp_world.proofs.Lists.Stays.{stays_end}
 use Rattle.sbp_world.proofs.Lists.TurnAway.{acts_none, end_none, hears_none, injects_none, lapses_none, loses_none, refuses_none, resets_none, same_none, sight_none}
 use Rattle.sbp_world.proofs.Lists.TurnCalls.{TurnCalls, TurnFrom, calls, is_sight, keyed as key_set, leaves}
 use Rattle.sbp_world.proofs.Lists.Turned.{IsOne}
-use Rattle.sbp_world.proofs.Lists.Turns.{First, got_it, ignored_it, late_it, seen_it, tick_it}
+use Rattle.sbp_world.proofs.Lists.Turns.{First, late_it, seen_it, tick_it}
 use Rattle.sbp_world.proofs.Lists.Walks.{Standing, Step, Turn, by_delivery, by_end, by_line, by_start}
-
-first_of : (serial : ℕ) (j : Judged) → First (judged_note serial j)
-first_of serial judgements.Got = got_it serial
-first_of serial (judgements.Ignored cause) = ignored_it serial _
+use Rattle.sbp_world.proofs.Lists.Deliveries.{first_of}
 
 -- the numbers of the initiators
 abbrev pub AreNumbered : List Moment → WorldState → Type 0

@@ -25,9 +25,8 @@ use Rattle.sbp_world.proofs.Hosts.Prepares.{itself}
 use Rattle.sbp_world.proofs.Sessions.PlaceNotes.{is_packet}
 use Rattle.sbp_world.specs.Lists.Underway.{IsSame}
 use Rattle.sbp_world.proofs.Sessions.Buffers.{untrue}
-
-none_some : {A : Type 0} (u : Underway) → None ≡ Some u → A
-none_some u e = absurd (let no : None ≡ Some u = e in cc)
+use Rattle.sbp_world.proofs.Lists.ManageFirsts.{pointer_operation}
+use Rattle.sbp_world.proofs.Common.{none_is}
 
 -- ---- two hosts, one behind the other
 
@@ -54,7 +53,7 @@ keeps_same : (new old : Host) → new.operation ≡ old.operation → new.login 
 keeps_same new old e f = λ now g. record { was = now; is = sym e ∙ g; same = same_self now; login = f }
 
 keeps_none : (new old : Host) → new.operation ≡ None → Keeps new old
-keeps_none new old e = λ now g. none_some now (sym e ∙ g)
+keeps_none new old e = λ now g. none_is now (sym e ∙ g)
 
 keeps_if : (b : Bool) (x y : Host) → Keeps x y → Keeps (cond b x y) y
 keeps_if true x y k = k
@@ -111,14 +110,6 @@ pub sent_keeps : (serial generation from to : ℕ) (bytes : List ℕ) (past : Li
 sent_keeps serial generation from to bytes past i n =
     keeps_if ((nat_eq from (suc i)) && not ((known_host past i).wire.injected serial)) (sent_as (part_of bytes) (event_of past) i (present_list past i) serial (host_at past i)) (host_at past i)
     (as_keeps (part_of bytes) (event_of past) i (present_list past i) serial (host_at past i) n)
-
-pointer_operation : (answer : Answer) (own : Bool) (host : Host) → (pointer_answered answer own host).operation ≡ host.operation
-pointer_operation Done true host = refl
-pointer_operation Done false host = refl
-pointer_operation (Payload bytes) own host = refl
-pointer_operation (Refused rcode) own host = refl
-pointer_operation Expired own host = refl
-pointer_operation NoLabel own host = refl
 
 pub pointer_login : (answer : Answer) (own : Bool) (host : Host) → (pointer_answered answer own host).login ≡ host.login
 pointer_login Done true host = refl

@@ -24,6 +24,7 @@ use Rattle.sbp_world.proofs.Hosts.SentMoments.{count_now, serials_from}
 use Rattle.sbp_world.proofs.Sessions.PlaceNotes.{is_packet, note_places, sent_places}
 use Rattle.sbp_world.specs.Lists.Underway.{AreUnderway, IsSame, IsUnderway, OperationsLast, WasUnderway, underway_orb}
 use Rattle.sbp_world.proofs.Lists.UnderwayHosts.{Acts, Had, action_acts, begins, carries_on, note_keeps, same_self, same_then, sent_keeps}
+use Rattle.sbp_world.proofs.Common.{none_is}
 
 -- ---- what an initiator sends for its actions
 
@@ -184,9 +185,6 @@ module _ (i : ℕ) where
 
 -- ---- a history
 
-none_some : {A : Type 0} (u : Underway) → None ≡ Some u → A
-none_some u e = absurd (let no : None ≡ Some u = e in cc)
-
 -- the same operation has the same ORB
 orb_same : (past next : List Moment) (i : ℕ) (was now : Underway) → IsSame was now → before_sent next was.first ≡ before_sent past was.first → underway_orb next i now ≡ underway_orb past i was
 orb_same past next i was now same e =
@@ -235,7 +233,7 @@ module _ (i : ℕ) where
       by earlier (starts s) = let n = first_new i whole (m ∷ whole) now c s in absurd (omega (arith, n, below))
 
   are_from : (past : List Moment) → SerialsCount past → EachMoment (RequestsAt i) past → AreUnderway past i
-  are_from [] c r now e = none_some now e
+  are_from [] c r now e = none_is now e
   are_from (m ∷ past) c r now e = by (are_from past serials r.1) (comes i m past r.0 now e)
     where
       next : List Moment

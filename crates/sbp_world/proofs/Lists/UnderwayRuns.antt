@@ -12,7 +12,6 @@ use Rattle.sbp_initiator.specs.declared.state.InitiatorState.{InitiatorState}
 use Rattle.sbp_journal.specs.Outgoings.{empty_outbox}
 use Rattle.sbp_journal.specs.Run.{Moment, asked, said}
 use Rattle.sbp_journal.specs.Wire.{terms}
-use Rattle.sbp_journal.specs.declared.cause.Judged.{Judged}
 use Rattle.sbp_journal.specs.declared.cause.Judged.TheVariants as judgements
 use Rattle.sbp_journal.specs.declared.event.Action.{Action}
 use Rattle.sbp_journal.specs.declared.event.Event.{Event}
@@ -44,6 +43,7 @@ use Rattle.sbp_world.proofs.Sessions.PlaceNotes.{is_packet}
 use Rattle.sbp_world.specs.Lists.Underway.{UnderwayLaw}
 use Rattle.sbp_world.proofs.Lists.UnderwayMoments.{RequestsAt, operations_last}
 use Rattle.sbp_world.proofs.Sessions.Buffers.{untrue}
+use Rattle.sbp_world.proofs.Sessions.PlaceRuns.{judged_packet}
 
 abbrev Each : ℕ → List Moment → Type 0
 Each i past = EachMoment (RequestsAt i) past
@@ -75,10 +75,6 @@ told_each : (told : List Side) (past : List Moment) (i : ℕ) → AreTame told �
 told_each [] past i t h = h
 told_each (sides.Own note ∷ later) past i t h = told_each later (said note ∷ past) i t.1 (plain note past i (tame_plain note t.0), h)
 told_each (_ ∷ later) past i t h = absurd t.0
-
-judged_plain : (serial : ℕ) (judged : Judged) → is_packet (judged_note serial judged) ≡ false
-judged_plain serial judgements.Got = refl
-judged_plain serial (judgements.Ignored cause) = refl
 
 -- ---- what the lines of a run carry on
 
@@ -140,7 +136,7 @@ module _ (ready : Bool) where
         sent = λ serial generation from to bytes past i s n h. record { lasting = c.sent serial generation from to bytes past i s n h.lasting; each = (quiet serial generation from to bytes past i n, h.each) };
         hears = λ serial generation bytes past i s heard shown after h.
             let r = receive_step generation bytes empty_outbox s in
-            tells_on (said (judged_note serial r.0) ∷ past) i r.1 (receive_left generation bytes s).told (plain (judged_note serial r.0) past i (judged_plain serial r.0), h.each) (c.hears serial generation bytes past i s heard shown after h.lasting);
+            tells_on (said (judged_note serial r.0) ∷ past) i r.1 (receive_left generation bytes s).told (plain (judged_note serial r.0) past i (judged_packet serial r.0), h.each) (c.hears serial generation bytes past i s heard shown after h.lasting);
         expires = λ serial label past i s shown h.
             tells_on (said (notes.TimedOut serial) ∷ past) i (expire_step label empty_outbox s).1 (expire_left label s).told (tt, h.each) (c.expires serial label past i s shown h.lasting);
         stale = λ label past i s e h. record { lasting = c.stale label past i s e h.lasting; each = h.each };

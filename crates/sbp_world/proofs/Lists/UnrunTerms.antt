@@ -2,6 +2,8 @@
 -- and lists that were cut or of which some ended stay so.
 use Rattle.std.proofs.Common.{arith, ◌≡◌, ◌∙◌, refl, sym, ap, subst, ◌<◌, ◌≤◌, ◌+◌, ℕ, suc, nat_eq, Bool, true, false, cond, List, [], ◌∷◌, ◌++◌, Option, Some, None}
 use Rattle.std.proofs.lemmas.Bool.Decides.{nat_tests}
+use Rattle.std.proofs.lemmas.Bool.{false≢true}
+use Rattle.std.proofs.lemmas.Option.{same_Some}
 use Rattle.async_packet.specs.Labels.{LabelParts}
 use Rattle.orb_layout.specs.declared.status.StatusKind.{StatusKind}
 use Rattle.sbp_bus.specs.Generations.{node_of}
@@ -25,18 +27,10 @@ use Rattle.sbp_world.proofs.Lists.Named.{ended_more}
 use Rattle.sbp_world.proofs.Lists.OpenWorlds.{hist_on}
 use Rattle.sbp_world.proofs.Lists.Passing.{PassLaw}
 use Rattle.sbp_world.proofs.Lists.Turns.{First, got_it, ignored_it, key_it, late_it, seen_it, tick_it}
-
-no : false ≡ true → ⊥
-no e = cc
-
-some_same : (a b : ℕ) → Some a ≡ Some b → a ≡ b
-some_same a b e = cc
+use Rattle.sbp_world.proofs.Common.{moments_joined}
+use Rattle.sbp_world.proofs.Lists.BusyTold.{still_cut}
 
 -- ---- a history goes on
-still_cut : (x y c : Bool) → c ≡ true → cond x (cond y true c) c ≡ true
-still_cut true true c e = refl
-still_cut true false c e = e
-still_cut false y c e = e
 
 pub cut_stays : (later before : List Moment) (i n : ℕ) → is_cut before i n ≡ true → is_cut (later ++ before) i n ≡ true
 cut_stays [] before i n e = e
@@ -95,8 +89,8 @@ module _ (wild : ℕ → Bool) (i n : ℕ) (own : wild i ≡ false) where
 
   -- an end of the latest list
   pub ended_now : (ms : List Moment) (x y : Option ℕ) (status : StatusKind) → PassLaw wild (said (notes.Ended i x y status) ∷ ms) → suc n ≡ lists ms i → 0 < ends (said (notes.Ended i x y status) ∷ ms) i n
-  ended_now ms None y status l e = absurd (no (sym own ∙ l.0))
-  ended_now ms (Some m) None status l e = absurd (no (sym own ∙ l.0))
+  ended_now ms None y status l e = absurd (false≢true (sym own ∙ l.0))
+  ended_now ms (Some m) None status l e = absurd (false≢true (sym own ∙ l.0))
   ended_now ms (Some m) (Some k) status l e =
       let at = (l.0 own).turn.still.latest in
       let same : m ≡ n = omega (arith, at, e) in
@@ -159,9 +153,6 @@ first_as ms _ (key_it unit) = record { lists_are = λ i. refl; ends_are = λ i n
 
 -- ---- an end that is told of the agent of a place is one of its initiator's latest list
 module _ (wild : ℕ → Bool) (past : List Moment) (q i n : ℕ) (own : wild i ≡ false) (now : List Moment) (passes : PassLaw wild now) where
-  joined : (a b c : List Moment) → (a ++ b) ++ c ≡ a ++ (b ++ c)
-  joined [] b c = refl
-  joined (m ∷ a) b c = ap (λ ms. m ∷ ms) (joined a b c)
 
   -- the note of it
   module _ (w : WorldState) (place orb : ℕ) (status : StatusKind) (at : place ≡ q) (initiator_is : (holder w q).initiator ≡ i) (latest : suc n ≡ lists (hist past w) i) (later : List Moment) (is : later ++ hist past (told 0 (sides.Ended place orb status) w) ≡ now) where
@@ -185,11 +176,11 @@ module _ (wild : ℕ → Bool) (past : List Moment) (q i n : ℕ) (own : wild i 
 
   pub told_ends : (side : List Side) (w : WorldState) → AreOf q side → AreOthers side → has_end side ≡ true → (holder w q).initiator ≡ i → suc n ≡ lists (hist past w) i → (later : List Moment) → later ++ hist past (told_all 0 side w) ≡ now → 0 < ends now i n
   unfolding told_all
-  told_ends [] w h o e f g later is = absurd (no e)
+  told_ends [] w h o e f g later is = absurd (false≢true e)
   told_ends (sides.Ended place orb status ∷ rest) w h o e f g later is =
       let x = told 0 (sides.Ended place orb status) w in
       let more = hist_on past x (told_all 0 rest x) (all_told 0 rest x) in
-      noted w place orb status h.0 f g (later ++ more.more) (joined later more.more (hist past x) ∙ ap (λ ms. later ++ ms) more.is ∙ is)
+      noted w place orb status h.0 f g (later ++ more.more) (moments_joined later more.more (hist past x) ∙ ap (λ ms. later ++ ms) more.is ∙ is)
   told_ends (sides.Opened place orb ∷ rest) w h o e f g later is =
       let side = sides.Opened place orb in told_ends rest (told 0 side w) h.1 o.1 e (one_holder past q side w h.0 ∙ f) (g ∙ sym (one_lists past i side w tt)) later is
   told_ends (sides.Ran place orb cdb payload outcome ∷ rest) w h o e f g later is =

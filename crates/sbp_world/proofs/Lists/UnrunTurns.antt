@@ -3,6 +3,7 @@
 use Rattle.sbp_world.proofs.Lists.Full.{IsFull, full_closed}
 use Rattle.std.proofs.Common.{arith, ◌≡◌, ◌∙◌, refl, sym, ap, subst, inl, inr, ◌⊎◌, ◌<◌, ◌≤◌, ℕ, suc, nat_eq, Bool, true, false, List, [], ◌∷◌, ◌++◌, Some}
 use Rattle.std.proofs.lemmas.Bool.Decides.{nat_tests}
+use Rattle.std.proofs.lemmas.Bool.{false≢true}
 use Rattle.command_agent.specs.Machine.{Machine}
 use Rattle.label_table.specs.Layer.{Layer}
 use Rattle.sbp_bus.specs.declared.places.Holder.{Holder}
@@ -38,9 +39,7 @@ use Rattle.sbp_world.proofs.Lists.OpenWorlds.{hist_on}
 use Rattle.sbp_world.proofs.Lists.Passing.{PassLaw}
 use Rattle.sbp_world.proofs.Lists.Turns.{First}
 use Rattle.sbp_world.proofs.Lists.UnrunTerms.{AsBefore, cut_stays, ends_grow, first_as, lists_grow, lists_sent, lists_told, told_ends, unbegun}
-
-no : false ≡ true → ⊥
-no e = cc
+use Rattle.sbp_world.proofs.Common.{moments_joined}
 
 -- an agent has an ORB of an initiator that has not ended
 pub record IsBusyFor (w : WorldState) (i : ℕ) : Type 0 where
@@ -87,7 +86,7 @@ stays_busy wild past w v passes s o i own n opened none = by (nat_eq (suc n) (li
     by false e =
         let latest = opened.latest in
         let g = grown in
-        let other : suc n ≡ lists before i → ⊥ = λ f. no (sym e ∙ (let z : nat_eq (suc n) (lists before i) ≡ true = grind (arith, nat_tests) in z)) in
+        let other : suc n ≡ lists before i → ⊥ = λ f. false≢true (sym e ∙ (let z : nat_eq (suc n) (lists before i) ≡ true = grind (arith, nat_tests) in z)) in
         inl (s.adds.runs_are i n 0 ∙ unbegun wild i n own before passes (grind arith))
 
 -- ---- a call of the target
@@ -119,14 +118,10 @@ module _ (wild : ℕ → Bool) (past : List Moment) (w : WorldState) (o : AreBus
     later : List Moment
     is : later ++ before ≡ now
 
-  joined : (a b c : List Moment) → (a ++ b) ++ c ≡ a ++ (b ++ c)
-  joined [] b c = refl
-  joined (m ∷ a) b c = ap (λ ms. m ∷ ms) (joined a b c)
-
   on : On
   on =
       let h = hist_on past u v (handed_extends 0 0 outbox u) in
-      record { later = h.more ++ said note ∷ []; is = joined h.more (said note ∷ []) before ∙ (ap (λ ms. h.more ++ ms) (sym u_is) ∙ h.is) }
+      record { later = h.more ++ said note ∷ []; is = moments_joined h.more (said note ∷ []) before ∙ (ap (λ ms. h.more ++ ms) (sym u_is) ∙ h.is) }
 
   machine_now : (p : ℕ) → machine_at v p ≡ (desk_at node p).agent
   machine_now p = ap (λ (t : NodeState). (desk_at t p).agent) ((handed_alike 0 0 outbox u).target ∙ target_is)
@@ -154,7 +149,7 @@ module _ (wild : ℕ → Bool) (past : List Moment) (w : WorldState) (o : AreBus
     uncut_before = by (is_cut before i n) refl
       where
         by : (b : Bool) → is_cut before i n ≡ b → b ≡ false
-        by true e = absurd (no (sym opened.uncut ∙ subst (λ ms. is_cut ms i n ≡ true) on.is (cut_stays on.later before i n e)))
+        by true e = absurd (false≢true (sym opened.uncut ∙ subst (λ ms. is_cut ms i n ≡ true) on.is (cut_stays on.later before i n e)))
         by false e = refl
 
     none_before : ends before i n ≡ 0
@@ -177,7 +172,7 @@ module _ (wild : ℕ → Bool) (past : List Moment) (w : WorldState) (o : AreBus
           let same : holder u b.place ≡ holder w b.place = ap (λ ps. holder_at ps b.place) places in
           let is = cut_told past b.place n outbox.sides u c.beside cut (ap (λ (h : Holder). h.list) same ∙ l) in
           let at : (holder u b.place).initiator ≡ i = ap (λ (h : Holder). h.initiator) same ∙ b.initiator_is in
-          no (sym opened.uncut ∙ (sends.adds.cuts_are i n ∙ subst (λ j. is_cut (hist past x) j n ≡ true) at is))
+          false≢true (sym opened.uncut ∙ (sends.adds.cuts_are i n ∙ subst (λ j. is_cut (hist past x) j n ≡ true) at is))
 
       by_place : (b : IsBusyFor w i) → ((desk_at node b.place).agent.phase ≡ (machine_at w b.place).phase) ⊎ WasCut b.place outbox.sides → Goal
       by_place b (inl e) = inr (busy_at b.place i b.small b.initiator_is (ap is_busy e ∙ b.busy))
@@ -218,7 +213,7 @@ module _ (wild : ℕ → Bool) (past : List Moment) (w : WorldState) (o : AreBus
         where
           by : (c : Bool) → nat_eq held i ≡ c → Goal
           by true e = let same : held ≡ i = grind (arith, nat_tests) in own_step same (a.busy (known same))
-          by false e = beside_it (λ f. no (sym e ∙ (let z : nat_eq held i ≡ true = grind (arith, nat_tests) in z))) so_far
+          by false e = beside_it (λ f. false≢true (sym e ∙ (let z : nat_eq held i ≡ true = grind (arith, nat_tests) in z))) so_far
 
     by_call : Called w g ⊥ (λ p m. IsFull m) full_closed layer (scene node outbox) → Goal
     by_call (rests c) = rested c so_far

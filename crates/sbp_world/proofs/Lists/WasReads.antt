@@ -4,7 +4,7 @@ use Rattle.std.specs.Prelude.{IsSomeAnd}
 use Rattle.std.proofs.lemmas.Bool.Decides.{nat_tests}
 use Rattle.sbp_world.specs.Agents.AskedRuns.{read_access}
 use Rattle.bus_transactions.specs.Packets.{SerialsCount}
-use Rattle.sbp_world.proofs.Hosts.Remaining.{remains}
+use Rattle.sbp_world.proofs.Hosts.Remaining.{remains, remains_on}
 use Rattle.sbp_world.proofs.Hosts.SentMoments.{sent_below, serials_from}
 use Rattle.sbp_world.specs.Hosts.Remaining.{Remains}
 use Rattle.orb_layout.specs.declared.ask.FailCause.{FailCause}
@@ -32,6 +32,7 @@ use Rattle.sbp_world.specs.Lists.SentReads.{AreSentBehind}
 use Rattle.sbp_world.proofs.Lists.Calm.{injects_before}
 use Rattle.sbp_world.proofs.Lists.Slots.{orb_slot}
 use Rattle.sbp_world.proofs.Lists.ManageTerms.{same_some, untrue}
+use Rattle.sbp_world.proofs.Lists.BufferGets.{fair_back}
 
 -- ---- a packet that was got was got
 got_on : (note : Note) (past : List Moment) (r : ℕ) → was_got past r ≡ true → was_got (said note ∷ past) r ≡ true
@@ -47,7 +48,7 @@ got_later [] past r e = e
 got_later (asked line event ∷ later) past r e = got_later later past r e
 got_later (said note ∷ later) past r e = got_on note (later ++ past) r (got_later later past r e)
 
-got_now : (past : List Moment) (r : ℕ) → was_got (said (notes.Got r) ∷ past) r ≡ true
+pub got_now : (past : List Moment) (r : ℕ) → was_got (said (notes.Got r) ∷ past) r ≡ true
 got_now past r = ap (λ b. cond b true (was_got past r)) (let e : (r == r) ≡ true = grind (arith, nat_tests) in e)
 
 -- ---- the bytes of a whole answer
@@ -80,15 +81,6 @@ pub sender_sent : (found : Option Sending) (node : ℕ) → sender_in found ≡ 
 sender_sent None node e = absurd (let differ : None ≡ Some node = e in cc)
 sender_sent (Some packet) node e = (packet, refl)
 
--- what remains, over two spans
-two_spans : (a b c : List Moment) → Remains a b → Remains b c → Remains a c
-two_spans a b c x y = record {
-  count = (let p = x.count in let q = y.count in omega (arith, p, q));
-  sent = λ r h. y.sent r (let p = x.count in omega (arith, p, h)) ∙ x.sent r h;
-  answers = λ r h. y.answers r (let p = x.count in omega (arith, p, h)) ∙ x.answers r h;
-  before_it = λ r h. y.before_it r (let p = x.count in omega (arith, p, h)) ∙ x.before_it r h;
-}
-
 -- an ORB was read behind its append, and its response spells it
 pub record SpellsOrb (start : List Disk) (past : List Moment) (i n k : ℕ) (orb : CommandOrb) : Type 0 where
   pub read : WasRead start past i n k
@@ -109,7 +101,7 @@ module _ (start : List Disk) (past : List Moment) (place address : ℕ) (orb : C
   counts_then = serials_from b.later then counts_later
 
   stays : Remains b.earlier past
-  stays = subst (Remains b.earlier) b.is (two_spans b.earlier then (b.later ++ then) (remains (said (notes.Got b.response) ∷ []) b.earlier counts_then) (remains b.later then counts_later))
+  stays = subst (Remains b.earlier) b.is (remains_on b.earlier then (b.later ++ then) (remains (said (notes.Got b.response) ∷ []) b.earlier counts_then) (remains b.later then counts_later))
 
   abbrev own : (packet : Sending) × ((terms b.earlier).sent b.response ≡ Some packet)
   own = receiver_sent ((terms b.earlier).sent b.response) 0 b.by_target
@@ -136,15 +128,10 @@ module _ (start : List Disk) (past : List Moment) (place address : ℕ) (orb : C
   access_is : access_at (terms past) b.request ≡ Some (read_access address 32)
   access_is = ap (λ (x : Option Sending). access_in (packet_in x)) (stays.sent b.request request_below) ∙ (b.asked.is ∙ ap (λ (a : Access). Some a) b.asked.asks)
 
-  -- of an initiator that injected no packets it answers that read
-  injects_earlier : (later before : List Moment) (node : ℕ) → (terms (later ++ before)).injects node ≡ false → (terms before).injects node ≡ false
-  injects_earlier [] before node e = e
-  injects_earlier (m ∷ later) before node e = injects_earlier later before node (injects_before m (later ++ before) node e)
-
   injects_then : (node : ℕ) → (terms past).injects node ≡ false → (terms b.earlier).injects node ≡ false
   injects_then node e =
       injects_before (said (notes.Got b.response)) b.earlier node
-      (injects_earlier b.later then node (subst (λ ms. (terms ms).injects node ≡ false) (sym b.is) e))
+      (fair_back b.later then node (subst (λ ms. (terms ms).injects node ≡ false) (sym b.is) e))
 
   module _ (i : ℕ) (of_it : initiator_at (over (target_at start b.earlier)) (terms b.earlier) place ≡ i) (calm : IsCalm past i) where
     to_initiator : receiver_in ((terms b.earlier).sent b.request) ≡ Some (suc i)

@@ -148,7 +148,7 @@ seen_now node generation past = let f : nat_eq node node ≡ true = grind (arith
 
 -- ---- a transaction that waits no more is closed
 
-serial_is : (a b : Kind) (m n : ℕ) → waits a m ≡ waits b n → n ≡ m
+pub serial_is : (a b : Kind) (m n : ℕ) → waits a m ≡ waits b n → n ≡ m
 serial_is a b m n e = cc
 
 closed_here : (s n rcode : ℕ) (old : Option ℕ) → n ≡ s → is_some (cond (nat_eq n s) (Some rcode) old) ≡ true

@@ -28,17 +28,12 @@ use Rattle.sbp_world.specs.Hosts.Core.{session_in}
 use Rattle.sbp_world.proofs.Hosts.Requested.{done_sends}
 use Rattle.sbp_world.specs.Pointers.Moments.{managed_write, manages, register_write}
 use Rattle.sbp_world.proofs.Pointers.Ages.{untrue}
-
-some_none : {A : Type 0} (number : ℕ) → Some number ≡ None → A
-some_none number e = absurd (differ e)
-  where
-    differ : Some number ≡ None → ⊥
-    differ e = cc
+use Rattle.sbp_world.proofs.Common.{some_none, none_is}
 
 -- ---- which action was judged so
 
 -- what was judged of an action that is done
-allowed_by : (action : Action) (s : InitiatorState) (r : Option ℕ) → refusal action (facts_with true s action) ≡ r → (judged_as r action empty_outbox s).0 ≡ None → Allowed action s
+pub allowed_by : (action : Action) (s : InitiatorState) (r : Option ℕ) → refusal action (facts_with true s action) ≡ r → (judged_as r action empty_outbox s).0 ≡ None → Allowed action s
 allowed_by action s (Some number) e f = some_none number f
 allowed_by action s None e f = allowed action s e
 
@@ -136,7 +131,7 @@ pub record HasBytes (action : Action) (s : InitiatorState) (packet : Outgoing) :
   pub found : (asked_for demand s).0 ≡ Some asked
   pub bytes : packet.bytes ≡ asked.bytes
 
-no_packet : {A : Type 0} (packet : Outgoing) → [] ≡ packet ∷ [] → A
+pub no_packet : {A : Type 0} (packet : Outgoing) → [] ≡ packet ∷ [] → A
 no_packet packet e = absurd (differ e)
   where
     differ : [] ≡ packet ∷ [] → ⊥
@@ -200,12 +195,6 @@ access_is own access e = cc
 not_read : {A : Type 0} (own access : Access) → own.is_write ≡ false → Some own ≡ Some access → access.is_write ≡ true → A
 not_read own access r e w = untrue (sym r ∙ ap (λ (a : Access). a.is_write) (sym (access_is own access e)) ∙ w)
 
-no_demand : {A : Type 0} (demand : Demand) → None ≡ Some demand → A
-no_demand demand e = absurd (differ e)
-  where
-    differ : None ≡ Some demand → ⊥
-    differ e = cc
-
 module _ (s : InitiatorState) (demand : Demand) (access : Access) where
   managing : (action : Action) → manages (operation_of action) ≡ true → Some (manage_demand s) ≡ Some demand → asks_for demand ≡ Some access → Asking s action access
   managing action m e f = asks_management m (access_is _ access (of_demand (manage_demand s) demand access e f))
@@ -225,7 +214,7 @@ module _ (s : InitiatorState) (demand : Demand) (access : Access) where
   asked_write actions.AbortSet e f w = managing actions.AbortSet refl e f
   asked_write actions.UnitReset e f w = managing actions.UnitReset refl e f
   asked_write actions.TargetReset e f w = managing actions.TargetReset refl e f
-  asked_write (actions.Put cmd) e f w = no_demand demand e
-  asked_write actions.Low e f w = no_demand demand e
-  asked_write actions.Link e f w = no_demand demand e
-  asked_write (actions.Dummy orb) e f w = no_demand demand e
+  asked_write (actions.Put cmd) e f w = none_is demand e
+  asked_write actions.Low e f w = none_is demand e
+  asked_write actions.Link e f w = none_is demand e
+  asked_write (actions.Dummy orb) e f w = none_is demand e

@@ -1,6 +1,7 @@
 -- At whose registers an initiator writes and reads, as it does an action.
 use Rattle.std.proofs.Common.{arith, ◌≡◌, ◌⊎◌, inl, inr, refl, sym, ◌∙◌, ap, subst, ℕ, suc, ◌+◌, ◌<◌, ◌≤◌, ◌&&◌, nat_eq, is_some, not, Bool, true, false, cond, List, [], ◌∷◌, Option, Some, None}
 use Rattle.std.proofs.lemmas.Bool.Decides.{nat_tests}
+use Rattle.std.proofs.lemmas.Option.{same_Some}
 use Rattle.bus_memory.specs.declared.window.Window.TheVariants as windows
 use Rattle.bus_memory.specs.Windows.{start}
 use Rattle.label_table.specs.Bodies.{header_to, request_with}
@@ -20,7 +21,6 @@ use Rattle.sbp_journal.specs.declared.note.Note.TheVariants as notes
 use Rattle.sbp_journal.specs.declared.operation.Operation.TheVariants as operations
 use Rattle.sbp_journal.specs.declared.outbox.Outgoing.{Outgoing}
 use Rattle.sbp_initiator.specs.declared.purpose.Demand.{Demand}
-use Rattle.sbp_initiator.specs.declared.purpose.Pointing.{Pointing}
 use Rattle.sbp_initiator.specs.declared.purpose.Wanted.{Wanted}
 use Rattle.sbp_initiator.specs.declared.state.InitiatorState.{InitiatorState}
 use Rattle.sbp_initiator.specs.Acting.{act_step, demand_of, first_in, ring_demand}
@@ -39,7 +39,6 @@ use Rattle.sbp_session.specs.declared.seat.Seat.{Seat}
 use Rattle.sbp_session.specs.declared.seat.Seat.TheVariants as seats
 use Rattle.sbp_initiator.specs.Histories.Ends.{own}
 use Rattle.sbp_initiator.proofs.Histories.Actions.{Allowed}
-use Rattle.sbp_initiator.proofs.Histories.Effects.{HasMarks}
 use Rattle.sbp_world.specs.Hosts.Calls.{behind}
 use Rattle.sbp_world.specs.Hosts.Core.{Core, session_in}
 use Rattle.sbp_world.specs.Hosts.Fits.{AreRows}
@@ -63,7 +62,7 @@ use Rattle.sbp_world.proofs.Pointers.Ages.{untrue}
 use Rattle.sbp_world.proofs.Pointers.Asks.{act_allowed, act_bytes, asks_for, live_session, ring_list, ring_wanted, ringing}
 use Rattle.sbp_world.proofs.Pointers.BaseSeats.{live_carried, live_seated, seated_carried, seated_live}
 use Rattle.sbp_world.proofs.Pointers.BaseSteps.{act_carried, is_behind}
-use Rattle.sbp_world.proofs.Pointers.BaseTold.{pointed_told, unrefused_told}
+use Rattle.sbp_world.proofs.Pointers.BaseTold.{pointed_told, unrefused_told, if_so}
 use Rattle.sbp_world.proofs.Pointers.Basing.{AtAgent, Based, PointsAt, Requested, others_based, requested_on}
 use Rattle.sbp_world.proofs.Pointers.GuardActs.{Told, action_told}
 use Rattle.sbp_world.proofs.Pointers.GuardDoes.{Ready}
@@ -72,15 +71,10 @@ use Rattle.sbp_world.proofs.Pointers.Resetting.{asked_host, resetting_back, told
 use Rattle.sbp_world.proofs.Pointers.Sending.{names}
 use Rattle.sbp_world.proofs.Pointers.Steps.{ToldAs, append, append_present, links, links_still, silent, told_as}
 use Rattle.sbp_world.proofs.Pointers.Waits.{state_told}
-
-none_is : {A : Type 0} {B : Type 0} {x : B} → None ≡ Some x → A
-none_is e = absurd (differ e)
-  where
-    differ : {B : Type 0} {x : B} → None ≡ Some x → ⊥
-    differ e = cc
-
-some_same : {A : Type 0} (a b : A) → Some a ≡ Some b → a ≡ b
-some_same a b e = cc
+use Rattle.sbp_world.proofs.Common.{itself, cond_off, cond_on}
+use Rattle.sbp_world.proofs.Pointers.Naming.{none_some}
+use Rattle.sbp_world.proofs.Pointers.Writing.{absurd_below}
+use Rattle.sbp_world.proofs.Hosts.PointActs.{has_list}
 
 -- ---- sessions
 
@@ -171,36 +165,17 @@ acted_cases actions.Enable list serial host u e r = absurd (let x : operations.E
 
 -- ---- what is named
 
-pub apart : {A : Type 0} (b : Bool) (x y : A) → b ≡ false → cond b x y ≡ y
-apart true x y e = untrue (sym e)
-apart false x y e = refl
-
-so : {A : Type 0} (b : Bool) (x y : A) → b ≡ true → cond b x y ≡ x
-so true x y e = refl
-so false x y e = untrue e
-
-itself : (n : ℕ) → nat_eq n n ≡ true
-itself n = grind (arith, nat_tests)
-
 serial_is : (p : Option ℕ) (serial : ℕ) → is_serial p serial ≡ true → p ≡ Some serial
 serial_is None serial e = untrue e
 serial_is (Some other) serial e = let same : other ≡ serial = grind (arith, nat_tests) in ap Some same
 
-if_so : (b : Bool) (list : Option ℕ) (n : ℕ) → list_if b list ≡ Some n → b ≡ true
-if_so true list n e = refl
-if_so false list n e = none_is e
-
 told_so : (a b : Bool) (list : Option ℕ) (n : ℕ) → told_of (a && b) list ≡ Some n → a ≡ true
 told_so true b list n e = refl
-told_so false b list n e = none_is e
+told_so false b list n e = none_some e
 
 state_is : (action : Action) → is_state (Some action) ≡ true → action ≡ actions.State
 state_is actions.State e = refl
 state_is _ e = untrue e
-
-has_list : (present : Option PresentList) (mark : Pointing) → HasMarks present mark → is_unwritten mark ≡ false → is_some present ≡ true
-has_list None mark h e = untrue (sym e ∙ h)
-has_list (Some list) mark h e = refl
 
 -- ORB_POINTER is named by a ring alone
 rings_now : (rung : Bool) (serial : ℕ) (old : Option ℕ) → (old ≡ Some serial → ⊥) → pointer_after rung serial old ≡ Some serial → (rung ≡ true) × (old ≡ None)
@@ -208,8 +183,8 @@ rings_now true serial None f e = (refl, refl)
 rings_now true serial (Some first) f e = absurd (f e)
 rings_now false serial old f e = absurd (f e)
 
-present_is : (present : Option PresentList) (n : ℕ) → present_in present ≡ Some n → is_list present n ≡ true
-present_is None n e = none_is e
+pub present_is : (present : Option PresentList) (n : ℕ) → present_in present ≡ Some n → is_list present n ≡ true
+present_is None n e = none_some e
 present_is (Some list) n e = let same : list.tail.list ≡ n = cc in (let z : nat_eq list.tail.list n ≡ true = grind (arith, nat_tests) in z)
 
 -- ---- an action
@@ -270,7 +245,7 @@ module _ (ready : Bool) (action : Action) (past : List Moment) (i : ℕ) (s : In
       sym (append_present past i (new_list past i) m cdb buffer)
       ∙ sym (ap (λ (x : ℕ → Option ℕ). x i) (links_still rest (said (notes.Append i (new_list past i) m cdb buffer) ∷ past) i l).present)
       ∙ ap (λ x. present_list (behind (own x) past) i) (sym e) ∙ f in
-      begins_by s.lists.slots.present refl n (some_same (new_list past i) n g) p
+      begins_by s.lists.slots.present refl n (same_Some (new_list past i) n g) p
 
   act_lists : (n : ℕ) → is_list t.1.lists.slots.present n ≡ true → (is_list s.lists.slots.present n ≡ true) ⊎ ((n ≡ lists past i) × (prepares action ≡ true))
   act_lists n e =
@@ -279,8 +254,6 @@ module _ (ready : Bool) (action : Action) (past : List Moment) (i : ℕ) (s : In
 
   -- one for which ORB_POINTER was written, or that a read tells of, was there
   module _ (f : Fit past) where
-    not_less : {A : Type 0} (n m : ℕ) → n ≡ m → n < m → A
-    not_less n m e l = absurd (let x : ⊥ = omega arith in x)
 
     begun_before : (n serial : ℕ) → pointed_list past serial i ≡ Some n → n < lists past i
     begun_before n serial p = ((names past i f.serials f.sent (h.guarded.kept f).told).each n serial p).begun
@@ -293,7 +266,7 @@ module _ (ready : Bool) (action : Action) (past : List Moment) (i : ℕ) (s : In
       where
         by : (is_list s.lists.slots.present n ≡ true) ⊎ ((n ≡ lists past i) × (prepares action ≡ true)) → is_list s.lists.slots.present n ≡ true
         by (inl g) = g
-        by (inr g) = not_less n (lists past i) g.0 l
+        by (inr g) = absurd_below n (lists past i) g.0 l
 
   -- ---- the session
 
@@ -358,13 +331,13 @@ module _ (ready : Bool) (action : Action) (past : List Moment) (i : ℕ) (s : In
     now_host = asked_host action serial generation 0 packet.bytes ms i (told.line ∙ under) q honest
 
     line : own_action i (event_of ms) ≡ Some action
-    line = ap (own_action i) (told.line ∙ under) ∙ so (nat_eq i i) (Some action) None (itself i)
+    line = ap (own_action i) (told.line ∙ under) ∙ cond_on (nat_eq i i) (Some action) None (itself i)
 
     -- what it asks for
     this_asks : Fit now → (own_demand : Demand) (access : Access) → demand_of action s ≡ Some own_demand → asks_for own_demand ≡ Some access → Requested now i serial access
     this_asks f own_demand access d e =
         let has = act_bytes action s packet done one in
-        let same : own_demand ≡ has.demand = some_same own_demand has.demand (sym d ∙ has.is) in
+        let same : own_demand ≡ has.demand = same_Some own_demand has.demand (sym d ∙ has.is) in
         record {
           packet = sending;
           sent = sent_new serial sending (terms ms);
@@ -401,10 +374,10 @@ module _ (ready : Bool) (action : Action) (past : List Moment) (i : ℕ) (s : In
       where
         by : (b : Bool) → nat_eq x serial ≡ b → (pointed_list past x i ≡ Some n) ⊎ ((x ≡ serial) × (pointer now i ≡ Some serial))
         by false f =
-            inl (sym (ap (λ (y : ℕ → ℕ → Option ℕ). y x i) (pointed_told t.0.sides past left.told)) ∙ sym (apart (nat_eq x serial) _ (pointed_list ms x i) f) ∙ e)
+            inl (sym (ap (λ (y : ℕ → ℕ → Option ℕ). y x i) (pointed_told t.0.sides past left.told)) ∙ sym (cond_off (nat_eq x serial) _ (pointed_list ms x i) f) ∙ e)
         by true f =
             let list = list_if (is_serial (pointer now i) serial) (present_list ms i) in
-            let g : list ≡ Some n = sym (so (nat_eq i i) list (pointed_list ms x i) (itself i)) ∙ sym (so (nat_eq x serial) (cond (nat_eq i i) list (pointed_list ms x i)) (pointed_list ms x i) f) ∙ e in
+            let g : list ≡ Some n = sym (cond_on (nat_eq i i) list (pointed_list ms x i) (itself i)) ∙ sym (cond_on (nat_eq x serial) (cond (nat_eq i i) list (pointed_list ms x i)) (pointed_list ms x i) f) ∙ e in
             inr ((let z : x ≡ serial = grind (arith, nat_tests) in z), serial_is (pointer now i) serial (if_so (is_serial (pointer now i) serial) (present_list ms i) n g))
 
     state_cases : (x n : ℕ) → state_list now x i ≡ Some n → (state_list past x i ≡ Some n) ⊎ ((x ≡ serial) × (action ≡ actions.State))
@@ -412,10 +385,10 @@ module _ (ready : Bool) (action : Action) (past : List Moment) (i : ℕ) (s : In
       where
         by : (b : Bool) → nat_eq x serial ≡ b → (state_list past x i ≡ Some n) ⊎ ((x ≡ serial) × (action ≡ actions.State))
         by false f =
-            inl (sym (ap (λ (y : ℕ → ℕ → Option ℕ). y x i) (state_told t.0.sides past left.told)) ∙ sym (apart (nat_eq x serial) _ (state_list ms x i) f) ∙ e)
+            inl (sym (ap (λ (y : ℕ → ℕ → Option ℕ). y x i) (state_told t.0.sides past left.told)) ∙ sym (cond_off (nat_eq x serial) _ (state_list ms x i) f) ∙ e)
         by true f =
             let list = told_of (is_state (own_action i (event_of ms)) && names_answered ms (pointer ms i)) (present_list ms i) in
-            let g : list ≡ Some n = sym (so (nat_eq i i) list (state_list ms x i) (itself i)) ∙ sym (so (nat_eq x serial) (cond (nat_eq i i) list (state_list ms x i)) (state_list ms x i) f) ∙ e in
+            let g : list ≡ Some n = sym (cond_on (nat_eq i i) list (state_list ms x i) (itself i)) ∙ sym (cond_on (nat_eq x serial) (cond (nat_eq i i) list (state_list ms x i)) (state_list ms x i) f) ∙ e in
             inr ((let z : x ≡ serial = grind (arith, nat_tests) in z), state_is action (sym (ap is_state line) ∙ told_so (is_state (own_action i (event_of ms))) (names_answered ms (pointer ms i)) (present_list ms i) n g))
 
     reset_cases : (x : ℕ) → IsResetting now i x → (IsResetting past i x) ⊎ ((action ≡ actions.AgentReset) × (x ≡ serial))
@@ -433,7 +406,7 @@ module _ (ready : Bool) (action : Action) (past : List Moment) (i : ℕ) (s : In
     state_live e = subst (λ x. fits_session x (session_of s.seat) ≡ true) e a.session
 
     response_is : is_in_live (session_of s.seat) ≡ true → (response : LoginResponse) → carried t.1.seat ≡ Some response → response_in s.seat ≡ response
-    response_is l response c = some_same (response_in s.seat) response (sym (live_carried s.seat l) ∙ sym carries ∙ c)
+    response_is l response c = same_Some (response_in s.seat) response (sym (live_carried s.seat l) ∙ sym carries ∙ c)
 
     module _ (f : Fit now) where
       old_fit : Fit past

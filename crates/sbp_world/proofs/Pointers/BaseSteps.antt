@@ -1,6 +1,7 @@
 -- An action leaves the response that the session carries; and a read of AGENT_STATE that tells of a list stands behind the answer to its ORB_POINTER write.
 use Rattle.std.proofs.Common.{arith, ◌≡◌, refl, sym, ◌∙◌, ap, ℕ, zero, suc, ◌+◌, ◌==◌, ◌&&◌, nat_eq, Bool, true, false, cond, List, [], ◌∷◌, Option, Some, None}
 use Rattle.std.proofs.lemmas.Bool.Decides.{nat_tests}
+use Rattle.std.proofs.lemmas.Option.{same_Some}
 use Rattle.bus_transactions.specs.Packets.{SerialsCount}
 use Rattle.bus_transactions.specs.Sent.{AreSent}
 use Rattle.label_table.specs.declared.judgement.Asked.{Asked}
@@ -36,8 +37,9 @@ use Rattle.sbp_world.specs.Pointers.Moments.{MayStand, is_answered, is_state, na
 use Rattle.sbp_world.specs.Pointers.Pointers.{pointed_list}
 use Rattle.sbp_world.proofs.Pointers.Ages.{moment_closes, untrue}
 use Rattle.sbp_world.proofs.Pointers.BaseSeats.{kept_carried}
-use Rattle.sbp_world.proofs.Pointers.Naming.{Naming}
+use Rattle.sbp_world.proofs.Pointers.Naming.{Naming, none_some}
 use Rattle.sbp_world.proofs.Pointers.Sending.{names, sent_behind}
+use Rattle.sbp_world.proofs.Common.{cond_off}
 
 -- ---- the response that is carried
 
@@ -128,20 +130,10 @@ pub record IsBehind (past : List Moment) (i n : ℕ) : Type 0 where
   pub pointed : pointed_list past other i ≡ Some n
   pub answered : is_answered past other ≡ true
 
-none_is : {A : Type 0} {B : Type 0} {x : B} → None ≡ Some x → A
-none_is e = absurd (differ e)
-  where
-    differ : {B : Type 0} {x : B} → None ≡ Some x → ⊥
-    differ e = cc
-
-other_way : {A : Type 0} (b : Bool) (x y : A) → b ≡ false → cond b x y ≡ y
-other_way true x y e = untrue (sym e)
-other_way false x y e = refl
-
 told_both : (a b : Bool) (list : Option ℕ) (n : ℕ) → told_of (a && b) list ≡ Some n → (b ≡ true) × (list ≡ Some n)
 told_both true true list n e = (refl, e)
-told_both true false list n e = none_is e
-told_both false b list n e = none_is e
+told_both true false list n e = none_some e
+told_both false b list n e = none_some e
 
 record NamesAnswered (past : List Moment) (p : Option ℕ) : Type 0 where
   serial : ℕ
@@ -151,9 +143,6 @@ record NamesAnswered (past : List Moment) (p : Option ℕ) : Type 0 where
 named_by : (past : List Moment) (p : Option ℕ) → names_answered past p ≡ true → NamesAnswered past p
 named_by past None e = untrue e
 named_by past (Some serial) e = record { serial = serial; is = refl; answered = e }
-
-some_same : (a b : ℕ) → Some a ≡ Some b → a ≡ b
-some_same a b e = cc
 
 -- a packet is a new one
 older : (past : List Moment) (i n x serial : ℕ) → Naming past i → serial ≡ (terms past).count + 1 → pointed_list past x i ≡ Some n → nat_eq x serial ≡ false
@@ -168,7 +157,7 @@ sent_behind_by past i j serial generation to bytes c k h n x e = by (nat_eq x se
     kept : IsBehind past i n → IsBehind (said (notes.Sent serial generation (suc j) to bytes) ∷ past) i n
     kept b = record {
       other = b.other;
-      pointed = other_way (nat_eq b.other serial) _ (pointed_list past b.other i) (older past i n b.other serial k c b.pointed) ∙ b.pointed;
+      pointed = cond_off (nat_eq b.other serial) _ (pointed_list past b.other i) (older past i n b.other serial k c b.pointed) ∙ b.pointed;
       answered = moment_closes (said (notes.Sent serial generation (suc j) to bytes)) past b.other b.answered;
     }
 
@@ -177,7 +166,7 @@ sent_behind_by past i j serial generation to bytes c k h n x e = by (nat_eq x se
         let g = told_both (is_state (own_action j (event_of past))) (names_answered past (host_at past j).pointer) (present_list past j) n f in
         let p = named_by past (host_at past j).pointer g.0 in
         let a = k.named p.serial (ap (pointer past) same ∙ p.is) in
-        let list = some_same a.list n (sym a.present ∙ ap (present_list past) same ∙ g.1) in
+        let list = same_Some a.list n (sym a.present ∙ ap (present_list past) same ∙ g.1) in
         record { other = p.serial; pointed = a.is ∙ ap Some list; answered = p.answered }
 
     by : (b d : Bool) → nat_eq x serial ≡ b → nat_eq i j ≡ d → cond b (cond d (told_of (is_state (own_action j (event_of past)) && names_answered past (host_at past j).pointer) (present_list past j)) (state_list past x i)) (state_list past x i) ≡ Some n → IsBehind (said (notes.Sent serial generation (suc j) to bytes) ∷ past) i n
@@ -193,7 +182,7 @@ moment_behind (said note) past i c k h n x e = let b = h n x e in record { other
 moment_behind (asked line event) past i c k h n x e = let b = h n x e in record { other = b.other; pointed = b.pointed; answered = moment_closes (asked line event) past b.other b.answered }
 
 pub is_behind : (past : List Moment) (i : ℕ) → SerialsCount past → AreSent past → EachMoment (MayStand i) past → (n x : ℕ) → state_list past x i ≡ Some n → IsBehind past i n
-is_behind [] i c own s n x e = none_is e
+is_behind [] i c own s n x e = none_some e
 is_behind (m ∷ past) i c own s n x e =
     let d = serials_behind m past c in
     let o = sent_behind m past own in

@@ -2,6 +2,7 @@
 -- of AGENT_STATE tell of.
 use Rattle.std.proofs.Common.{arith, ◌≡◌, refl, sym, ◌∙◌, ap, subst, ℕ, zero, suc, ◌==◌, ◌&&◌, ◌||◌, nat_eq, not, Bool, true, false, cond, List, [], ◌∷◌, ◌++◌, Option, Some, None}
 use Rattle.std.proofs.lemmas.Bool.Decides.{nat_tests}
+use Rattle.std.proofs.lemmas.Bool.{not-true}
 use Rattle.sbp_bus.specs.Packets.{judged_note}
 use Rattle.sbp_journal.specs.Run.{Moment, said}
 use Rattle.sbp_journal.specs.declared.cause.Judged.{Judged}
@@ -27,20 +28,13 @@ use Rattle.sbp_world.specs.Pointers.Moments.{is_state, names_answered, own_actio
 use Rattle.sbp_world.specs.Pointers.Pointers.{list_if, pointed_list}
 use Rattle.sbp_world.proofs.Pointers.Ages.{untrue}
 use Rattle.sbp_world.proofs.Pointers.Resetting.{told_fades}
-
-none_is : {A : Type 0} {B : Type 0} {x : B} → None ≡ Some x → A
-none_is e = absurd (differ e)
-  where
-    differ : {B : Type 0} {x : B} → None ≡ Some x → ⊥
-    differ e = cc
+use Rattle.sbp_world.proofs.Pointers.Naming.{none_some}
+use Rattle.sbp_world.proofs.Pointers.Showing.{neither}
+use Rattle.sbp_world.proofs.Pointers.Waits.{other}
 
 both : (a b : Bool) → a ≡ false → b ≡ false → (a || b) ≡ false
 both true b e f = untrue (sym e)
 both false b e f = f
-
-neither : (a b : Bool) → (a || b) ≡ false → (a ≡ false) × (b ≡ false)
-neither true b e = untrue (sym e)
-neither false b e = (refl, e)
 
 -- ---- a logout is refused
 
@@ -94,7 +88,7 @@ pub last_unclosed : (i : ℕ) (told : List Side) (side : Side) → closes_of i (
 last_unclosed i [] side e = (neither (closes i side) false e).0
 last_unclosed i (first ∷ told) side e = last_unclosed i told side (neither (closes i first) (closes_of i (told ++ side ∷ [])) e).1
 
-so_none : (b : Bool) (x y : Host) → b ≡ true → x.operation ≡ None → (cond b x y).operation ≡ None
+pub so_none : (b : Bool) (x y : Host) → b ≡ true → x.operation ≡ None → (cond b x y).operation ≡ None
 so_none true x y e f = f
 so_none false x y e f = untrue e
 
@@ -124,7 +118,7 @@ unclosed_told (sides.Own note ∷ later) past i h underway e =
   where
     by : (b : Bool) → is_end i note ≡ b → b ≡ false
     by false f = refl
-    by true f = none_is (sym (end_none note past i f) ∙ told_fades later (said note ∷ past) i h.1 underway e)
+    by true f = none_some (sym (end_none note past i f) ∙ told_fades later (said note ∷ past) i h.1 underway e)
 unclosed_told (_ ∷ later) past i h underway e = absurd h.0
 
 -- ---- the lists for which ORB_POINTER was written, and those that reads tell of
@@ -151,19 +145,10 @@ pub judged_pointed : (serial : ℕ) (judged : Judged) (past : List Moment) → p
 judged_pointed serial judgements.Got past = refl
 judged_pointed serial (judgements.Ignored cause) past = refl
 
-other : {A : Type 0} (b c : Bool) (x y : A) → c ≡ false → cond b (cond c x y) y ≡ y
-other true true x y e = untrue (sym e)
-other true false x y e = refl
-other false c x y e = refl
-
-not_so : (b : Bool) → not b ≡ true → b ≡ false
-not_so true e = untrue e
-not_so false e = refl
-
 pub apart_pointed : (note : Note) (past : List Moment) (i : ℕ) → is_apart i note ≡ true → (n : ℕ) → pointed_list (said note ∷ past) n i ≡ pointed_list past n i
 apart_pointed (notes.Sent s generation zero to bytes) past i e n = refl
 apart_pointed (notes.Sent s generation (suc j) to bytes) past i e n =
-    other (nat_eq n s) (nat_eq i j) _ (pointed_list past n i) (let f : (suc j == suc i) ≡ false = not_so (suc j == suc i) e in grind (arith, nat_tests))
+    other (nat_eq n s) (nat_eq i j) _ (pointed_list past n i) (let f : (suc j == suc i) ≡ false = not-true (suc j == suc i) e in grind (arith, nat_tests))
 apart_pointed note past i e n = refl
 
 -- ---- a packet that leaves in a line that is no action of the initiator
@@ -182,15 +167,15 @@ pub sent_state : (serial generation from to : ℕ) (bytes : List ℕ) (past : Li
 sent_state serial generation zero to bytes past i a x n e = e
 sent_state serial generation (suc j) to bytes past i a x n e =
     by_test (nat_eq x serial) (nat_eq i j) (told_of (is_state (own_action j (event_of past)) && names_answered past (host_at past j).pointer) (present_list past j)) (state_list past x i) n
-    (λ f g h. none_is (sym (ap (λ b. told_of (b && names_answered past (host_at past j).pointer) (present_list past j)) (none_acts i j (event_of past) a (let z : i ≡ j = grind (arith, nat_tests) in z))) ∙ h)) e
+    (λ f g h. none_some (sym (ap (λ b. told_of (b && names_answered past (host_at past j).pointer) (present_list past j)) (none_acts i j (event_of past) a (let z : i ≡ j = grind (arith, nat_tests) in z))) ∙ h)) e
 
 serial_is : (p : Option ℕ) (serial : ℕ) → is_serial p serial ≡ true → p ≡ Some serial
 serial_is None serial e = untrue e
 serial_is (Some other) serial e = let same : other ≡ serial = grind (arith, nat_tests) in ap Some same
 
-if_so : (b : Bool) (list : Option ℕ) (n : ℕ) → list_if b list ≡ Some n → b ≡ true
+pub if_so : (b : Bool) (list : Option ℕ) (n : ℕ) → list_if b list ≡ Some n → b ≡ true
 if_so true list n e = refl
-if_so false list n e = none_is e
+if_so false list n e = none_some e
 
 pub sent_pointed : (serial generation from to : ℕ) (bytes : List ℕ) (past : List Moment) (i : ℕ) → (pointer (said (notes.Sent serial generation (suc i) to bytes) ∷ past) i ≡ Some serial → ⊥) → (x n : ℕ) → pointed_list (said (notes.Sent serial generation from to bytes) ∷ past) x i ≡ Some n → pointed_list past x i ≡ Some n
 sent_pointed serial generation zero to bytes past i a x n e = e

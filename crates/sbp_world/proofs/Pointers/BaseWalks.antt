@@ -32,14 +32,12 @@ use Rattle.sbp_world.proofs.Pointers.BaseSeats.{is_logout, is_reset_seen, kept_c
 use Rattle.sbp_world.proofs.Pointers.BaseTold.{closes_of, front_unclosed, front_unrefused, is_end, last_unclosed, last_unrefused, refuses_of}
 use Rattle.sbp_world.proofs.Pointers.PendHears.{SameList}
 use Rattle.sbp_world.proofs.Pointers.Walks.{expires, is_drop_note, is_kept, receives, unpin_same}
+use Rattle.sbp_world.proofs.Common.{itself}
 
 -- a session that has a list, and the response that it carried before
 pub record Keeps (old now : Seat) : Type 0 where
   pub seated : is_seated now ≡ true
   pub same : carried now ≡ carried old
-
-itself : (n : ℕ) → nat_eq n n ≡ true
-itself n = grind (arith, nat_tests)
 
 some_list : (old new : Option PresentList) → ((n : ℕ) → is_list new n ≡ is_list old n) → is_some new ≡ true → is_some old ≡ true
 some_list None None f e = e
@@ -95,7 +93,7 @@ good_seen operations.AgentReset response = refl
 good_seen operations.State response = refl
 good_seen operations.Enable response = refl
 
-dropped_number : (r : Option ℕ × ListState) (o : OutboxState) (s : InitiatorState) → (dropped_as r o s).1.number ≡ s.number
+pub dropped_number : (r : Option ℕ × ListState) (o : OutboxState) (s : InitiatorState) → (dropped_as r o s).1.number ≡ s.number
 dropped_number (None, lists) o s = refl
 dropped_number (Some n, lists) o s = refl
 

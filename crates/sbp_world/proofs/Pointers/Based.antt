@@ -1,6 +1,6 @@
 -- In every run an initiator writes and reads at the registers of its session's agent.
-use Rattle.std.proofs.Common.{arith, ◌≡◌, refl, sym, ◌∙◌, ap, subst, ℕ, zero, suc, ◌+◌, ◌%◌, ◌^◌, ◌<◌, ◌&&◌, nat_eq, nat_lt, is_some, Bool, true, false, cond, length, List, [], ◌∷◌, ◌++◌, map, Option, Some, None}
-use Rattle.std.proofs.lemmas.Bool.Decides.{nat_tests}
+use Rattle.std.proofs.Common.{◌≡◌, refl, sym, ◌∙◌, ap, subst, ℕ, ◌+◌, ◌%◌, ◌^◌, ◌<◌, ◌&&◌, nat_lt, is_some, Bool, true, false, cond, length, List, [], ◌∷◌, ◌++◌, map, Option, Some, None}
+use Rattle.std.proofs.lemmas.Option.{same_Some}
 use Rattle.byteorder.specs.Endian.{big_bytes}
 use Rattle.bus_memory.specs.declared.window.Window.TheVariants as windows
 use Rattle.bus_memory.specs.Windows.{start}
@@ -34,7 +34,7 @@ use Rattle.sbp_world.proofs.Hosts.Runs.{run_law}
 use Rattle.sbp_world.specs.Pointers.Bases.{AreAtAgent, IsAsked, RegistersLaw, register_read}
 use Rattle.sbp_world.specs.Pointers.Moments.{IsResetting, is_answered, pointer_write, register_write, state_list}
 use Rattle.sbp_world.specs.Pointers.Pointers.{PointersAt, pointed_list}
-use Rattle.sbp_world.proofs.Pointers.BaseActs.{does_based}
+use Rattle.sbp_world.proofs.Pointers.BaseActs.{does_based, present_is}
 use Rattle.sbp_world.proofs.Pointers.BaseSteps.{is_behind}
 use Rattle.sbp_world.proofs.Pointers.Basing.{Based, PointsAt, Requested, apart_based, asked_based, expires_based, hears_based, sees_based, sent_based}
 use Rattle.sbp_world.proofs.Pointers.GuardDoes.{Ready}
@@ -43,6 +43,9 @@ use Rattle.sbp_world.proofs.Pointers.CalmRuns.{calm_between, calm_of_runs}
 use Rattle.sbp_world.proofs.Pointers.Calms.{AllCalm}
 use Rattle.sbp_world.proofs.Pointers.Proved.{between_wire, fair_of, not_closed, pointers_law, wire_of}
 use Rattle.sbp_world.specs.Wire.History.{IsOfWire}
+use Rattle.sbp_world.proofs.Common.{untrue}
+use Rattle.sbp_world.proofs.Pointers.Naming.{none_some}
+use Rattle.sbp_world.proofs.Agents.AskedPackets.{above}
 
 based_carried : (ready : Bool) → Carries Ready (Based ready)
 based_carried ready = record {
@@ -58,27 +61,15 @@ based_carried ready = record {
   acts = does_based ready;
 }
 
-none_is : {A : Type 0} {B : Type 0} {x : B} → None ≡ Some x → A
-none_is e = absurd (differ e)
-  where
-    differ : {B : Type 0} {x : B} → None ≡ Some x → ⊥
-    differ e = cc
-
-untrue : {A : Type 0} → false ≡ true → A
-untrue e = absurd (differ e)
-  where
-    differ : false ≡ true → ⊥
-    differ e = cc
-
 -- ---- the beginning
 
 none_begun : (line i initiators : ℕ) (ready : Bool) (serial : ℕ) → {A : Type 0} → IsResetting (said (notes.Begin initiators ready) ∷ asked line (events.Begin initiators ready) ∷ []) i serial → A
 none_begun line i initiators ready serial {A} r = by ready (nat_lt i initiators) r.is
   where
     by : (b c : Bool) → (cond (b && c) (ready_host i) new_host).operation ≡ Some r.underway → A
-    by true true e = none_is e
-    by true false e = none_is e
-    by false c e = none_is e
+    by true true e = none_some e
+    by true false e = none_some e
+    by false c e = none_some e
 
 first_based : (line i initiators : ℕ) (ready : Bool) → i < initiators → Based ready (said (notes.Begin initiators ready) ∷ asked line (events.Begin initiators ready) ∷ []) i (new_state i ready)
 unfolding new_state
@@ -95,20 +86,9 @@ first_based line i initiators ready b = record {
 
 -- ---- at a moment of a run
 
-present_is : (present : Option PresentList) (n : ℕ) → present_in present ≡ Some n → is_list present n ≡ true
-present_is None n e = none_is e
-present_is (Some list) n e = let same : list.tail.list ≡ n = cc in (let z : nat_eq list.tail.list n ≡ true = grind (arith, nat_tests) in z)
-
 some_in : (present : Option PresentList) → is_some (present_in present) ≡ true → is_some present ≡ true
 some_in None e = e
 some_in (Some list) e = refl
-
-some_same : {A : Type 0} (a b : A) → Some a ≡ Some b → a ≡ b
-some_same a b e = cc
-
-above : (n : ℕ) → (n ≡ 0 → ⊥) → 0 < n
-above zero f = absurd (f refl)
-above (suc n) f = omega arith
 
 asked_of : (past : List Moment) (i serial : ℕ) (access : Access) → Requested past i serial access → IsAsked past i serial access
 asked_of past i serial access r = record { packet = r.packet; sent = r.sent; from_is = r.from_is; to_is = r.to_is; honest = r.honest; spelled = r.spelled }
@@ -135,9 +115,9 @@ module _ (ready : Bool) (past : List Moment) (i : ℕ) (s : InitiatorState) (h :
   pointer_of : (n serial : ℕ) → pointed_list past serial i ≡ Some n → (base : ℕ) → PointsAt past i serial base → IsAsked past i serial (pointer_write base (start (windows.Orb (slot_at past i n 0))))
   pointer_of n serial e base k =
       let p = pointers.each n serial e in
-      let packet_same : p.packet ≡ k.is.packet = some_same p.packet k.is.packet (sym p.sent ∙ k.is.sent) in
+      let packet_same : p.packet ≡ k.is.packet = same_Some p.packet k.is.packet (sym p.sent ∙ k.is.sent) in
       let address = start (windows.Orb (slot_at past i n 0)) in
-      let same : pointer_write p.base address ≡ pointer_write base k.address = some_same (pointer_write p.base address) (pointer_write base k.address) (sym p.spelled ∙ ap (λ (x : Sending). access_in_bytes x.bytes) packet_same ∙ k.is.spelled) in
+      let same : pointer_write p.base address ≡ pointer_write base k.address = same_Some (pointer_write p.base address) (pointer_write base k.address) (sym p.spelled ∙ ap (λ (x : Sending). access_in_bytes x.bytes) packet_same ∙ k.is.spelled) in
       let offset : (p.base + 0x08) % 2 ^ 48 ≡ (base + 0x08) % 2 ^ 48 = ap (λ (x : Access). x.offset) same in
       record {
         packet = p.packet;

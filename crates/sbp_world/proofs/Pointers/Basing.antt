@@ -1,6 +1,6 @@
 -- At whose registers an initiator writes and reads, as is carried on: as others tell and send something, and as it hears a packet, lets a transaction time out,
 -- and sees a generation.
-use Rattle.std.proofs.Common.{arith, ◌≡◌, refl, sym, ◌∙◌, ap, subst, ℕ, suc, ◌+◌, ◌≤◌, ◌==◌, nat_eq, nat_lt, is_some, not, Bool, true, false, cond, List, ◌∷◌, Option, Some, None}
+use Rattle.std.proofs.Common.{arith, ◌≡◌, refl, sym, ◌∙◌, ap, subst, ℕ, suc, ◌≤◌, ◌==◌, nat_eq, nat_lt, is_some, not, Bool, true, false, List, ◌∷◌, Option, Some, None}
 use Rattle.std.proofs.lemmas.Bool.Decides.{nat_tests}
 use Rattle.async_packet.specs.Labels.{LabelParts}
 use Rattle.label_table.specs.Layer.{expiring_step, judging_step, seeing_step}
@@ -12,7 +12,6 @@ use Rattle.sbp_journal.specs.Outgoings.{empty_outbox}
 use Rattle.sbp_journal.specs.Run.{Moment, asked, said}
 use Rattle.sbp_journal.specs.Transactions.{Sending}
 use Rattle.sbp_journal.specs.Wire.{Terms, terms}
-use Rattle.sbp_journal.specs.declared.cause.Judged.{Judged}
 use Rattle.sbp_journal.specs.declared.cause.Judged.TheVariants as judgements
 use Rattle.sbp_journal.specs.declared.event.Event.{Event}
 use Rattle.sbp_journal.specs.declared.note.Note.{Note}
@@ -33,13 +32,13 @@ use Rattle.sbp_world.proofs.Hosts.Cores.{wire_is}
 use Rattle.sbp_world.proofs.Hosts.Held.{sent_count, sent_old}
 use Rattle.sbp_world.proofs.Hosts.Layered.{AreTame, expire_left, receive_left}
 use Rattle.sbp_world.proofs.Hosts.PointSees.{see_left}
-use Rattle.sbp_world.proofs.Hosts.PointerNotes.{Fit, apart_passes, opens, sent_fades, tame_told}
+use Rattle.sbp_world.proofs.Hosts.PointerNotes.{Fit, apart_passes, opens, sent_fades, tame_told, older}
 use Rattle.sbp_world.proofs.Hosts.Shown.{IsElsewhere, IsHeard, IsShown}
 use Rattle.sbp_world.specs.Pointers.Bases.{AreUnrefused, is_seated, register_read}
 use Rattle.sbp_world.specs.Pointers.Moments.{IsResetting, pointer_write, register_write, state_list}
 use Rattle.sbp_world.specs.Pointers.Pointers.{pointed_list}
 use Rattle.sbp_world.proofs.Pointers.Ages.{untrue}
-use Rattle.sbp_world.proofs.Pointers.BaseTold.{apart_pointed, closes_of, judged_pointed, judged_unrefused, pointed_told, refuses_of, sent_pointed, sent_state, unclosed_told, unrefused_told}
+use Rattle.sbp_world.proofs.Pointers.BaseTold.{apart_pointed, closes_of, judged_pointed, judged_unrefused, pointed_told, refuses_of, sent_pointed, sent_state, unclosed_told, unrefused_told, so_none}
 use Rattle.sbp_world.proofs.Pointers.BaseWalks.{Keeps, expire_sits, expire_steady, receive_sits, receive_steady}
 use Rattle.sbp_world.proofs.Pointers.GuardHears.{flag_is}
 use Rattle.sbp_world.proofs.Pointers.Guarded.{Guarded}
@@ -49,6 +48,8 @@ use Rattle.sbp_world.proofs.Pointers.Resetting.{Fades, apart_fades, judged_fades
 use Rattle.sbp_world.proofs.Pointers.Showing.{expire_lasts, receive_lasts, see_none}
 use Rattle.sbp_world.proofs.Pointers.WaitActs.{see_old}
 use Rattle.sbp_world.proofs.Pointers.Waits.{judged_count, judged_state, state_apart, state_told, timed_count}
+use Rattle.sbp_world.proofs.Pointers.Sending.{not_new}
+use Rattle.sbp_world.proofs.Hosts.Pointed.{judged_fit}
 
 -- ---- what is carried on
 
@@ -112,9 +113,6 @@ least a b e = omega arith
 at_most : (a b c : ℕ) → a ≤ b → c ≡ b → a ≤ c
 at_most a b c l e = omega arith
 
-older : (n serial count : ℕ) → n ≤ count → serial ≡ count + 1 → nat_eq n serial ≡ false
-older n serial count l e = grind (arith, nat_tests)
-
 module _ (ready : Bool) where
   -- ---- what others tell and send
 
@@ -143,9 +141,6 @@ module _ (ready : Bool) where
             agent_on past (said note ∷ past) i (passes.sent f) passes.count s s (λ u. u.1) (λ n l. l) (λ serial n p. sym (apart_pointed note past i e serial) ∙ p) (λ serial n p. sym (state_apart note past i e serial) ∙ p)
             back (λ u p. refl) (λ serial r. refl) (h.agent (passes.fit f));
       }
-
-  not_new : {A : Type 0} (serial count : ℕ) → serial ≤ count → serial ≡ count + 1 → A
-  not_new serial count l e = absurd (let x : ⊥ = omega arith in x)
 
   pub sent_based : (serial generation from to : ℕ) (bytes : List ℕ) (past : List Moment) (i : ℕ) (s : InitiatorState) → IsNoAct i (event_of past) → Based ready past i s → Based ready (said (notes.Sent serial generation from to bytes) ∷ past) i s
   sent_based serial generation from to bytes past i s n h =
@@ -211,10 +206,6 @@ module _ (ready : Bool) where
           back (λ u p. (stays u p).same) carries (h.agent (fit (k.fit f)));
     }
 
-  judged_fit : (serial : ℕ) (judged : Judged) (past : List Moment) → Fit (said (judged_note serial judged) ∷ past) → Fit past
-  judged_fit serial judgements.Got past f = record { serials = f.serials; sent = f.sent }
-  judged_fit serial (judgements.Ignored cause) past f = record { serials = f.serials; sent = f.sent }
-
   pub hears_based : (serial generation : ℕ) (bytes : List ℕ) (past : List Moment) (i : ℕ) (s : InitiatorState) → IsHeard past i serial generation bytes → IsShown past i s.target s.layer → IsShown (said (judged_note serial (receive_step generation bytes empty_outbox s).0) ∷ past) i s.target (judging_step s.layer generation bytes).1 → Based ready past i s → Tells (Based ready) (said (judged_note serial (receive_step generation bytes empty_outbox s).0) ∷ past) i (receive_step generation bytes empty_outbox s).1
   hears_based serial generation bytes past i s heard shown after_it h =
       let judged = (receive_step generation bytes empty_outbox s).0 in
@@ -243,10 +234,6 @@ module _ (ready : Bool) where
       }
 
   -- ---- a generation is seen
-
-  so_none : (b : Bool) (x y : Host) → b ≡ true → x.operation ≡ None → (cond b x y).operation ≡ None
-  so_none true x y e f = f
-  so_none false x y e f = untrue e
 
   reset_none : (b : Bool) (host : Host) → b ≡ false → (reset_seen (not b) host).operation ≡ None
   reset_none true host e = untrue (sym e)

@@ -38,14 +38,15 @@ use Rattle.sbp_world.proofs.Hosts.Pointing.{called_of, pointing_of, under_way_no
 use Rattle.sbp_world.proofs.Hosts.Shown.{IsHeard, IsShown}
 use Rattle.sbp_world.specs.Pointers.Moments.{Answers, MayEnd, by_reset, by_state, by_status, is_cutting, turn_of}
 use Rattle.sbp_world.proofs.Pointers.Ages.{got_closes, untrue}
-use Rattle.sbp_world.proofs.Pointers.Waits.{AskedFor, Asks, is_cared, makes}
+use Rattle.sbp_world.proofs.Pointers.Waits.{AskedFor, Asks, is_cared}
 use Rattle.sbp_world.proofs.Pointers.Dropping.{drops_of, may_drop, receive_drops}
 use Rattle.sbp_world.proofs.Pointers.Finds.{closed_over, closes_at, reset_ends}
 use Rattle.sbp_world.proofs.Pointers.GuardActs.{cutting_is}
 use Rattle.sbp_world.proofs.Pointers.Guarded.{receive_got}
-use Rattle.sbp_world.proofs.Pointers.Resetting.{Resets}
+use Rattle.sbp_world.proofs.Pointers.Resetting.{Resets, made_reset}
 use Rattle.sbp_world.proofs.Pointers.Showing.{IsShowing}
 use Rattle.sbp_world.proofs.Pointers.Statuses.{GotOr, no_drop, request_got, was_got}
+use Rattle.sbp_world.proofs.Pointers.WaitActs.{made_state as makes_state}
 
 pub other_number : (i j number : ℕ) → number ≡ i → (j == i) ≡ false → (number == j) ≡ false
 other_number i j number e f = grind (arith, nat_tests)
@@ -106,15 +107,6 @@ pub complete_ends : (act : ℕ) (ending : Ending) (present : Option PresentList)
 complete_ends act (endings.Complete value) present e = (value, refl)
 complete_ends act (endings.Refused rcode) present e = untrue e
 complete_ends act endings.Expired present e = untrue e
-
--- the action of a request
-makes_reset : (action : Action) (act : ℕ) → makes action (purposes.AgentReset act) ≡ true → action ≡ actions.AgentReset
-makes_reset actions.AgentReset act e = refl
-makes_reset _ act e = untrue e
-
-makes_state : (action : Action) (act : ℕ) (list : Option ℕ) → makes action (purposes.State act list) ≡ true → action ≡ actions.State
-makes_state actions.State act list e = refl
-makes_state _ act list e = untrue e
 
 module _ (ready : Bool) (serial generation : ℕ) (bytes : List ℕ) (past : List Moment) (i : ℕ) (s : InitiatorState) (heard : IsHeard past i serial generation bytes) (after_it : IsShown (said (judged_note serial (receive_step generation bytes empty_outbox s).0) ∷ past) i s.target (judging_step s.layer generation bytes).1) (c : Cored ready past i s) (aims : Aims s.layer s.target) (asks : Asks past i s.target s.layer) (resets : Resets past i s.target s.layer) (shows : IsShowing past i s) (now_is : s.layer.generation ≡ (terms past).generation (suc i)) where
   abbrev judged : Judged
@@ -185,7 +177,7 @@ module _ (ready : Bool) (serial generation : ℕ) (bytes : List ℕ) (past : Lis
       let k = complete_ends act (ending_of p) s.lists.slots.present e in
       let x = w p label (purposes.AgentReset act) f refl in
       let there = subst (λ y. At s.layer y label.number (Some (purposes.AgentReset act))) (peer p label (purposes.AgentReset act) f refl) (a p label (purposes.AgentReset act) f refl) in
-      by_reset k.0 (answers p label (purposes.AgentReset act) f refl k.0 k.1 actions.AgentReset (makes_reset _ act x.for)) (resets.first label.number act x.kind x.serial there x.held) (cutting judgements.Got r)
+      by_reset k.0 (answers p label (purposes.AgentReset act) f refl k.0 k.1 actions.AgentReset (made_reset _ act x.for)) (resets.first label.number act x.kind x.serial there x.held) (cutting judgements.Got r)
   closed_ends p label (purposes.State act list) f e =
       let x = w p label (purposes.State act list) f refl in
       let n = counts_of list (ending_of p) s.lists.slots.present e in

@@ -12,9 +12,7 @@ use Rattle.sbp_journal.specs.declared.event.Action.{Action}
 use Rattle.sbp_journal.specs.declared.note.Note.{Note}
 use Rattle.sbp_journal.specs.declared.note.Note.TheVariants as notes
 use Rattle.sbp_journal.specs.declared.note.NoteBuffer.{NoteBuffer}
-use Rattle.sbp_journal.specs.declared.operation.Operation.{Operation}
 use Rattle.sbp_journal.specs.declared.operation.Operation.TheVariants as operations
-use Rattle.sbp_initiator.specs.declared.purpose.Running.{Running}
 use Rattle.sbp_initiator.specs.declared.state.InitiatorState.{InitiatorState}
 use Rattle.sbp_initiator.specs.Acting.{first_in}
 use Rattle.sbp_initiator.specs.Refusals.{ends_list, is_list_step, prepares, rings}
@@ -39,31 +37,9 @@ use Rattle.sbp_world.proofs.Pointers.Passing.{Stand}
 use Rattle.sbp_world.proofs.Pointers.PendActs.{Places}
 use Rattle.sbp_world.proofs.Pointers.Pends.{Pend}
 use Rattle.sbp_world.proofs.Pointers.Steps.{AreLinks, ToldAs, append, append_operation, append_present, append_session, append_slot, links, links_stand, links_still, silent, told_as}
+use Rattle.sbp_world.proofs.Hosts.Hosted.{working, worked, cuts_same}
 
 -- ---- the operation under way
-
-working : (u : Option Underway) → running_operation u ≡ operation_by (work_of u)
-working None = refl
-working (Some underway) = refl
-
-worked : (r : Option Running) → operation_in r ≡ operation_by (work_in r)
-worked None = refl
-worked (Some running) = refl
-
-pub cuts_same : (operation : Option Operation) → cuts_list operation ≡ ends_list operation
-cuts_same None = refl
-cuts_same (Some operations.Rom) = refl
-cuts_same (Some operations.Login) = refl
-cuts_same (Some operations.Query) = refl
-cuts_same (Some operations.Reconnect) = refl
-cuts_same (Some operations.Logout) = refl
-cuts_same (Some operations.Abort) = refl
-cuts_same (Some operations.AbortSet) = refl
-cuts_same (Some operations.UnitReset) = refl
-cuts_same (Some operations.TargetReset) = refl
-cuts_same (Some operations.AgentReset) = refl
-cuts_same (Some operations.State) = refl
-cuts_same (Some operations.Enable) = refl
 
 pub cutting_is : (past : List Moment) (i : ℕ) (s : InitiatorState) → host_core (host_at past i) ≡ own_core s → is_cutting past i ≡ ends_list (operation_in s.operation)
 cutting_is past i s e =
@@ -96,7 +72,7 @@ pub record Told (past : List Moment) (i : ℕ) (action : Action) (s : InitiatorS
   pub wire : terms later ≡ terms past
   pub rung : rings action ≡ true → Rung later i s
 
-some_of : (present : Option PresentList) → is_some present ≡ true → (list : PresentList) × (present ≡ Some list)
+pub some_of : (present : Option PresentList) → is_some present ≡ true → (list : PresentList) × (present ≡ Some list)
 some_of None e = untrue e
 some_of (Some list) e = (list, refl)
 

@@ -68,6 +68,7 @@ use Rattle.sbp_world.proofs.Pointers.Showing.{IsShowing, aparts_present}
 use Rattle.sbp_world.proofs.Pointers.WaitActs.{asking_asks, counts_now}
 use Rattle.sbp_world.proofs.Pointers.Waits.{Asks, counted_in, told_asks}
 use Rattle.sbp_world.proofs.Pointers.Steps.{ToldAs, told_apart, told_as, told_left}
+use Rattle.sbp_world.proofs.Hosts.PointActs.{has_list, named_on}
 
 -- What is known of an initiator as a line begins: the run terms are its rows, and what an action asks for is spelled in the bytes of its request.
 pub record Ready (past : List Moment) (i : ℕ) (s : InitiatorState) : Type 0 where
@@ -79,14 +80,6 @@ pub record Ready (past : List Moment) (i : ℕ) (s : InitiatorState) : Type 0 wh
 pub data Named (rung : Bool) (serial : ℕ) (old : Option ℕ) (n : ℕ) : Type 0 where
   as_before : old ≡ Some n → Named rung serial old n
   as_now : rung ≡ true → old ≡ None → n ≡ serial → Named rung serial old n
-
-named_on : (rung : Bool) (serial : ℕ) (old : Option ℕ) (n : ℕ) → old ≡ Some n → pointer_after rung serial old ≡ Some n
-named_on true serial None n e = absurd (differ e)
-  where
-    differ : None ≡ Some n → ⊥
-    differ e = cc
-named_on true serial (Some first) n e = e
-named_on false serial old n e = e
 
 either_name : {rung : Bool} {serial : ℕ} {old : Option ℕ} {n : ℕ} → Named rung serial old n → (old ≡ Some n) ⊎ (n ≡ serial)
 either_name (as_before e) = inl e
@@ -100,11 +93,7 @@ named false serial old n e = as_before e
 pub same_action : (i : ℕ) (a b : Action) → Some (events.Act i a) ≡ Some (events.Act i b) → a ≡ b
 same_action i a b e = cc
 
-has_list : (present : Option PresentList) (mark : Pointing) → HasMarks present mark → is_unwritten mark ≡ false → is_some present ≡ true
-has_list None mark h e = untrue (sym e ∙ h)
-has_list (Some list) mark h e = refl
-
-none_named : (found : Option ℕ) → ((n : ℕ) → found ≡ Some n → ⊥) → found ≡ None
+pub none_named : (found : Option ℕ) → ((n : ℕ) → found ≡ Some n → ⊥) → found ≡ None
 none_named None f = refl
 none_named (Some n) f = absurd (f n refl)
 

@@ -5,7 +5,6 @@ use Rattle.label_table.specs.Layer.{Layer, expiring_step, judging_step, seeing_s
 use Rattle.sbp_bus.specs.Packets.{judged_note}
 use Rattle.sbp_journal.specs.Outgoings.{empty_outbox}
 use Rattle.sbp_journal.specs.Run.{Moment, said}
-use Rattle.sbp_journal.specs.declared.cause.Judged.{Judged}
 use Rattle.sbp_journal.specs.declared.cause.Judged.TheVariants as judgements
 use Rattle.sbp_journal.specs.declared.note.Note.TheVariants as notes
 use Rattle.sbp_initiator.specs.declared.purpose.Purpose.{Purpose}
@@ -29,7 +28,7 @@ use Rattle.sbp_world.proofs.Hosts.OrbTerms.{AreStill, orbs_apart, orbs_left, sti
 use Rattle.sbp_world.proofs.Hosts.Passes.{judged_apart}
 use Rattle.sbp_world.proofs.Wire.Deliver.{judging_stays}
 use Rattle.sbp_world.proofs.Hosts.Lives.{expire_at, judge_at}
-use Rattle.sbp_world.proofs.Hosts.Pointed.{Pointed, expired_called, judged_called, pointed_carried}
+use Rattle.sbp_world.proofs.Hosts.Pointed.{Pointed, expired_called, judged_called, pointed_carried, judged_fit}
 use Rattle.sbp_world.proofs.Hosts.PointerNotes.{Fit, pointer, tame_told}
 use Rattle.sbp_world.proofs.Hosts.Pointing.{called_of, pointing_of, wrote_is}
 use Rattle.sbp_world.proofs.Hosts.Shown.{IsHeard, IsShown}
@@ -99,10 +98,6 @@ module _ (ready : Bool) (past now : List Moment) (i : ℕ) (s : InitiatorState) 
         told = told_stands t.0.sides now i tame still (drops g) (stands k.told);
       }
 
-judged_fits : (serial : ℕ) (judged : Judged) (past : List Moment) → Fit (said (judged_note serial judged) ∷ past) → Fit past
-judged_fits serial judgements.Got past f = record { serials = f.serials; sent = f.sent }
-judged_fits serial (judgements.Ignored cause) past f = record { serials = f.serials; sent = f.sent }
-
 module _ (ready : Bool) where
   pub hears_guarded : (serial generation : ℕ) (bytes : List ℕ) (past : List Moment) (i : ℕ) (s : InitiatorState) → IsHeard past i serial generation bytes → IsShown past i s.target s.layer → IsShown (said (judged_note serial (receive_step generation bytes empty_outbox s).0) ∷ past) i s.target (judging_step s.layer generation bytes).1 → Guarded ready past i s → Tells (Guarded ready) (said (judged_note serial (receive_step generation bytes empty_outbox s).0) ∷ past) i (receive_step generation bytes empty_outbox s).1
   hears_guarded serial generation bytes past i s heard shown after_it h =
@@ -128,14 +123,14 @@ module _ (ready : Bool) where
           aimed = aimed.own;
           pend = firsts_same past (behind t.0.sides now) i t.1 (still_left t.0.sides now i still ∙ orbs_apart (judged_note serial judged) past i (judged_apart serial judged i)) (loosened t.1 pend);
           generation = left_generation l s.target t.1.layer left.layer ∙ after_it.generation ∙ sym (told_goes t.0.sides now i left.told).generation;
-          kept = ends_kept ready past now i s h goes (judged_stands serial judged past i) (judged_fits serial judged past) t left.told still tells.own pend (λ f. heard_ends ready serial generation bytes past i s heard after_it c h.aimed.aims (h.asks f) (h.resets f) h.shown h.generation) answers;
+          kept = ends_kept ready past now i s h goes (judged_stands serial judged past i) (judged_fit serial judged past) t left.told still tells.own pend (λ f. heard_ends ready serial generation bytes past i s heard after_it c h.aimed.aims (h.asks f) (h.resets f) h.shown h.generation) answers;
           asks = λ f.
               subst (λ x. Asks (behind t.0.sides now) i x t.1.layer) (sym left.target_is)
               (ended_asks past (judged_note serial judged) i s.target s.layer l (judged_ends serial judged past) (judged_count serial judged past) (judged_asked serial judged past) (judged_state serial judged past)
-              (h.asks (judged_fits serial judged past ((tame_told t.0.sides now i left.told).fit f))) (judged_called ready s.layer generation bytes (called_of c)) (judging_stays s.layer generation bytes)
+              (h.asks (judged_fit serial judged past ((tame_told t.0.sides now i left.told).fit f))) (judged_called ready s.layer generation bytes (called_of c)) (judging_stays s.layer generation bytes)
               (λ m q a. judge_at s.layer generation bytes s.target m q (called_of c) a) after_it t.0.sides left.told t.1.layer left.layer);
           resets = λ f.
-              let g = judged_fits serial judged past ((tame_told t.0.sides now i left.told).fit f) in
+              let g = judged_fit serial judged past ((tame_told t.0.sides now i left.told).fit f) in
               ended_resets past (behind t.0.sides now) i s t (λ u e. judged_fades serial judged past i u (told_fades t.0.sides now i left.told u e)) tells.own.cored left.target_is (h.resets g)
               (ended_held past (judged_note serial judged) i s.target s.layer l (judged_ends serial judged past) (judged_count serial judged past) (judged_asked serial judged past) (judged_state serial judged past)
               (h.asks g) (judged_called ready s.layer generation bytes (called_of c)) (judging_stays s.layer generation bytes)

@@ -48,6 +48,7 @@ use Rattle.sbp_world.proofs.Pointers.Waits.{Asks, told_asks}
 use Rattle.sbp_world.proofs.Pointers.Passing.{IsCurrent, Stand, current_goes, judged_goes, none_goes, told_goes, told_stands}
 use Rattle.sbp_world.proofs.Pointers.Resetting.{Resets, still_resets, told_fades}
 use Rattle.sbp_world.proofs.Pointers.Showing.{IsShowing, told_present}
+use Rattle.sbp_world.proofs.Pointers.WaitActs.{none_is}
 
 -- Where ORB_POINTER counts as answered, the write that is named was; that is of the generation of its initiator; and each note stands as it may.
 pub record Kept (past : List Moment) (i : ℕ) (s : InitiatorState) : Type 0 where
@@ -93,12 +94,6 @@ not_false false e = untrue e
 pub not_true : (b : Bool) → true ≡ not b → b ≡ false
 not_true true e = untrue (sym e)
 not_true false e = refl
-
-none_some : {A : Type 0} {n : ℕ} → None ≡ Some n → A
-none_some e = absurd (differ e)
-  where
-    differ : {n : ℕ} → None ≡ Some n → ⊥
-    differ e = cc
 
 -- a layer that asked for a quadlet at most is in the same generation
 pub left_generation : (l : Layer Purpose) (target : ℕ) (now : Layer Purpose) → LayerLeft l target now → now.generation ≡ l.generation
@@ -158,7 +153,7 @@ answer_of (of_again p rcode) s e = untrue e
 answer_of (of_request p) s e = untrue e
 
 -- such a delivery is told as got
-received_got : (finding : Finding Purpose) (layer : Layer Purpose) (bytes : List ℕ) (p : Packet) (label : LabelParts) (purpose : Option Purpose) (s : InitiatorState) → finding ≡ of_response p label purpose → (received (finding, layer) bytes empty_outbox s).0 ≡ judgements.Got
+pub received_got : (finding : Finding Purpose) (layer : Layer Purpose) (bytes : List ℕ) (p : Packet) (label : LabelParts) (purpose : Option Purpose) (s : InitiatorState) → finding ≡ of_response p label purpose → (received (finding, layer) bytes empty_outbox s).0 ≡ judgements.Got
 received_got finding layer bytes p label purpose s e = ap (λ (x : Finding Purpose). (received (x, layer) bytes empty_outbox s).0) e
 
 pub receive_got : (generation : ℕ) (bytes : List ℕ) (p : Packet) (label : LabelParts) (purpose : Option Purpose) (s : InitiatorState) → (judging_step s.layer generation bytes).0 ≡ of_response p label purpose → (receive_step generation bytes empty_outbox s).0 ≡ judgements.Got

@@ -35,8 +35,8 @@ use Rattle.sbp_world.proofs.Hosts.Carries.{Carries, IsNoAct, is_apart}
 use Rattle.sbp_world.proofs.Hosts.Cores.{sent_core}
 use Rattle.sbp_world.proofs.Hosts.Held.{sent_old}
 use Rattle.sbp_world.proofs.Hosts.OrbTerms.{orbs_apart, orbs_left}
-use Rattle.sbp_world.proofs.Hosts.Pointed.{first_pointed, pointed_carried, stale_is}
-use Rattle.sbp_world.proofs.Hosts.PointerNotes.{Fit, apart_passes, opens, pointer, sent_fades}
+use Rattle.sbp_world.proofs.Hosts.Pointed.{first_pointed, pointed_carried, stale_is, first_marks}
+use Rattle.sbp_world.proofs.Hosts.PointerNotes.{Fit, apart_passes, opens, pointer, sent_fades, older}
 use Rattle.sbp_world.proofs.Hosts.Pointing.{keeps_is, wrote_is}
 use Rattle.sbp_world.proofs.Hosts.Runs.{are_after}
 use Rattle.sbp_world.proofs.Hosts.Shown.{IsElsewhere}
@@ -53,6 +53,7 @@ use Rattle.sbp_world.proofs.Pointers.Showing.{apart_present}
 use Rattle.sbp_world.proofs.Pointers.WaitActs.{first_asks}
 use Rattle.sbp_world.proofs.Pointers.Waits.{asked_apart, line_asks, sent_asks, state_apart, still_asks}
 use Rattle.sbp_world.proofs.Pointers.Spelled.{spelled_by}
+use Rattle.sbp_world.proofs.Pointers.Sending.{not_new}
 
 -- ---- what others tell and send
 
@@ -100,12 +101,6 @@ no_act i action event n e = absurd (differ (nat_eq i i) (subst (IsNoAct i) e n) 
     differ : (b : Bool) → b ≡ false → b ≡ true → ⊥
     differ true e f = cc
     differ false e f = cc
-
-older : (n serial count : ℕ) → n ≤ count → serial ≡ count + 1 → nat_eq n serial ≡ false
-older n serial count l e = grind (arith, nat_tests)
-
-not_new : {A : Type 0} (serial count : ℕ) → serial ≤ count → serial ≡ count + 1 → A
-not_new serial count l e = absurd (let x : ⊥ = omega arith in x)
 
 sent_guarded : (ready : Bool) (serial generation from to : ℕ) (bytes : List ℕ) (past : List Moment) (i : ℕ) (s : InitiatorState) → IsNoAct i (event_of past) → Guarded ready past i s → Guarded ready (said (notes.Sent serial generation from to bytes) ∷ past) i s
 sent_guarded ready serial generation from to bytes past i s n h =
@@ -159,10 +154,6 @@ guarded_carried ready = record {
 }
 
 -- ---- the beginning
-
-first_marks : (i : ℕ) (ready : Bool) → (new_state i ready).marks.pointing ≡ pointings.Unwritten
-unfolding new_state
-first_marks i ready = refl
 
 pub first_guarded : (line i initiators : ℕ) (ready : Bool) → i < initiators → Guarded ready (said (notes.Begin initiators ready) ∷ asked line (events.Begin initiators ready) ∷ []) i (new_state i ready)
 unfolding new_state

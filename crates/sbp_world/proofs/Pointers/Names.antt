@@ -60,7 +60,7 @@ core_wrote past now i e = ap (λ (c : Core). c.wrote_pointer) e
 away : (i j : ℕ) → (j == i) ≡ false → not (i == j) ≡ true
 away i j e = let f : (i == j) ≡ false = grind (arith, nat_tests) in ap not f
 
-here : (i j : ℕ) → (j == i) ≡ true → j ≡ i
+pub here : (i j : ℕ) → (j == i) ≡ true → j ≡ i
 here i j e = grind (arith, nat_tests)
 
 op_same : (past : List Moment) (i j : ℕ) (operation : Operation) (word : OpWord) (b : Bool) → (j == i) ≡ b → is_some (pointer (said (notes.Op j operation word) ∷ past) i) ≡ is_some (pointer past i)

@@ -19,6 +19,7 @@ use Rattle.sbp_world.proofs.Hosts.PointerNotes.{pointer}
 use Rattle.sbp_world.specs.Pointers.Moments.{pointer_write}
 use Rattle.sbp_world.specs.Pointers.Pointers.{IsNamed, begun_in, pointed_list}
 use Rattle.sbp_world.proofs.Pointers.Ages.{Closes, untrue}
+use Rattle.sbp_world.proofs.Common.{least}
 
 pub none_some : {A : Type 0} {B : Type 0} {x : B} → None ≡ Some x → A
 none_some e = absurd (differ e)
@@ -129,9 +130,6 @@ pub record Plain (past now : List Moment) (i : ℕ) : Type 0 where
   pub present : present_list now i ≡ present_list past i
   pub links : (n : ℕ) → 0 < linked past i n → 0 < linked now i n
 
-least : (a b : ℕ) → b ≡ a → a ≤ b
-least a b e = omega arith
-
 pub not_anew : {past now : ℕ} (n : ℕ) → past ≤ n → n < now → now ≡ past → ⊥
 not_anew n a b e = omega arith
 
@@ -202,7 +200,7 @@ other : {A : Type 0} (b : Bool) (x y : A) → b ≡ false → cond b x y ≡ y
 other true x y e = untrue (sym e)
 other false x y e = refl
 
-turned : (i j : ℕ) → (j == i) ≡ false → nat_eq i j ≡ false
+pub turned : (i j : ℕ) → (j == i) ≡ false → nat_eq i j ≡ false
 turned i j e = grind (arith, nat_tests)
 
 pub other_drop : (i j n : ℕ) (past : List Moment) → (j == i) ≡ false → Plain past (said (notes.Drop j n) ∷ past) i

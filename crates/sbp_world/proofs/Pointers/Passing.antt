@@ -2,6 +2,7 @@
 use Rattle.std.proofs.Common.{arith, ◌≡◌, refl, sym, ◌∙◌, ap, subst, ℕ, suc, ◌==◌, nat_eq, is_some, not, ◌||◌, Bool, true, false, List, [], ◌∷◌, Option, Some, None}
 use Rattle.std.proofs.lemmas.Bool.Decides.{nat_tests}
 use Rattle.std.specs.List.{AllByRecursion}
+use Rattle.std.proofs.lemmas.Bool.{not-true}
 use Rattle.sbp_bus.specs.Packets.{judged_note}
 use Rattle.sbp_journal.specs.Run.{Moment, asked, said}
 use Rattle.sbp_journal.specs.Transactions.{Sending}
@@ -23,7 +24,7 @@ use Rattle.sbp_world.proofs.Hosts.PointerNotes.{got_fades_now, opens, pointer, t
 use Rattle.sbp_world.specs.Pointers.Moments.{MayDrop, MayEnd, MayStand, NonePoints, turn_of}
 use Rattle.sbp_world.proofs.Pointers.Ages.{Closes, is_sight, moment_closes, moment_generation, untrue}
 use Rattle.sbp_world.proofs.Pointers.Dropping.{drops_of, is_drop}
-use Rattle.sbp_world.proofs.Pointers.Names.{drop_none}
+use Rattle.sbp_world.proofs.Pointers.Names.{drop_none, here}
 
 -- ---- from one moment to a later one
 
@@ -114,11 +115,8 @@ pub judged_stands : (serial : ℕ) (judged : Judged) (past : List Moment) (i : �
 judged_stands serial judgements.Got past i k = (tt, k)
 judged_stands serial (judgements.Ignored cause) past i k = (tt, k)
 
-itself : (i : ℕ) → not (nat_eq i i) ≡ true → false ≡ true
+pub itself : (i : ℕ) → not (nat_eq i i) ≡ true → false ≡ true
 itself i e = let f : nat_eq i i ≡ true = grind (arith, nat_tests) in sym (ap not f) ∙ e
-
-here : (i j : ℕ) → (j == i) ≡ true → j ≡ i
-here i j e = grind (arith, nat_tests)
 
 -- of the tame notes that are no steps of a list, a drop alone asks for something
 one_stands : (note : Note) (past : List Moment) (i : ℕ) → is_tame note ≡ true → ((j : ℕ) → is_left j note ≡ true) → ((n : ℕ) → note ≡ notes.Drop i n → MayDrop past i) → MayStand i (said note) past
@@ -161,7 +159,7 @@ one_stands (notes.Unsolicited j) past i e l d = untrue e
 one_stands (notes.Unsent j) past i e l d = untrue e
 
 -- and none of these begins a turn
-turn_same : (note : Note) (past : List Moment) → is_tame note ≡ true → ((j : ℕ) → is_left j note ≡ true) → turn_of (said note ∷ past) ≡ turn_of past
+pub turn_same : (note : Note) (past : List Moment) → is_tame note ≡ true → ((j : ℕ) → is_left j note ≡ true) → turn_of (said note ∷ past) ≡ turn_of past
 turn_same (notes.Append j n k cdb buffer) past e l = untrue (itself j (l j))
 turn_same (notes.Low j n k) past e l = untrue (itself j (l j))
 turn_same (notes.Linked j n k) past e l = untrue (itself j (l j))
@@ -222,12 +220,8 @@ pub current_by : (past now : List Moment) (i : ℕ) → ((n : ℕ) → pointer n
 current_by past now i fades same generation k serial packet p q =
     k serial packet (fades serial p) (sym (same serial (fades serial p)) ∙ q) ∙ sym generation
 
-not_so : (b : Bool) → not b ≡ true → b ≡ false
-not_so true e = untrue e
-not_so false e = refl
-
 pub apart_sight : (note : Note) (i : ℕ) → is_apart i note ≡ true → is_sight (suc i) (said note) ≡ false
-apart_sight (notes.Seen node generation) i e = not_so (node == suc i) e
+apart_sight (notes.Seen node generation) i e = not-true (node == suc i) e
 apart_sight (notes.Begin initiators ready) i e = refl
 apart_sight (notes.Append j n k cdb buffer) i e = refl
 apart_sight (notes.Low j n k) i e = refl
@@ -267,7 +261,7 @@ apart_sight (notes.Told j) i e = refl
 
 -- a name that is not this one
 not_here : {A : Type 0} (i j : ℕ) → not (i == j) ≡ true → (j == i) ≡ true → A
-not_here i j e f = absurd (differ (i == j) (not_so (i == j) e) (let g : (i == j) ≡ true = grind (arith, nat_tests) in g))
+not_here i j e f = absurd (differ (i == j) (not-true (i == j) e) (let g : (i == j) ≡ true = grind (arith, nat_tests) in g))
   where
     differ : (b : Bool) → b ≡ false → b ≡ true → ⊥
     differ true e f = cc

@@ -34,6 +34,7 @@ use Rattle.sbp_initiator.proofs.Histories.Actions.{Allowed, Steps, allowed, allo
 use Rattle.sbp_initiator.proofs.Histories.Effects.{HasMarks}
 use Rattle.sbp_world.proofs.Pointers.Ages.{untrue}
 use Rattle.sbp_world.proofs.Pointers.Pends.{Pend, Pends, listed_pends, moved_pends, unwritten_not}
+use Rattle.sbp_world.proofs.Common.{some_none}
 
 -- ---- a live session
 
@@ -203,12 +204,6 @@ module _ (place : ℕ → ℕ) where
   done_pends actions.AbortSet o s a h b k = manage_pends (orb_by actions.AbortSet s) operations.AbortSet s (λ e. ends_none a.session (a.closes refl) k e) k
   done_pends actions.UnitReset o s a h b k = manage_pends (orb_by actions.UnitReset s) operations.UnitReset s (λ e. ends_none a.session (a.closes refl) k e) k
   done_pends actions.TargetReset o s a h b k = manage_pends (orb_by actions.TargetReset s) operations.TargetReset s (λ e. ends_none a.session (a.closes refl) k e) k
-
-some_none : {A : Type 0} (number : ℕ) → Some number ≡ None → A
-some_none number e = absurd (differ e)
-  where
-    differ : Some number ≡ None → ⊥
-    differ e = cc
 
 -- an action that is done
 module _ (place new : ℕ → ℕ) (action : Action) (s : InitiatorState) (h : HasMarks s.lists.slots.present s.marks.pointing) (p : Places place new action s) (k : Pend false place s) where

@@ -1,6 +1,7 @@
 -- The laws of the writes of ORB_POINTER, of every run.
-use Rattle.std.proofs.Common.{arith, ◌≡◌, refl, sym, ◌∙◌, ap, subst, ℕ, suc, ◌<◌, nat_lt, is_some, not, Bool, true, false, List, ◌∷◌, ◌++◌, map, Option, Some, None, Result, Ok, Err}
+use Rattle.std.proofs.Common.{arith, ◌≡◌, refl, sym, ◌∙◌, ap, subst, ℕ, suc, ◌<◌, nat_lt, is_some, Bool, true, false, List, ◌∷◌, ◌++◌, map, Option, Some, None, Result, Ok, Err}
 use Rattle.std.proofs.lemmas.Bool.Decides.{nat_tests}
+use Rattle.std.proofs.lemmas.Option.{same_Some}
 use Rattle.async_packet.specs.declared.fault.PacketFault.{PacketFault}
 use Rattle.async_packet.specs.Packet.{Packet, lock, lock_response, read_block, read_block_response, read_quadlet, read_quadlet_response, write_block, write_quadlet, write_response}
 use Rattle.async_packet.specs.Reading.{reading}
@@ -43,10 +44,11 @@ use Rattle.sbp_world.proofs.Pointers.Written.{all_asked, all_writes}
 use Rattle.sbp_world.proofs.Pointers.CalmRuns.{calm_between, calm_of_runs}
 use Rattle.sbp_world.proofs.Pointers.Calms.{AllCalm}
 use Rattle.sbp_world.proofs.Pointers.Eight.{eight_pointer}
-use Rattle.sbp_world.proofs.Pointers.Guarded.{Guarded, Kept}
+use Rattle.sbp_world.proofs.Pointers.Guarded.{Guarded, Kept, not_true}
 use Rattle.sbp_world.proofs.Pointers.Guarding.{first_guarded, guarded_between, guarded_carried, guarded_of_runs, ready_known}
 use Rattle.sbp_world.proofs.Pointers.Naming.{Naming, none_some}
 use Rattle.sbp_world.proofs.Pointers.Sending.{names}
+use Rattle.sbp_world.proofs.Pointers.GuardDoes.{none_named}
 
 -- ---- what writes is a request to write
 
@@ -79,22 +81,11 @@ writes_of bytes access e w = let x = writes_by (reading bytes) access e w in rec
 
 -- ---- at a moment of a run
 
-none_of : (found : Option ℕ) → ((n : ℕ) → found ≡ Some n → ⊥) → found ≡ None
-none_of None f = refl
-none_of (Some n) f = absurd (f n refl)
-
 -- ORB_POINTER that was written and not answered
 pended : (mark : Pointing) → is_unwritten mark ≡ false → (is_answered mark ≡ true → ⊥) → mark ≡ pointings.Written
 pended pointings.Unwritten e f = untrue (sym e)
 pended pointings.Written e f = refl
 pended pointings.Answered e f = absurd (f refl)
-
-not_so : (b : Bool) → true ≡ not b → b ≡ false
-not_so true e = untrue (sym e)
-not_so false e = refl
-
-some_same : {A : Type 0} (a b : A) → Some a ≡ Some b → a ≡ b
-some_same a b e = cc
 
 module _ (ready : Bool) (past : List Moment) (i : ℕ) (s : InitiatorState) (g : Guarded ready past i s) (wire : IsOfWire past) (fair : (terms past).injects 0 ≡ false) (calm : AllCalm past) where
   kept : Kept past i s
@@ -122,7 +113,7 @@ module _ (ready : Bool) (past : List Moment) (i : ℕ) (s : InitiatorState) (g :
       let p = naming.each n serial e in
       let w = writes_of p.packet.bytes _ p.spelled refl in
       let once = (wire.once serial w.label p.packet p.sent p.honest w.part).once in
-      none_of ((terms past).closed serial)
+      none_named ((terms past).closed serial)
       (λ rcode c.
       let one = once rcode (ap (λ x. (terms past).injects x) p.from_is ∙ h) (ap (λ x. (terms past).injects x) p.to_is ∙ fair) c in
       let z : ⊥ = omega arith in z)
@@ -131,17 +122,17 @@ module _ (ready : Bool) (past : List Moment) (i : ℕ) (s : InitiatorState) (g :
   waits h n serial packet e sent now none =
       let p = naming.each n serial e in
       let closed = not_closed n serial e h none in
-      let same = some_same p.packet packet (sym p.sent ∙ sent) in
+      let same = same_Some p.packet packet (sym p.sent ∙ sent) in
       let present = p.present (ap (λ (x : Sending). x.generation) same ∙ now) closed in
       let name = p.own present in
-      let written : is_unwritten s.marks.pointing ≡ false = not_so (is_unwritten s.marks.pointing) (sym (ap is_some name) ∙ wrote_is g.pointed.cored) in
+      let written : is_unwritten s.marks.pointing ≡ false = not_true (is_unwritten s.marks.pointing) (sym (ap is_some name) ∙ wrote_is g.pointed.cored) in
       let mark = pended s.marks.pointing written (λ x. let y = (kept.answered x).answered serial name in (let z : false ≡ true = sym (ap is_some closed) ∙ y in cc)) in
       record { present = present; named = name; uncut = cutting_is past i s g.pointed.cored.core ∙ g.pend.beside mark }
 
   later : injectors past i ≡ false → (n serial : ℕ) (packet : Sending) → pointed_list past serial i ≡ Some n → (terms past).sent serial ≡ Some packet → (terms past).news serial ≡ 0 → (m : ℕ) → n < m → m < lists past i → packet.generation < begun_in past i m
   later h n serial packet e sent none m l b =
       let p = naming.each n serial e in
-      subst (λ (x : Sending). x.generation < begun_in past i m) (some_same p.packet packet (sym p.sent ∙ sent)) (p.later (not_closed n serial e h none) m l b)
+      subst (λ (x : Sending). x.generation < begun_in past i m) (same_Some p.packet packet (sym p.sent ∙ sent)) (p.later (not_closed n serial e h none) m l b)
 
   pub pointers_at : PointersAt past i
   pointers_at = record {

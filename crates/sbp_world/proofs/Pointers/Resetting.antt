@@ -1,12 +1,12 @@
 -- The request of an AGENT_RESET that is under way in an initiator's layer is the one by which its host's operation began.
 use Rattle.std.proofs.Common.{arith, ◌≡◌, refl, sym, ◌∙◌, ap, subst, ℕ, zero, suc, ◌&&◌, ◌==◌, nat_eq, nat_lt, is_some, not, ◌+◌, ◌%◌, Bool, true, false, cond, List, [], ◌∷◌, Option, Some, None}
 use Rattle.std.proofs.lemmas.Bool.Decides.{nat_tests}
+use Rattle.std.proofs.lemmas.Bool.{not-true}
 use Rattle.bus_transactions.specs.Wire.{transaction}
 use Rattle.bus_transactions.proofs.Facts.{asked_begun, request_asked}
 use Rattle.label_table.specs.History.{not_begun as not_begun_life, under_way}
 use Rattle.label_table.specs.declared.reply.ReplyKind.{ReplyKind}
 use Rattle.label_table.specs.Layer.{Layer, seeing_step}
-use Rattle.orb_layout.specs.Replies.{Answer, Done, Expired, NoLabel, Payload, Refused}
 use Rattle.sbp_bus.specs.Packets.{judged_note}
 use Rattle.sbp_journal.specs.Outgoings.{empty_outbox}
 use Rattle.sbp_journal.specs.Run.{Moment, said}
@@ -35,7 +35,7 @@ use Rattle.sbp_initiator.specs.Initiators.{new_state}
 use Rattle.sbp_initiator.specs.Refusals.{operation_of as own_operation}
 use Rattle.sbp_initiator.specs.Seeing.{see_step}
 use Rattle.sbp_initiator.specs.States.{wanted_body}
-use Rattle.sbp_laws.specs.Hosts.{Host, Underway, acted, goes_on, got_by, host_at, is_serial, known_host, list_begins, op_ended, operation_of, pointer_answered, reset_seen, ring, sent_as, sent_in}
+use Rattle.sbp_laws.specs.Hosts.{Host, Underway, acted, goes_on, got_by, host_at, is_serial, known_host, list_begins, op_ended, operation_of, reset_seen, sent_as, sent_in}
 use Rattle.sbp_laws.specs.Lists.{present_list}
 use Rattle.sbp_laws.specs.Packets.{answer_in, answered_at, packet_at, receiver_in, sender_in}
 use Rattle.sbp_laws.specs.Turns.{event_of}
@@ -60,6 +60,8 @@ use Rattle.sbp_world.specs.Pointers.Moments.{IsResetting}
 use Rattle.sbp_world.proofs.Pointers.Ages.{untrue}
 use Rattle.sbp_world.proofs.Pointers.WaitActs.{makes_for, none_seen, see_old}
 use Rattle.sbp_world.proofs.Pointers.Waits.{Asks, is_cared, makes}
+use Rattle.sbp_world.proofs.Lists.ManageFirsts.{pointer_operation, acted_none}
+use Rattle.sbp_world.proofs.Common.{turned}
 
 pub record Resets (past : List Moment) (i target : ℕ) (layer : Layer Purpose) : Type 0 where
   pub first : (number act : ℕ) (kind : Kind) (serial : ℕ) → At layer target number (Some (purposes.AgentReset act)) → (terms past).held (transaction layer.generation (suc i) 0 number) ≡ waits kind serial → IsResetting past i serial
@@ -97,16 +99,8 @@ ended_fades operations.AgentReset word host = λ u e. none_is e
 ended_fades operations.State word host = λ u e. e
 ended_fades operations.Enable word host = λ u e. none_is e
 
-answered_operation : (answer : Answer) (own : Bool) (host : Host) → (pointer_answered answer own host).operation ≡ host.operation
-answered_operation Done true host = refl
-answered_operation Done false host = refl
-answered_operation (Payload bytes) own host = refl
-answered_operation (Refused rcode) own host = refl
-answered_operation Expired own host = refl
-answered_operation NoLabel own host = refl
-
 got_fades : (own : Option ℕ) (wire : Terms) (serial : ℕ) (present : Option ℕ) (host : Host) → Fades (got_by own wire serial present host) host
-got_fades (Some own) wire serial present host = λ u e. sym (answered_operation (answer_in (packet_at wire serial)) (is_serial host.pointer own) host) ∙ e
+got_fades (Some own) wire serial present host = λ u e. sym (pointer_operation (answer_in (packet_at wire serial)) (is_serial host.pointer own) host) ∙ e
 got_fades None wire serial present host = λ u e. e
 
 reset_fades : (b : Bool) (host : Host) → Fades (reset_seen b host) host
@@ -146,17 +140,13 @@ pub judged_fades : (serial : ℕ) (judged : Judged) (past : List Moment) (i : �
 judged_fades serial judgements.Got past i = note_fades (notes.Got serial) past i refl
 judged_fades serial (judgements.Ignored cause) past i = note_fades (notes.Ignored serial cause) past i refl
 
-not_so : (b : Bool) → not b ≡ true → b ≡ false
-not_so true e = untrue e
-not_so false e = refl
-
 off_fades : (b c : Bool) (x y : Host) → b ≡ false → Fades (cond (b && c) x y) y
 off_fades true c x y e = untrue (sym e)
 off_fades false c x y e = λ u f. f
 
 pub apart_fades : (note : Note) (past : List Moment) (i : ℕ) → is_apart i note ≡ true → Fades (host_at (said note ∷ past) i) (host_at past i)
 apart_fades (notes.Begin initiators ready) past i e = untrue e
-apart_fades (notes.Sent serial generation from to bytes) past i e = off_fades (nat_eq from (suc i)) (not ((known_host past i).wire.injected serial)) _ (host_at past i) (not_so (nat_eq from (suc i)) e)
+apart_fades (notes.Sent serial generation from to bytes) past i e = off_fades (nat_eq from (suc i)) (not ((known_host past i).wire.injected serial)) _ (host_at past i) (not-true (nat_eq from (suc i)) e)
 apart_fades note past i e = note_fades note past i refl
 
 -- ---- it is the same one
@@ -232,13 +222,10 @@ not_begun : (b : Bool) (x y : Host) (serial : ℕ) → b ≡ false → Begun y s
 not_begun true x y serial e k = untrue (sym e)
 not_begun false x y serial e k = k
 
-other_way : (i j : ℕ) → nat_eq i j ≡ false → nat_eq j i ≡ false
-other_way i j e = grind (arith, nat_tests)
-
 other_begun : (event : Option Event) (i : ℕ) (list : Option ℕ) (latest : ℕ) (host : Host) (serial : ℕ) → IsNoAct i event → Begun host serial → Begun (sent_in event i list latest host) serial
 other_begun None i list latest host serial n b = goes_begun host.operation latest host serial refl b
 other_begun (Some (events.Act j action)) i list latest host serial n b =
-    not_begun (nat_eq j i) (acted action (operation_of action) list latest host) (goes_on host.operation latest host) serial (other_way i j n) (goes_begun host.operation latest host serial refl b)
+    not_begun (nat_eq j i) (acted action (operation_of action) list latest host) (goes_on host.operation latest host) serial (turned i j n) (goes_begun host.operation latest host serial refl b)
 other_begun (Some (events.Begin initiators ready)) i list latest host serial n b = goes_begun host.operation latest host serial refl b
 other_begun (Some (events.Reset physical)) i list latest host serial n b = goes_begun host.operation latest host serial refl b
 other_begun (Some (events.See node)) i list latest host serial n b = goes_begun host.operation latest host serial refl b
@@ -275,7 +262,7 @@ not_back false x y serial e h = h
 other_back : (event : Option Event) (i : ℕ) (list : Option ℕ) (latest : ℕ) (host : Host) (serial : ℕ) → IsNoAct i event → Begun (sent_in event i list latest host) serial → Begun host serial
 other_back None i list latest host serial n b = goes_back host.operation latest host serial refl b
 other_back (Some (events.Act j action)) i list latest host serial n b =
-    goes_back host.operation latest host serial refl (not_back (nat_eq j i) (acted action (operation_of action) list latest host) (goes_on host.operation latest host) serial (other_way i j n) b)
+    goes_back host.operation latest host serial refl (not_back (nat_eq j i) (acted action (operation_of action) list latest host) (goes_on host.operation latest host) serial (turned i j n) b)
 other_back (Some (events.Begin initiators ready)) i list latest host serial n b = goes_back host.operation latest host serial refl b
 other_back (Some (events.Reset physical)) i list latest host serial n b = goes_back host.operation latest host serial refl b
 other_back (Some (events.See node)) i list latest host serial n b = goes_back host.operation latest host serial refl b
@@ -340,36 +327,11 @@ asked_host {number} action serial generation to bytes past i e q f =
     ∙ ap (λ x. sent_in x i (present_list past i) serial host) e
     ∙ so (nat_eq i i) (acted action (operation_of action) (present_list past i) serial host) (goes_on host.operation serial host) (itself i)
 
-ring_operation : (pointer : Option ℕ) (serial : ℕ) (host : Host) → (ring pointer serial host).operation ≡ host.operation
-ring_operation None serial host = refl
-ring_operation (Some first) serial host = refl
-
 some_none : {A : Type 0} {x : Operation} → Some x ≡ None → A
 some_none e = absurd (differ e)
   where
     differ : {x : Operation} → Some x ≡ None → ⊥
     differ e = cc
-
--- that of an action that is no operation leaves the operation
-pub acted_none : (action : Action) (list : Option ℕ) (serial : ℕ) (host : Host) → operation_of action ≡ None → (acted action (operation_of action) list serial host).operation ≡ host.operation
-acted_none (actions.Append cmd) list serial host e = ring_operation host.pointer serial host
-acted_none actions.Ring list serial host e = ring_operation host.pointer serial host
-acted_none actions.State list serial host e = refl
-acted_none (actions.Put cmd) list serial host e = refl
-acted_none actions.Low list serial host e = refl
-acted_none actions.Link list serial host e = refl
-acted_none (actions.Dummy orb) list serial host e = refl
-acted_none actions.Rom list serial host e = some_none e
-acted_none actions.AgentReset list serial host e = some_none e
-acted_none actions.Enable list serial host e = some_none e
-acted_none (actions.Login unit reconnect exclusive password) list serial host e = some_none e
-acted_none (actions.Query unit) list serial host e = some_none e
-acted_none actions.Reconnect list serial host e = some_none e
-acted_none actions.Logout list serial host e = some_none e
-acted_none (actions.Abort orb) list serial host e = some_none e
-acted_none actions.AbortSet list serial host e = some_none e
-acted_none actions.UnitReset list serial host e = some_none e
-acted_none actions.TargetReset list serial host e = some_none e
 
 busy : {A : Type 0} (s : InitiatorState) → s.operation ≡ None → is_some s.operation ≡ true → A
 busy s e f = untrue (sym (ap is_some e) ∙ f)
@@ -395,7 +357,7 @@ beside_none actions.AbortSet s a e = busy s a e
 beside_none actions.UnitReset s a e = busy s a e
 beside_none actions.TargetReset s a e = busy s a e
 
-made_reset : (action : Action) (act : ℕ) → makes action (purposes.AgentReset act) ≡ true → action ≡ actions.AgentReset
+pub made_reset : (action : Action) (act : ℕ) → makes action (purposes.AgentReset act) ≡ true → action ≡ actions.AgentReset
 made_reset actions.AgentReset act m = refl
 made_reset _ act m = untrue m
 

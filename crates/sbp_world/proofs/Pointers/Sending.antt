@@ -179,7 +179,7 @@ module _ (past : List Moment) (i serial generation to : ℕ) (bytes : List ℕ) 
 
 -- ---- of other nodes, and injected ones
 
-not_new : {A : Type 0} (serial count : ℕ) → serial ≤ count → serial ≡ count + 1 → A
+pub not_new : {A : Type 0} (serial count : ℕ) → serial ≤ count → serial ≡ count + 1 → A
 not_new serial count l e = absurd (let x : ⊥ = omega arith in x)
 
 -- no older packet names this one

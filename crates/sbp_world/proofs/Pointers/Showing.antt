@@ -1,7 +1,7 @@
 -- The list that an initiator has is the present one by its run. It stays so in a delivery and in a time-out, where a list that is dropped is told of, and as a
 -- generation is seen.
-use Rattle.std.proofs.Common.{arith, ◌≡◌, refl, sym, ◌∙◌, ap, subst, ℕ, suc, ◌==◌, ◌||◌, nat_eq, nat_lt, not, Bool, true, false, cond, List, [], ◌∷◌, ◌++◌, Option, Some, None}
-use Rattle.std.proofs.lemmas.Bool.Decides.{nat_tests}
+use Rattle.std.proofs.Common.{◌≡◌, refl, sym, ◌∙◌, ap, subst, ℕ, suc, ◌||◌, nat_eq, nat_lt, not, Bool, true, false, cond, List, [], ◌∷◌, ◌++◌, Option, Some, None}
+use Rattle.std.proofs.lemmas.Bool.{not-true}
 use Rattle.async_packet.specs.Labels.{LabelParts}
 use Rattle.label_table.specs.Layer.{Layer, seen_in_generation, seeing_step}
 use Rattle.orb_list.specs.declared.list.PresentList.{PresentList}
@@ -34,10 +34,12 @@ use Rattle.sbp_world.proofs.Hosts.Layered.{AreTame, is_tame}
 use Rattle.sbp_world.proofs.Hosts.OrbTerms.{AreStill, is_left}
 use Rattle.sbp_world.proofs.Pointers.Ages.{untrue}
 use Rattle.sbp_world.proofs.Pointers.Dropping.{drops_of, is_drop, more}
-use Rattle.sbp_world.proofs.Pointers.Passing.{AreApart}
+use Rattle.sbp_world.proofs.Pointers.Passing.{AreApart, itself}
 use Rattle.sbp_world.proofs.Pointers.PendHears.{SameList}
 use Rattle.sbp_world.proofs.Pointers.Walks.{drops, ends, expires, is_drop_note, is_kept, receives}
 use Rattle.sbp_world.proofs.Pointers.WaitActs.{see_old}
+use Rattle.sbp_world.proofs.Common.{cond_off}
+use Rattle.sbp_world.proofs.Pointers.Naming.{turned}
 
 -- each list that it has is the present one by the run
 abbrev pub IsShowing : List Moment → ℕ → InitiatorState → Type 0
@@ -103,19 +105,9 @@ expire_lasts j label s = expires (W j s.lists) (plain j s.lists) (relist j s.lis
 
 -- ---- by the run
 
-itself : (j : ℕ) → not (nat_eq j j) ≡ true → false ≡ true
-itself j e = let f : nat_eq j j ≡ true = grind (arith, nat_tests) in sym (ap not f) ∙ e
-
-other : {A : Type 0} (b : Bool) (x y : A) → b ≡ false → cond b x y ≡ y
-other true x y e = untrue (sym e)
-other false x y e = refl
-
-turned : (i j : ℕ) → (j == i) ≡ false → nat_eq i j ≡ false
-turned i j e = grind (arith, nat_tests)
-
 one_present : (note : Note) (past : List Moment) (i : ℕ) → is_tame note ≡ true → ((j : ℕ) → is_left j note ≡ true) → is_drop i (sides.Own note) ≡ false → present_list (said note ∷ past) i ≡ present_list past i
 one_present (notes.Append j n k cdb buffer) past i e l d = untrue (itself j (l j))
-one_present (notes.Drop j n) past i e l d = other (nat_eq i j) None (present_list past i) (turned i j d)
+one_present (notes.Drop j n) past i e l d = cond_off (nat_eq i j) None (present_list past i) (turned i j d)
 one_present (notes.Low j n k) past i e l d = refl
 one_present (notes.Linked j n k) past i e l d = refl
 one_present (notes.Dummied j n k) past i e l d = refl
@@ -126,7 +118,7 @@ one_present (notes.Stuck j) past i e l d = refl
 one_present (notes.Told j) past i e l d = refl
 one_present _ past i e l d = untrue e
 
-neither : (a b : Bool) → (a || b) ≡ false → (a ≡ false) × (b ≡ false)
+pub neither : (a b : Bool) → (a || b) ≡ false → (a ≡ false) × (b ≡ false)
 neither true b e = untrue (sym e)
 neither false b e = (refl, e)
 
@@ -145,14 +137,10 @@ judged_present serial (judgements.Ignored cause) past i = refl
 pub lasts_showing : (past now : List Moment) (i : ℕ) (s : InitiatorState) (t : Turn) → present_list now i ≡ present_list past i → AreTame t.0.sides → AreStill t.0.sides → Lasts i s.lists t.0.sides t.1.lists → IsShowing past i s → IsShowing (behind t.0.sides now) i t.1
 lasts_showing past now i s t same tame still l h = λ n e. told_present t.0.sides now i tame still (l.undropped n e) ∙ same ∙ h n (l.had n e)
 
-not_so : (b : Bool) → not b ≡ true → b ≡ false
-not_so true e = untrue e
-not_so false e = refl
-
 -- what others say leaves it
 pub apart_present : (note : Note) (past : List Moment) (i : ℕ) → is_apart i note ≡ true → present_list (said note ∷ past) i ≡ present_list past i
-apart_present (notes.Append j n k cdb buffer) past i e = other (nat_eq i j) (Some n) (present_list past i) (not_so (nat_eq i j) e)
-apart_present (notes.Drop j n) past i e = other (nat_eq i j) None (present_list past i) (not_so (nat_eq i j) e)
+apart_present (notes.Append j n k cdb buffer) past i e = cond_off (nat_eq i j) (Some n) (present_list past i) (not-true (nat_eq i j) e)
+apart_present (notes.Drop j n) past i e = cond_off (nat_eq i j) None (present_list past i) (not-true (nat_eq i j) e)
 apart_present _ past i e = refl
 
 pub aparts_present : (told : List Side) (past : List Moment) (i : ℕ) → AreApart i told → present_list (behind told past) i ≡ present_list past i

@@ -1,5 +1,6 @@
 -- What the bytes of a request of a transaction layer say that it asks for.
 use Rattle.std.proofs.Common.{arith, ◌≡◌, refl, sym, ◌∙◌, ap, ℕ, suc, ◌+◌, ◌<◌, Bool, true, false, cond, List, [], ◌∷◌, length, Option, Some, None, Ok}
+use Rattle.std.proofs.lemmas.Option.{same_Some}
 use Rattle.async_packet.specs.Canon.{IsValid, canon}
 use Rattle.async_packet.specs.Packet.{Packet}
 use Rattle.async_packet.specs.Reading.{reading}
@@ -32,7 +33,7 @@ below_by : (b : Bool) (number count n : ℕ) (rest : Option ℕ) → cond b (Som
 below_by true number count n rest e h = let f : number ≡ n = cc in omega arith
 below_by false number count n rest e h = let f = h e in omega arith
 
-below : (number : ℕ) (bytes : List ℕ) (places : List Place) (n : ℕ) → lowest_from number bytes places ≡ Some n → n < number + length places
+pub below : (number : ℕ) (bytes : List ℕ) (places : List Place) (n : ℕ) → lowest_from number bytes places ≡ Some n → n < number + length places
 unfolding lowest_from
 below number bytes [] n e = cc
 below number bytes (place ∷ places) n e =
@@ -40,9 +41,6 @@ below number bytes (place ∷ places) n e =
 
 pub read_canon : (p : Packet) → IsValid p → reading (canon p) ≡ Ok p
 read_canon p v = reading_spelled (canon p) p (canon_spells p v)
-
-asked_is : (a b : Asked) → Some a ≡ Some b → a ≡ b
-asked_is a b e = cc
 
 module _ (layer : Layer Purpose) (peer : ℕ) (body : Body) (purpose : Purpose) (c : IsLayer layer) (v : IsValid (request_with (header_to layer.node peer 0) body)) where
   -- the packet under a label
@@ -55,7 +53,7 @@ module _ (layer : Layer Purpose) (peer : ℕ) (body : Body) (purpose : Purpose) 
 
   found_spelled : (k : ℕ) (number : Option ℕ) → ((n : ℕ) → number ≡ Some n → n < 64) → (asked : Asked) → (asked_at k layer (begun_for (peer_at layer k) peer purpose (begin_at number (peer_at layer k).table (unlabelled layer peer body)))).0 ≡ Some asked → access_in_bytes asked.bytes ≡ access_of (request_with (header_to 0 0 0) body)
   found_spelled k None s asked e = cc
-  found_spelled k (Some number) s asked e = ap (λ (a : Asked). access_in_bytes a.bytes) (sym (asked_is _ asked e)) ∙ under_label number (s number refl)
+  found_spelled k (Some number) s asked e = ap (λ (a : Asked). access_in_bytes a.bytes) (sym (same_Some _ asked e)) ∙ under_label number (s number refl)
 
   full : (k : ℕ) → length (peer_at layer k).table.places ≡ 64
   full k = ap (λ (l : Layer Purpose). length (peer_at l k).table.places) (sym c.layer_is) ∙ (after_kept c.first c.calls).parts.full k

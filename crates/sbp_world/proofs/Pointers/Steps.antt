@@ -20,6 +20,7 @@ use Rattle.sbp_world.proofs.Hosts.OrbTerms.{AreLeft}
 use Rattle.sbp_world.specs.Pointers.Moments.{is_cutting}
 use Rattle.sbp_world.proofs.Pointers.Ages.{untrue}
 use Rattle.sbp_world.proofs.Pointers.Passing.{AreApart, Stand}
+use Rattle.sbp_world.proofs.Common.{same_number}
 
 -- the steps of this initiator's list but appends
 abbrev pub is_link : ℕ → Note → Bool
@@ -31,9 +32,6 @@ is_link i _ = false
 
 abbrev pub AreLinks : ℕ → List Note → Type 0
 AreLinks i ns = AllByRecursion (λ note. is_link i note ≡ true) ns
-
-itself : (i : ℕ) → (i == i) ≡ true
-itself i = grind (arith, nat_tests)
 
 -- ---- what they leave
 
@@ -116,11 +114,11 @@ module _ (past : List Moment) (i n k : ℕ) (cdb : List ℕ) (buffer : NoteBuffe
   append_operation = pick_host (nat_eq i i) (list_begins k (host_at past i)) (host_at past i) (λ h. h.operation ≡ (host_at past i).operation) (begins_same k (host_at past i)).1 refl
 
   pub append_present : present_list appended i ≡ Some n
-  append_present = ap (λ b. cond b (Some n) (present_list past i)) (itself i)
+  append_present = ap (λ b. cond b (Some n) (present_list past i)) (same_number i)
 
   -- the slot of the first ORB of a list
   pub append_slot : (m : ℕ) → slot_at appended i m 0 ≡ cond (nat_eq m n) (cond (nat_eq 0 k) (lowest_vacant (slots past i)) (slot_at past i m 0)) (slot_at past i m 0)
-  append_slot m = ap (λ b. cond b (cond (nat_eq m n) (cond (nat_eq 0 k) (lowest_vacant (slots past i)) (slot_at past i m 0)) (slot_at past i m 0)) (slot_at past i m 0)) (itself i)
+  append_slot m = ap (λ b. cond b (cond (nat_eq m n) (cond (nat_eq 0 k) (lowest_vacant (slots past i)) (slot_at past i m 0)) (slot_at past i m 0)) (slot_at past i m 0)) (same_number i)
 
 -- ---- what is told
 
@@ -130,17 +128,17 @@ pub data ToldAs (past : List Moment) (i : ℕ) (action : Action) (ns : List Note
   append : (cdb : List ℕ) (buffer : NoteBuffer) (rest : List Note) → ns ≡ notes.Append i (new_list past i) (new_number past i) cdb buffer ∷ rest → AreLinks i rest → prepares action ≡ true → is_list_step action ≡ true → ToldAs past i action ns
 
 behind_links : (i n k : ℕ) → AreLinks i (link_notes i n k ++ notes.Rung i n k ∷ [])
-behind_links i n zero = (itself i, tt)
-behind_links i n (suc k) = (itself i, (itself i, (itself i, tt)))
+behind_links i n zero = (same_number i, tt)
+behind_links i n (suc k) = (same_number i, (same_number i, (same_number i, tt)))
 
 pub told_as : (past : List Moment) (i : ℕ) (action : Action) → ToldAs past i action (action_notes action past i)
 told_as past i (actions.Put cmd) = append cmd.cdb (buffer_of cmd) [] refl tt refl refl
 told_as past i (actions.Append cmd) =
     append cmd.cdb (buffer_of cmd) (link_notes i (new_list past i) (new_number past i) ++ notes.Rung i (new_list past i) (new_number past i) ∷ []) refl (behind_links i (new_list past i) (new_number past i)) refl refl
-told_as past i actions.Low = links (itself i, tt) refl refl
-told_as past i actions.Link = links (itself i, tt) refl refl
-told_as past i actions.Ring = links (itself i, tt) refl refl
-told_as past i (actions.Dummy orb) = links (itself i, tt) refl refl
+told_as past i actions.Low = links (same_number i, tt) refl refl
+told_as past i actions.Link = links (same_number i, tt) refl refl
+told_as past i actions.Ring = links (same_number i, tt) refl refl
+told_as past i (actions.Dummy orb) = links (same_number i, tt) refl refl
 told_as past i actions.Rom = silent refl refl refl
 told_as past i actions.AgentReset = silent refl refl refl
 told_as past i actions.State = silent refl refl refl

@@ -1,6 +1,5 @@
 -- The request of an action is one of those that are under way behind it, and a later generation leaves none.
 use Rattle.std.proofs.Common.{arith, ◌≡◌, refl, sym, ◌∙◌, ap, subst, ℕ, suc, ◌+◌, ◌≤◌, ◌==◌, ◌&&◌, nat_eq, nat_lt, not, Bool, true, false, cond, List, [], ◌∷◌, Option, Some, None}
-use Rattle.std.proofs.lemmas.Bool.Decides.{nat_tests}
 use Rattle.bus_transactions.specs.Wire.{transaction}
 use Rattle.bus_transactions.proofs.Facts.{asked_begun, request_asked}
 use Rattle.label_table.specs.History.{not_begun, under_way}
@@ -40,22 +39,17 @@ use Rattle.sbp_world.proofs.Hosts.Shown.{IsShown}
 use Rattle.sbp_world.specs.Pointers.Moments.{asked_in, is_state, names_answered, own_action, state_list}
 use Rattle.sbp_world.proofs.Pointers.Ages.{untrue}
 use Rattle.sbp_world.proofs.Pointers.Waits.{AskedFor, Asks, asked_sent, asked_told, counted_in, is_cared, makes, state_sent, state_told, still_asks}
+use Rattle.sbp_world.proofs.Common.{itself, cond_on, none_is as none_demand}
 
 -- ---- what an action asks for
 
 purpose_is : (own demand : Demand) → Some own ≡ Some demand → own.purpose ≡ demand.purpose
 purpose_is own demand e = let f : own ≡ demand = cc in ap (λ (d : Demand). d.purpose) f
 
-none_is : {A : Type 0} {n : ℕ} → None ≡ Some n → A
+pub none_is : {A : Type 0} {n : ℕ} → None ≡ Some n → A
 none_is e = absurd (differ e)
   where
     differ : {n : ℕ} → None ≡ Some n → ⊥
-    differ e = cc
-
-none_demand : {A : Type 0} (demand : Demand) → None ≡ Some demand → A
-none_demand demand e = absurd (differ e)
-  where
-    differ : None ≡ Some demand → ⊥
     differ e = cc
 
 not_cared : {A : Type 0} (own demand : Demand) (purpose : Purpose) → is_cared own.purpose ≡ false → Some own ≡ Some demand → demand.purpose ≡ purpose → is_cared purpose ≡ true → A
@@ -99,7 +93,7 @@ counted_cared (purposes.Enable act) n e = none_is e
 counted_cared (purposes.Management act) n e = none_is e
 counted_cared (purposes.Rom act) n e = none_is e
 
-made_state : (action : Action) (act : ℕ) (list : Option ℕ) → makes action (purposes.State act list) ≡ true → action ≡ actions.State
+pub made_state : (action : Action) (act : ℕ) (list : Option ℕ) → makes action (purposes.State act list) ≡ true → action ≡ actions.State
 made_state actions.State act list m = refl
 made_state _ act list m = untrue m
 
@@ -121,13 +115,6 @@ pub counts_now : (action : Action) (s : InitiatorState) (demand : Demand) (n : �
 counts_now action s demand n d e =
     let is = state_made action demand.purpose n (makes_for s demand demand.purpose refl (counted_cared demand.purpose n e) action d) e in
     record { is = is; counted = ap counted_in (purpose_is _ demand (ap (λ a. demand_of a s) (sym is) ∙ d)) ∙ e }
-
-this : {A : Type 0} (b : Bool) (x y : A) → b ≡ true → cond b x y ≡ x
-this true x y e = refl
-this false x y e = untrue e
-
-itself : (n : ℕ) → nat_eq n n ≡ true
-itself n = grind (arith, nat_tests)
 
 module _ (action : Action) (past : List Moment) (i : ℕ) (s : InitiatorState) (t : Turn) (under : event_of past ≡ Some (events.Act i action)) (shown : IsShown past i s.target s.layer) (called : Called s.layer) (k : Asks past i s.target s.layer) (left : ActLeft action s t) (packet : Outgoing) (one : t.0.packets ≡ packet ∷ []) (serial generation : ℕ) (injected : (terms past).injected serial ≡ false) (q : IsRequest (number_in packet.label) packet.bytes) (fit : Fit (said (notes.Sent serial generation (suc i) 0 packet.bytes) ∷ behind t.0.sides past)) (tells : (demand : Demand) → demand_of action s ≡ Some demand → (n : ℕ) → counted_in demand.purpose ≡ Some n → (names_answered (behind t.0.sides past) (host_at (behind t.0.sides past) i).pointer ≡ true) × (present_list (behind t.0.sides past) i ≡ Some n)) where
   abbrev ms : List Moment
@@ -171,12 +158,12 @@ module _ (action : Action) (past : List Moment) (i : ℕ) (s : InitiatorState) (
   now_own m = ap (λ g. (terms now).held (transaction g (suc i) 0 m)) stays
 
   line : own_action i (event_of ms) ≡ Some action
-  line = ap (own_action i) (told.line ∙ under) ∙ this (nat_eq i i) (Some action) None (itself i)
+  line = ap (own_action i) (told.line ∙ under) ∙ cond_on (nat_eq i i) (Some action) None (itself i)
 
   new_asked : asked_in now serial i ≡ Some action
   new_asked =
-      this (nat_eq serial serial) (cond (nat_eq i i) (own_action i (event_of ms)) (asked_in ms serial i)) (asked_in ms serial i) (itself serial)
-      ∙ this (nat_eq i i) (own_action i (event_of ms)) (asked_in ms serial i) (itself i)
+      cond_on (nat_eq serial serial) (cond (nat_eq i i) (own_action i (event_of ms)) (asked_in ms serial i)) (asked_in ms serial i) (itself serial)
+      ∙ cond_on (nat_eq i i) (own_action i (event_of ms)) (asked_in ms serial i) (itself i)
       ∙ line
 
   -- the list that it tells of
@@ -185,8 +172,8 @@ module _ (action : Action) (past : List Moment) (i : ℕ) (s : InitiatorState) (
       let k = tells x.demand x.is n e in
       let list = told_of (is_state (own_action i (event_of ms)) && names_answered ms (host_at ms i).pointer) (present_list ms i) in
       let c = counts_now action s x.demand n x.is e in
-      this (nat_eq serial serial) (cond (nat_eq i i) list (state_list ms serial i)) (state_list ms serial i) (itself serial)
-      ∙ this (nat_eq i i) list (state_list ms serial i) (itself i)
+      cond_on (nat_eq serial serial) (cond (nat_eq i i) list (state_list ms serial i)) (state_list ms serial i) (itself serial)
+      ∙ cond_on (nat_eq i i) list (state_list ms serial i) (itself i)
       ∙ ap (λ a. told_of (is_state a && names_answered ms (host_at ms i).pointer) (present_list ms i)) (line ∙ ap Some c.is)
       ∙ ap (λ b. told_of (true && b) (present_list ms i)) k.0
       ∙ k.1
@@ -233,11 +220,11 @@ seen_layer true generation id target other s =
     (list_drops o (interrupted u target)).layer ∙ sym (list_drops o (interrupted u other)).layer
 seen_layer false generation id target other s = refl
 
-see_layer : (generation id target other : ℕ) (s : InitiatorState) → (see_step generation id target empty_outbox s).1.layer ≡ (see_step generation id other empty_outbox s).1.layer
+pub see_layer : (generation id target other : ℕ) (s : InitiatorState) → (see_step generation id target empty_outbox s).1.layer ≡ (see_step generation id other empty_outbox s).1.layer
 unfolding see_step seeing_step
 see_layer generation id target other s = seen_layer (nat_lt s.layer.generation generation) generation id target other s
 
-see_target : (generation id target : ℕ) (s : InitiatorState) → nat_lt s.layer.generation generation ≡ true → (see_step generation id target empty_outbox s).1.target ≡ target
+pub see_target : (generation id target : ℕ) (s : InitiatorState) → nat_lt s.layer.generation generation ≡ true → (see_step generation id target empty_outbox s).1.target ≡ target
 unfolding see_step seeing_step
 see_target generation id target s e =
     ap (λ b. (seen_as (cond b (true, seen_in_generation s.layer generation id) (false, s.layer)) target empty_outbox s).1.target) e

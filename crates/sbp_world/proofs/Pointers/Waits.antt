@@ -2,6 +2,7 @@
 -- action, and a read that counts for a list tells of it.
 use Rattle.std.proofs.Common.{arith, ◌≡◌, refl, sym, ◌∙◌, ap, ℕ, zero, suc, ◌+◌, ◌≤◌, ◌==◌, nat_eq, not, Bool, true, false, cond, List, [], ◌∷◌, Option, Some, None}
 use Rattle.std.proofs.lemmas.Bool.Decides.{nat_tests}
+use Rattle.std.proofs.lemmas.Bool.{not-true}
 use Rattle.bus_transactions.specs.Rows.{awaits, shape, shape_of}
 use Rattle.bus_transactions.specs.Wire.{transaction}
 use Rattle.label_table.specs.declared.reply.ReplyKind.{ReplyKind}
@@ -33,6 +34,7 @@ use Rattle.sbp_world.proofs.Hosts.Pointing.{asked_generation, at_same, sent_wait
 use Rattle.sbp_world.proofs.Hosts.Shown.{IsShown}
 use Rattle.sbp_world.specs.Pointers.Moments.{asked_in, state_list}
 use Rattle.sbp_world.proofs.Pointers.Ages.{untrue}
+use Rattle.sbp_world.proofs.Common.{cond_off, least}
 
 -- what such a request is for, and the action that makes it
 abbrev pub is_cared : Purpose → Bool
@@ -110,39 +112,31 @@ state_told [] past t = refl
 state_told (sides.Own note ∷ later) past t = state_told later (said note ∷ past) t.1 ∙ state_note note past t.0
 state_told (_ ∷ later) past t = absurd t.0
 
-other : {A : Type 0} (b c : Bool) (x y : A) → c ≡ false → cond b (cond c x y) y ≡ y
+pub other : {A : Type 0} (b c : Bool) (x y : A) → c ≡ false → cond b (cond c x y) y ≡ y
 other true true x y e = untrue (sym e)
 other true false x y e = refl
 other false c x y e = refl
 
-not_so : (b : Bool) → not b ≡ true → b ≡ false
-not_so true e = untrue e
-not_so false e = refl
-
 pub asked_apart : (note : Note) (past : List Moment) (i : ℕ) → is_apart i note ≡ true → (n : ℕ) → asked_in (said note ∷ past) n i ≡ asked_in past n i
 asked_apart (notes.Sent s generation zero to bytes) past i e n = refl
 asked_apart (notes.Sent s generation (suc j) to bytes) past i e n =
-    other (nat_eq n s) (nat_eq i j) _ (asked_in past n i) (let f : (suc j == suc i) ≡ false = not_so (suc j == suc i) e in grind (arith, nat_tests))
+    other (nat_eq n s) (nat_eq i j) _ (asked_in past n i) (let f : (suc j == suc i) ≡ false = not-true (suc j == suc i) e in grind (arith, nat_tests))
 asked_apart note past i e n = refl
 
 pub state_apart : (note : Note) (past : List Moment) (i : ℕ) → is_apart i note ≡ true → (n : ℕ) → state_list (said note ∷ past) n i ≡ state_list past n i
 state_apart (notes.Sent s generation zero to bytes) past i e n = refl
 state_apart (notes.Sent s generation (suc j) to bytes) past i e n =
-    other (nat_eq n s) (nat_eq i j) _ (state_list past n i) (let f : (suc j == suc i) ≡ false = not_so (suc j == suc i) e in grind (arith, nat_tests))
+    other (nat_eq n s) (nat_eq i j) _ (state_list past n i) (let f : (suc j == suc i) ≡ false = not-true (suc j == suc i) e in grind (arith, nat_tests))
 state_apart note past i e n = refl
-
-apart : {A : Type 0} (b : Bool) (x y : A) → b ≡ false → cond b x y ≡ y
-apart true x y e = untrue (sym e)
-apart false x y e = refl
 
 -- a packet that is sent is a new one
 pub asked_sent : (serial generation from to : ℕ) (bytes : List ℕ) (past : List Moment) (i n : ℕ) → n ≤ (terms past).count → serial ≡ (terms past).count + 1 → asked_in (said (notes.Sent serial generation from to bytes) ∷ past) n i ≡ asked_in past n i
 asked_sent serial generation zero to bytes past i n l e = refl
-asked_sent serial generation (suc j) to bytes past i n l e = apart (nat_eq n serial) _ (asked_in past n i) (grind (arith, nat_tests))
+asked_sent serial generation (suc j) to bytes past i n l e = cond_off (nat_eq n serial) _ (asked_in past n i) (grind (arith, nat_tests))
 
 pub state_sent : (serial generation from to : ℕ) (bytes : List ℕ) (past : List Moment) (i n : ℕ) → n ≤ (terms past).count → serial ≡ (terms past).count + 1 → state_list (said (notes.Sent serial generation from to bytes) ∷ past) n i ≡ state_list past n i
 state_sent serial generation zero to bytes past i n l e = refl
-state_sent serial generation (suc j) to bytes past i n l e = apart (nat_eq n serial) _ (state_list past n i) (grind (arith, nat_tests))
+state_sent serial generation (suc j) to bytes past i n l e = cond_off (nat_eq n serial) _ (state_list past n i) (grind (arith, nat_tests))
 
 pub sent_asks : (serial generation from to : ℕ) (bytes : List ℕ) (past : List Moment) (i target : ℕ) (layer : Layer Purpose) → Fit (said (notes.Sent serial generation from to bytes) ∷ past) → Asks past i target layer → Asks (said (notes.Sent serial generation from to bytes) ∷ past) i target layer
 sent_asks serial generation from to bytes past i target layer fit k = record {
@@ -229,9 +223,6 @@ module _ (past : List Moment) (note : Note) (i target : ℕ) (old l : Layer Purp
       let wire = (tame_told told ended i tame).wire in
       let v = transaction old.generation (suc i) 0 m in
       (back m (Some p) b, sym (ap (λ x. (terms later).held (transaction x (suc i) 0 m)) (stays new left) ∙ ap (λ (x : Terms). x.held v) wire ∙ here m b.kind (ap shape b.state)) ∙ w)
-
-least : (a b : ℕ) → b ≡ a → a ≤ b
-least a b e = omega arith
 
 pub judged_count : (serial : ℕ) (judged : Judged) (past : List Moment) → (terms past).count ≤ (terms (said (judged_note serial judged) ∷ past)).count
 judged_count serial judgements.Got past = least _ _ (got_agrees ((terms past).sent serial) serial (terms past)).count

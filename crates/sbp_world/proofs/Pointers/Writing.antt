@@ -17,6 +17,7 @@ use Rattle.sbp_world.proofs.Pointers.Ages.{is_sight, moment_closes, moment_gener
 use Rattle.sbp_world.proofs.Pointers.Names.{append_none, drop_none}
 use Rattle.sbp_world.specs.Pointers.Pointers.{begun_in}
 use Rattle.sbp_world.proofs.Pointers.Naming.{Follows, Naming, Plain, none_some, not_anew, plain_follows, plain_names, points_on}
+use Rattle.sbp_world.proofs.Common.{cond_on}
 
 -- ---- a moment that leaves lists and writes
 
@@ -45,10 +46,6 @@ rises_by past i node generation s true e =
 pub itself : (i : ℕ) → nat_eq i i ≡ true
 itself i = grind (arith, nat_tests)
 
-this : {A : Type 0} (b : Bool) (x y : A) → b ≡ true → cond b x y ≡ x
-this true x y e = refl
-this false x y e = untrue e
-
 pub apart : {A : Type 0} (b : Bool) (x y : A) → b ≡ false → cond b x y ≡ y
 apart true x y e = untrue (sym e)
 apart false x y e = refl
@@ -59,7 +56,7 @@ some_is a b e = cc
 below_not : (m n : ℕ) → m < n → nat_eq m n ≡ false
 below_not m n l = grind (arith, nat_tests)
 
-absurd_below : {A : Type 0} (m n : ℕ) → m ≡ n → m < n → A
+pub absurd_below : {A : Type 0} (m n : ℕ) → m ≡ n → m < n → A
 absurd_below m n e l = absurd (let x : ⊥ = omega arith in x)
 
 module _ (i n : ℕ) (cdb : List ℕ) (buffer : NoteBuffer) (past : List Moment) (c : SerialsCount past) (a : MayAppend past i n zero) (k : Naming past i) where
@@ -73,14 +70,14 @@ module _ (i n : ℕ) (cdb : List ℕ) (buffer : NoteBuffer) (past : List Moment)
   next_list = (a.first refl).1
 
   first_present : present_list first i ≡ Some n
-  first_present = this (nat_eq i i) (Some n) (present_list past i) (itself i)
+  first_present = cond_on (nat_eq i i) (Some n) (present_list past i) (itself i)
 
   first_lists : lists first i ≡ suc (lists past i)
-  first_lists = this (nat_eq i i) (suc (lists past i)) (lists past i) (itself i)
+  first_lists = cond_on (nat_eq i i) (suc (lists past i)) (lists past i) (itself i)
 
   first_slot : (m : ℕ) → m < lists past i → slot_at first i m 0 ≡ slot_at past i m 0
   first_slot m l =
-      this (nat_eq i i) (cond (nat_eq m n) (lowest_vacant (slots past i)) (slot_at past i m 0)) (slot_at past i m 0) (itself i)
+      cond_on (nat_eq i i) (cond (nat_eq m n) (lowest_vacant (slots past i)) (slot_at past i m 0)) (slot_at past i m 0) (itself i)
       ∙ apart (nat_eq m n) (lowest_vacant (slots past i)) (slot_at past i m 0) (below_not m n (subst (λ x. m < x) (sym next_list) l))
 
   abbrev age : ℕ
@@ -88,15 +85,15 @@ module _ (i n : ℕ) (cdb : List ℕ) (buffer : NoteBuffer) (past : List Moment)
 
   first_ages : (m : ℕ) → m < lists past i → begun_in first i m ≡ begun_in past i m
   first_ages m l =
-      this (nat_eq i i) (cond (nat_eq m n) age (begun_in past i m)) (begun_in past i m) (itself i)
+      cond_on (nat_eq i i) (cond (nat_eq m n) age (begun_in past i m)) (begun_in past i m) (itself i)
       ∙ apart (nat_eq m n) age (begun_in past i m) (below_not m n (subst (λ x. m < x) (sym next_list) l))
 
   first_age : (m : ℕ) → nat_eq m n ≡ true → begun_in first i m ≡ age
   first_age m e =
-      this (nat_eq i i) (cond (nat_eq m n) age (begun_in past i m)) (begun_in past i m) (itself i) ∙ this (nat_eq m n) age (begun_in past i m) e
+      cond_on (nat_eq i i) (cond (nat_eq m n) age (begun_in past i m)) (begun_in past i m) (itself i) ∙ cond_on (nat_eq m n) age (begun_in past i m) e
 
   first_linked : (m : ℕ) → linked first i m ≡ cond (nat_eq m n) 1 (linked past i m)
-  first_linked m = this (nat_eq i i) (cond (nat_eq m n) 1 (linked past i m)) (linked past i m) (itself i)
+  first_linked m = cond_on (nat_eq i i) (cond (nat_eq m n) 1 (linked past i m)) (linked past i m) (itself i)
 
   first_follows : Follows past first i
   first_follows = record {
@@ -119,8 +116,8 @@ module _ (i n : ℕ) (cdb : List ℕ) (buffer : NoteBuffer) (past : List Moment)
   small_by : (m : ℕ) (b : Bool) → nat_eq m n ≡ b → m < lists first i → slot_at first i m 0 < 32
   small_by m true e l =
       subst (λ x. x < 32)
-      (sym (this (nat_eq i i) (cond (nat_eq m n) (lowest_vacant (slots past i)) (slot_at past i m 0)) (slot_at past i m 0) (itself i)
-      ∙ this (nat_eq m n) (lowest_vacant (slots past i)) (slot_at past i m 0) e)) a.small
+      (sym (cond_on (nat_eq i i) (cond (nat_eq m n) (lowest_vacant (slots past i)) (slot_at past i m 0)) (slot_at past i m 0) (itself i)
+      ∙ cond_on (nat_eq m n) (lowest_vacant (slots past i)) (slot_at past i m 0) e)) a.small
   small_by m false e l =
       let before : m < lists past i = (let f = first_lists in let g = next_list in grind (arith, nat_tests)) in
       subst (λ x. x < 32) (sym (first_slot m before)) (k.small m before)
@@ -144,12 +141,12 @@ later_name false host k = refl
 later_plain : (i n k : ℕ) (cdb : List ℕ) (buffer : NoteBuffer) (past : List Moment) → present_list past i ≡ Some n → Plain past (said (notes.Append i n (suc k) cdb buffer) ∷ past) i
 later_plain i n k cdb buffer past e = record {
   writes = λ s. refl;
-  begun = this (nat_eq i i) (cond (nat_eq (suc k) 0) (suc (lists past i)) (lists past i)) (lists past i) (itself i) ∙ apart (nat_eq (suc k) 0) (suc (lists past i)) (lists past i) (not_first k);
+  begun = cond_on (nat_eq i i) (cond (nat_eq (suc k) 0) (suc (lists past i)) (lists past i)) (lists past i) (itself i) ∙ apart (nat_eq (suc k) 0) (suc (lists past i)) (lists past i) (not_first k);
   slot = λ m.
-      this (nat_eq i i) (cond (nat_eq m n) (cond (nat_eq 0 (suc k)) (lowest_vacant (slots past i)) (slot_at past i m 0)) (slot_at past i m 0)) (slot_at past i m 0) (itself i)
+      cond_on (nat_eq i i) (cond (nat_eq m n) (cond (nat_eq 0 (suc k)) (lowest_vacant (slots past i)) (slot_at past i m 0)) (slot_at past i m 0)) (slot_at past i m 0) (itself i)
       ∙ same_slot (nat_eq m n) (nat_eq 0 (suc k)) (lowest_vacant (slots past i)) (slot_at past i m 0) (none_first k);
   ages = λ m. ap (λ (g : ℕ → ℕ → ℕ). g i m) (apart (nat_eq (suc k) 0) _ (begun_in past) (not_first k));
-  present = this (nat_eq i i) (Some n) (present_list past i) (itself i) ∙ sym e;
+  present = cond_on (nat_eq i i) (Some n) (present_list past i) (itself i) ∙ sym e;
   links = λ m b. b;
 }
   where
@@ -176,7 +173,7 @@ module _ (i n : ℕ) (past : List Moment) (c : SerialsCount past) (d : MayDrop p
   dropped = said (notes.Drop i n) ∷ past
 
   gone : present_list dropped i ≡ None
-  gone = this (nat_eq i i) None (present_list past i) (itself i)
+  gone = cond_on (nat_eq i i) None (present_list past i) (itself i)
 
   drop_follows : Follows past dropped i
   drop_follows = record {

@@ -1,6 +1,7 @@
 -- What each write of an initiator is, by its packet.
 use Rattle.std.proofs.Common.{arith, ◌≡◌, refl, sym, ◌∙◌, ap, subst, ℕ, zero, suc, ◌==◌, nat_eq, Bool, true, false, cond, List, [], ◌∷◌, Option, Some, None}
 use Rattle.std.proofs.lemmas.Bool.Decides.{nat_tests}
+use Rattle.std.proofs.lemmas.Option.{same_Some}
 use Rattle.sbp_journal.specs.Addresses.{Access}
 use Rattle.sbp_journal.specs.Run.{Moment, asked, said}
 use Rattle.sbp_journal.specs.Transactions.{Sending}
@@ -21,6 +22,7 @@ use Rattle.sbp_world.proofs.Pointers.Ages.{is_leaving, moment_sent, untrue}
 use Rattle.sbp_world.proofs.Pointers.Calms.{AllCalm, Calm}
 use Rattle.sbp_world.proofs.Pointers.Quiet.{writes_in}
 use Rattle.sbp_world.proofs.Pointers.Sending.{written_now}
+use Rattle.sbp_world.proofs.Common.{itself, cond_off, cond_on}
 
 -- ---- each write is asked for in the line of an action
 
@@ -71,17 +73,6 @@ module _ (i : ℕ) where
 abbrev Writes : List Moment → ℕ → Type 0
 Writes past i = (serial : ℕ) (packet : Sending) → (terms past).sent serial ≡ Some packet → packet.from ≡ suc i → packet.injected ≡ false → (access : Access) → access_in_bytes packet.bytes ≡ Some access → access.is_write ≡ true → IsWrite past i serial access
 
-itself : (n : ℕ) → nat_eq n n ≡ true
-itself n = grind (arith, nat_tests)
-
-this : {A : Type 0} (b : Bool) (x y : A) → b ≡ true → cond b x y ≡ x
-this true x y e = refl
-this false x y e = untrue e
-
-apart : {A : Type 0} (b : Bool) (x y : A) → b ≡ false → cond b x y ≡ y
-apart true x y e = untrue (sym e)
-apart false x y e = refl
-
 -- one that was sent before
 goes_on : (past now : List Moment) (i x : ℕ) (access : Access) → pointed_list now x i ≡ pointed_list past x i → asked_in now x i ≡ asked_in past x i → IsWrite past i x access → IsWrite now i x access
 goes_on past now i x access e f (of_pointer n p) = of_pointer n (e ∙ p)
@@ -106,10 +97,10 @@ module _ (i serial generation from to : ℕ) (bytes : List ℕ) (past : List Mom
 
       asks : (action : Action) → w.action ≡ action → asked_in (said (notes.Sent serial generation (suc i) to bytes) ∷ past) serial i ≡ Some action
       asks action e =
-          this (nat_eq serial serial) (cond (nat_eq i i) (own_action i (event_of past)) (asked_in past serial i)) (asked_in past serial i) (itself serial)
-          ∙ this (nat_eq i i) (own_action i (event_of past)) (asked_in past serial i) (itself i)
+          cond_on (nat_eq serial serial) (cond (nat_eq i i) (own_action i (event_of past)) (asked_in past serial i)) (asked_in past serial i) (itself serial)
+          ∙ cond_on (nat_eq i i) (own_action i (event_of past)) (asked_in past serial i) (itself i)
           ∙ ap (own_action i) w.line
-          ∙ this (nat_eq i i) (Some w.action) None (itself i)
+          ∙ cond_on (nat_eq i i) (Some w.action) None (itself i)
           ∙ ap Some e
 
       by : MayWrite past i (host_at (said (notes.Sent serial generation (suc i) to bytes) ∷ past) i).pointer serial w.action access → IsWrite (said (notes.Sent serial generation (suc i) to bytes) ∷ past) i serial access
@@ -121,14 +112,11 @@ module _ (i serial generation from to : ℕ) (bytes : List ℕ) (past : List Mom
 
 older_list : (i serial generation from to : ℕ) (bytes : List ℕ) (past : List Moment) (x : ℕ) → nat_eq x serial ≡ false → pointed_list (said (notes.Sent serial generation from to bytes) ∷ past) x i ≡ pointed_list past x i
 older_list i serial generation zero to bytes past x e = refl
-older_list i serial generation (suc j) to bytes past x e = apart (nat_eq x serial) _ (pointed_list past x i) e
+older_list i serial generation (suc j) to bytes past x e = cond_off (nat_eq x serial) _ (pointed_list past x i) e
 
 pub older_asked : (i serial generation from to : ℕ) (bytes : List ℕ) (past : List Moment) (x : ℕ) → nat_eq x serial ≡ false → asked_in (said (notes.Sent serial generation from to bytes) ∷ past) x i ≡ asked_in past x i
 older_asked i serial generation zero to bytes past x e = refl
-older_asked i serial generation (suc j) to bytes past x e = apart (nat_eq x serial) _ (asked_in past x i) e
-
-some_packet : (a b : Sending) → Some a ≡ Some b → a ≡ b
-some_packet a b e = cc
+older_asked i serial generation (suc j) to bytes past x e = cond_off (nat_eq x serial) _ (asked_in past x i) e
 
 sent_writes : (i serial generation from to : ℕ) (bytes : List ℕ) (past : List Moment) → MayStand i (said (notes.Sent serial generation from to bytes)) past → MayAsk i (said (notes.Sent serial generation from to bytes)) past → Writes past i → Writes (said (notes.Sent serial generation from to bytes) ∷ past) i
 sent_writes i serial generation from to bytes past m a k x other sent is honest access spelled w = by (nat_eq x serial) refl
@@ -140,7 +128,7 @@ sent_writes i serial generation from to bytes past m a k x other sent is honest 
     by true e =
         let same : x ≡ serial = grind (arith, nat_tests) in
         let own = packet i serial generation from to bytes past in
-        let p : own ≡ other = some_packet own other (sym (sent_new serial own (terms past)) ∙ ap (terms (said (notes.Sent serial generation from to bytes) ∷ past)).sent (sym same) ∙ sent) in
+        let p : own ≡ other = same_Some own other (sym (sent_new serial own (terms past)) ∙ ap (terms (said (notes.Sent serial generation from to bytes) ∷ past)).sent (sym same) ∙ sent) in
         let from_is : from ≡ suc i = ap (λ (y : Sending). y.from) p ∙ is in
         let fair : (terms past).injected serial ≡ false = ap (λ (y : Sending). y.injected) p ∙ honest in
         let written = a (let f : (from == suc i) ≡ true = grind (arith, nat_tests) in f) fair access (ap (λ (y : Sending). access_in_bytes y.bytes) p ∙ spelled) w in

@@ -1,11 +1,10 @@
 -- What notes and packets leave of the writes of a history: whichever packet of the target a history has, where it writes, it writes a block.
 use Rattle.std.proofs.Common.{◌≡◌, ◌∙◌, refl, sym, ap, subst, ℕ, suc, nat_eq, Bool, true, false, cond, List, [], ◌∷◌, Option, Some, None}
 use Rattle.sbp_world.proofs.Hosts.Layered.{is_tame}
-use Rattle.sbp_base.specs.Update.{upd}
 use Rattle.sbp_bus.specs.Packets.{judged_note}
 use Rattle.sbp_journal.specs.Run.{Moment, asked, said}
-use Rattle.sbp_journal.specs.Transactions.{Kind, Part, Sending, Transaction, begun_by, no_packet, part_of, request, response}
-use Rattle.sbp_journal.specs.Wire.{Held, Owed, Terms, arrives, begins, closes, closes_if, free, gets, gets_as, gives, ignores, ignores_that, is_news, is_served, judges, judges_if, noted, opened, pays, puts, rests, sends, terms, times_out, waits}
+use Rattle.sbp_journal.specs.Transactions.{Kind, Part, Sending, Transaction, no_packet, part_of, request, response}
+use Rattle.sbp_journal.specs.Wire.{Held, Terms, arrives, begins, closes, closes_if, free, gets, gets_as, ignores, ignores_that, is_news, is_served, judges, judges_if, noted, opened, rests, terms, times_out, waits}
 use Rattle.sbp_journal.specs.declared.cause.Cause.{Cause}
 use Rattle.sbp_journal.specs.declared.cause.Cause.TheVariants as causes
 use Rattle.sbp_journal.specs.declared.cause.Judged.{Judged}
@@ -17,35 +16,25 @@ use Rattle.sbp_journal.specs.declared.note.Note.TheVariants as notes
 use Rattle.sbp_laws.specs.Hosts.{is_serial}
 use Rattle.sbp_laws.specs.Packets.{access_in_bytes, packet_in, access_in, receiver_in}
 use Rattle.sbp_world.specs.Sessions.Blocks.{AreBlocks, IsBlockWrite, IsTargetBlock, SentBlocks}
-
-untrue : {A : Type 0} → false ≡ true → A
-untrue e = absurd (differ e)
-  where
-    differ : false ≡ true → ⊥
-    differ e = cc
-
-none_some : {A : Type 0} (q : Sending) → None ≡ Some q → A
-none_some q e = absurd (differ e)
-  where
-    differ : None ≡ Some q → ⊥
-    differ e = cc
+use Rattle.sbp_world.proofs.Common.{untrue, none_is}
+use Rattle.sbp_world.proofs.Hosts.Held.{sends_sent}
 
 -- ---- which packets were sent, of a note that sends none
 
-judges_sent : (began : Option Transaction) (cause : Option Cause) (s : ℕ) (packet : Sending) (t : Terms) → (judges began cause s packet t).sent ≡ t.sent
+pub judges_sent : (began : Option Transaction) (cause : Option Cause) (s : ℕ) (packet : Sending) (t : Terms) → (judges began cause s packet t).sent ≡ t.sent
 judges_sent None cause s packet t = refl
 judges_sent (Some u) cause s packet t = refl
 
-closes_if_sent : (b : Bool) (s : ℕ) (u : Transaction) (rcode : ℕ) (t : Terms) → (closes_if b s u rcode t).sent ≡ t.sent
+pub closes_if_sent : (b : Bool) (s : ℕ) (u : Transaction) (rcode : ℕ) (t : Terms) → (closes_if b s u rcode t).sent ≡ t.sent
 closes_if_sent true s u rcode t = refl
 closes_if_sent false s u rcode t = refl
 
-closes_sent : (held : Held) (u : Transaction) (kind : Kind) (rcode : ℕ) (t : Terms) → (closes held u kind rcode t).sent ≡ t.sent
+pub closes_sent : (held : Held) (u : Transaction) (kind : Kind) (rcode : ℕ) (t : Terms) → (closes held u kind rcode t).sent ≡ t.sent
 closes_sent (waits kind s) u other rcode t = closes_if_sent _ s u rcode t
 closes_sent free u other rcode t = refl
 closes_sent rests u other rcode t = refl
 
-part_sent : (part : Part) (s : ℕ) (packet : Sending) (t : Terms) → (gets_as part s packet t).sent ≡ t.sent
+pub part_sent : (part : Part) (s : ℕ) (packet : Sending) (t : Terms) → (gets_as part s packet t).sent ≡ t.sent
 part_sent (request label kind) s packet t = judges_sent _ None s packet t
 part_sent (response label kind) s packet t = closes_sent _ _ kind _ t
 part_sent no_packet s packet t = refl
@@ -89,23 +78,11 @@ note_as _ = as_other (λ t. refl)
 
 -- ---- a packet that is sent
 
-begins_sent : (begun : Option Transaction) (s : ℕ) (packet : Sending) (t : Terms) → (begins begun s packet t).sent ≡ t.sent
+pub begins_sent : (begun : Option Transaction) (s : ℕ) (packet : Sending) (t : Terms) → (begins begun s packet t).sent ≡ t.sent
 begins_sent None s packet t = refl
 begins_sent (Some u) s packet t = refl
 
-gives_sent : (given : Option Transaction) (rcode : ℕ) (t : Terms) → (gives given rcode t).sent ≡ t.sent
-gives_sent None rcode t = refl
-gives_sent (Some u) rcode t = refl
-
-pays_sent : (owed : Option Owed) (sent : ℕ → Option Sending) (s : ℕ) (packet : Sending) (t : Terms) → (pays owed sent s packet t).sent ≡ t.sent
-pays_sent None sent s packet t = refl
-pays_sent (Some owed) sent s packet t = gives_sent _ _ t
-
-sends_sent : (s : ℕ) (packet : Sending) (t : Terms) → (sends s packet t).sent ≡ upd t.sent s (Some packet)
-sends_sent s packet t =
-    pays_sent t.owes t.sent s packet (begins (begun_by packet) s packet (puts (begun_by packet) s packet t)) ∙ begins_sent (begun_by packet) s packet (puts (begun_by packet) s packet t)
-
-opened_sent : (event : Event) (t : Terms) → (opened event t).sent ≡ t.sent
+pub opened_sent : (event : Event) (t : Terms) → (opened event t).sent ≡ t.sent
 opened_sent (events.Reset physical) t = refl
 opened_sent (events.Repeat s) t = refl
 opened_sent _ t = refl
@@ -130,7 +107,7 @@ module _ (t : Terms) (serial : ℕ) (q : Sending) (before : t.sent serial ≡ So
   note_block note (as_other same) f e = before (sym (ap (λ (g : ℕ → Option Sending). g serial) (same t)) ∙ e)
 
 pub block_sent : (ms : List Moment) → SentBlocks ms → (serial : ℕ) (q : Sending) → (terms ms).sent serial ≡ Some q → Claim q
-block_sent [] h serial q e = none_some q e
+block_sent [] h serial q e = none_is q e
 block_sent (asked line event ∷ ms) h serial q e = block_sent ms h serial q (sym (ap (λ (f : ℕ → Option Sending). f serial) (opened_sent event (terms ms))) ∙ e)
 block_sent (said note ∷ ms) h serial q e = note_block (terms ms) serial q (block_sent ms h.1 serial q) note (note_as note) h.0 e
 

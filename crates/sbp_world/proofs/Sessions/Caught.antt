@@ -6,6 +6,7 @@ use Rattle.std.specs.Prelude.{slice_index_or}
 use Rattle.std.proofs.lemmas.Bool.Decides.{nat_tests}
 use Rattle.std.proofs.lemmas.List.{get_or-set_other, set_past}
 use Rattle.std.proofs.lemmas.Grind.{get_or-set_at}
+use Rattle.std.proofs.lemmas.Bool.{false≢true}
 use Rattle.orb_layout.specs.declared.login.LoginResponse.{LoginResponse}
 use Rattle.orb_list.specs.Lists.{ListState}
 use Rattle.sbp_bus.specs.Generations.{GenerationsState, node_of, topology_at}
@@ -27,9 +28,6 @@ use Rattle.sbp_world.proofs.Wire.Nodes.{handed_alike}
 use Rattle.sbp_world.proofs.Sessions.Presents.{Fewer}
 use Rattle.sbp_world.proofs.Sessions.Sessions.{is_plain}
 
-no : false ≡ true → ⊥
-no e = cc
-
 -- ---- a node that has caught up
 abbrev pub up_by : GenerationsState → Option ℕ → Bool
 up_by g None = false
@@ -41,10 +39,10 @@ is_up g id = has_id (topology_at g 0) id && up_by g (node_of g 0 id)
 abbrev pub Up : GenerationsState → ℕ → Type 0
 Up g id = is_up g id ≡ true
 
-up_parts : (a b : Bool) → (a && b) ≡ true → (a ≡ true) × (b ≡ true)
+pub up_parts : (a b : Bool) → (a && b) ≡ true → (a ≡ true) × (b ≡ true)
 up_parts true true e = (refl, refl)
-up_parts true false e = absurd (no e)
-up_parts false b e = absurd (no e)
+up_parts true false e = absurd (false≢true e)
+up_parts false b e = absurd (false≢true e)
 
 pub up_known : (g : GenerationsState) (id : ℕ) → Up g id → has_id (topology_at g 0) id ≡ true
 up_known g id u = (up_parts (has_id (topology_at g 0) id) (up_by g (node_of g 0 id)) u).0
@@ -101,8 +99,8 @@ out_stays failed = refl
 
 entering_stays : (event : Event) → is_plain event ≡ true → is_in (from_entering event) ≡ false
 entering_stays sent p = refl
-entering_stays (entered response) p = absurd (no p)
-entering_stays good p = absurd (no p)
+entering_stays (entered response) p = absurd (false≢true p)
+entering_stays good p = absurd (false≢true p)
 entering_stays bad p = refl
 entering_stays conflict p = refl
 entering_stays pointing p = refl
@@ -123,8 +121,8 @@ held_stays failed response = refl
 
 returning_stays : (event : Event) (response : LoginResponse) → is_plain event ≡ true → is_in (from_returning event response) ≡ false
 returning_stays sent response p = refl
-returning_stays (entered other) response p = absurd (no p)
-returning_stays good response p = absurd (no p)
+returning_stays (entered other) response p = absurd (false≢true p)
+returning_stays good response p = absurd (false≢true p)
 returning_stays bad response p = refl
 returning_stays conflict response p = refl
 returning_stays pointing response p = refl
@@ -153,13 +151,13 @@ stuck_stays failed origin = refl
 
 plain_in : (Case : Type 0) (event : Event) (seat : Seat) → is_plain event ≡ true → (is_in seat ≡ true → Case) → is_in (goes event seat) ≡ true → Case
 unfolding goes
-plain_in Case event (seats.Out out) p h e = absurd (no (sym (out_stays event) ∙ e))
-plain_in Case event (seats.Entering entering) p h e = absurd (no (sym (entering_stays event p) ∙ e))
+plain_in Case event (seats.Out out) p h e = absurd (false≢true (sym (out_stays event) ∙ e))
+plain_in Case event (seats.Entering entering) p h e = absurd (false≢true (sym (entering_stays event p) ∙ e))
 plain_in Case event (seats.Live live) p h e = h refl
-plain_in Case event (seats.Held response) p h e = absurd (no (sym (held_stays event response) ∙ e))
-plain_in Case event (seats.Returning response) p h e = absurd (no (sym (returning_stays event response p) ∙ e))
+plain_in Case event (seats.Held response) p h e = absurd (false≢true (sym (held_stays event response) ∙ e))
+plain_in Case event (seats.Returning response) p h e = absurd (false≢true (sym (returning_stays event response p) ∙ e))
 plain_in Case event (seats.Leaving response) p h e = h refl
-plain_in Case event (seats.Stuck origin) p h e = absurd (no (sym (stuck_stays event origin) ∙ e))
+plain_in Case event (seats.Stuck origin) p h e = absurd (false≢true (sym (stuck_stays event origin) ∙ e))
 
 pub sits_plain : (Case : Type 0) (event : Event) (seat : Seat) (lists : ListState) → is_plain event ≡ true → Sits Case seat lists → Sits Case (goes event seat) lists
 sits_plain Case event seat lists p h = record { joined = plain_in Case event seat p h.joined; listed = h.listed }
@@ -176,7 +174,7 @@ reset_out (seats.Leaving response) = refl
 reset_out (seats.Stuck origin) = unstuck origin
 
 pub sits_cleared : (Case : Type 0) (seat : Seat) (lists : ListState) → is_some lists.slots.present ≡ false → Sits Case (goes reset seat) lists
-sits_cleared Case seat lists f = record { joined = λ e. absurd (no (sym (reset_out seat) ∙ e)); listed = λ e. absurd (no (sym f ∙ e)) }
+sits_cleared Case seat lists f = record { joined = λ e. absurd (false≢true (sym (reset_out seat) ∙ e)); listed = λ e. absurd (false≢true (sym f ∙ e)) }
 
 -- ---- a world
 abbrev pub Seen : GenerationsState → ℕ → Type 0
@@ -209,7 +207,7 @@ met_own w i state s m = record { up = m.up; sits = λ j. by j (nat_eq j i) refl 
         subst (λ xs. Sits (Seen w.generations j) (slice_index_or xs j (new_state 0 false)).seat (slice_index_or xs j (new_state 0 false)).lists) (sym (set_past w.initiators i state beyond)) (m.sits j)
     by j false e c l =
         subst (λ (x : InitiatorState). Sits (Seen w.generations j) x.seat x.lists)
-        (sym (get_or-set_other w.initiators i j state (new_state 0 false) (λ x. let y : nat_eq j i ≡ true = grind (arith, nat_tests) in no (sym e ∙ y)))) (m.sits j)
+        (sym (get_or-set_other w.initiators i j state (new_state 0 false) (λ x. let y : nat_eq j i ≡ true = grind (arith, nat_tests) in false≢true (sym e ∙ y)))) (m.sits j)
 
 -- the same, where the others are known to be so
 pub met_but : (w : WorldState) (i : ℕ) (state : InitiatorState) → i < length w.initiators → Holds (Up w.generations) w.target → Sits (Seen w.generations i) state.seat state.lists → ((j : ℕ) → nat_eq j i ≡ false → Sits (Seen w.generations j) (initiator_at w j).seat (initiator_at w j).lists) → Met (with_initiator i state w)
@@ -222,7 +220,7 @@ met_but w i state inside u s others = record { up = u; sits = λ j. by j (nat_eq
         (subst (λ k. Sits (Seen w.generations k) state.seat state.lists) (sym same) s)
     by j false e =
         subst (λ (x : InitiatorState). Sits (Seen w.generations j) x.seat x.lists)
-        (sym (get_or-set_other w.initiators i j state (new_state 0 false) (λ x. let y : nat_eq j i ≡ true = grind (arith, nat_tests) in no (sym e ∙ y)))) (others j e)
+        (sym (get_or-set_other w.initiators i j state (new_state 0 false) (λ x. let y : nat_eq j i ≡ true = grind (arith, nat_tests) in false≢true (sym e ∙ y)))) (others j e)
 
 -- it has a turn
 pub own_hands : (i weight : ℕ) (outbox : OutboxState) (state : InitiatorState) (w v : WorldState) → IsAlike (with_initiator i state w) v → Sits (Seen w.generations i) state.seat state.lists → Met w → Met (handed_out (suc i) weight outbox v)

@@ -1,14 +1,13 @@
 -- A target begins no packet with a tcode of 0 (IEEE 1394-1995, transaction codes): no request of it writes a quadlet, and a response has a tcode of its own. Where
 -- the tcode is another, what the packet writes is a block.
-use Rattle.std.proofs.Common.{arith, ◌≡◌, ◌∙◌, refl, ap, ℕ, ◌+◌, ◌*◌, ◌/◌, ◌%◌, ◌^◌, ◌<◌, nat_eq, Bool, true, false, cond, List, [], ◌∷◌, ◌++◌, Option, Some, None}
+use Rattle.std.proofs.Common.{arith, ◌≡◌, ◌∙◌, refl, ap, ℕ, ◌+◌, ◌*◌, ◌/◌, ◌%◌, ◌^◌, ◌<◌, nat_eq, Bool, true, false, cond, List, ◌++◌, Option, Some, None}
 use Rattle.async_packet.specs.declared.fault.PacketFault.{PacketFault}
 use Rattle.async_packet.specs.Canon.{canon, four, three}
 use Rattle.async_packet.specs.Fields.{tcode_of}
 use Rattle.async_packet.specs.Faults.{fault_of}
 use Rattle.async_packet.specs.Packet.{Packet, lock, lock_response, read_block, read_block_response, read_quadlet, read_quadlet_response, write_block, write_quadlet, write_response}
 use Rattle.async_packet.specs.Reading.{packet_in, reading, unless_fault}
-use Rattle.byteorder.specs.Endian.{big_bytes, big_number}
-use Rattle.byteorder.specs.Numbers.{big_from-bytes}
+use Rattle.byteorder.specs.Endian.{big_bytes}
 use Rattle.label_table.specs.declared.judgement.Asked.{Asked}
 use Rattle.label_table.specs.Bodies.{Body, block_read, block_write, header_to, quadlet_read, quadlet_write, request_with, response_to}
 use Rattle.label_table.specs.Layer.{Layer, answering_step, asked_at, asking_in, asking_step, peer_at, peer_place, unlabelled}
@@ -22,6 +21,7 @@ use Rattle.sbp_target.specs.declared.purpose.Purpose.{Purpose}
 use Rattle.sbp_target.specs.Agents.{agent_body}
 use Rattle.sbp_target.specs.Management.{manager_body}
 use Rattle.sbp_world.specs.Sessions.Blocks.{IsBlockWrite}
+use Rattle.sbp_world.proofs.Hosts.Mild.{quad_tcode, tcode_same}
 
 abbrev pub HasCode : List ℕ → Type 0
 HasCode bytes = nat_eq (tcode_of bytes) 0 ≡ false
@@ -31,15 +31,8 @@ HasCode bytes = nat_eq (tcode_of bytes) 0 ≡ false
 pub first_code : (peer label tcode : ℕ) → tcode < 16 → (peer * 2 ^ 16 + label * 2 ^ 10 + 1 * 2 ^ 8 + tcode * 2 ^ 4 + 0) % 256 ^ 4 / 2 ^ 4 % 2 ^ 4 ≡ tcode
 first_code peer label tcode small = omega arith
 
-quad_code : (peer label tcode : ℕ) (bytes rest : List ℕ) → tcode < 16 → bytes ≡ big_bytes 4 (peer * 2 ^ 16 + label * 2 ^ 10 + 1 * 2 ^ 8 + tcode * 2 ^ 4 + 0) ++ rest → tcode_of bytes ≡ tcode
-unfolding tcode_of
-quad_code peer label tcode bytes rest small e =
-    ap (λ xs. big_number 4 xs / 2 ^ 4 % 2 ^ 4) e
-    ∙ ap (λ n. n / 2 ^ 4 % 2 ^ 4) (big_from-bytes 4 (peer * 2 ^ 16 + label * 2 ^ 10 + 1 * 2 ^ 8 + tcode * 2 ^ 4 + 0) rest)
-    ∙ first_code peer label tcode small
-
 coded : (peer label tcode : ℕ) (bytes rest : List ℕ) → tcode < 16 → nat_eq tcode 0 ≡ false → bytes ≡ big_bytes 4 (peer * 2 ^ 16 + label * 2 ^ 10 + 1 * 2 ^ 8 + tcode * 2 ^ 4 + 0) ++ rest → HasCode bytes
-coded peer label tcode bytes rest small apart e = ap (λ n. nat_eq n 0) (quad_code peer label tcode bytes rest small e) ∙ apart
+coded peer label tcode bytes rest small apart e = ap (λ n. nat_eq n 0) (quad_tcode peer label tcode bytes rest small e) ∙ apart
 
 -- ---- a response
 
@@ -69,16 +62,8 @@ abbrev pub IfCode : Option Asked → Type 0
 IfCode None = Unit {0}
 IfCode (Some asked) = HasCode asked.bytes
 
--- a label changes no tcode
-label_code : (number : ℕ) (bytes : List ℕ) → tcode_of (with_label number bytes) ≡ tcode_of bytes
-unfolding with_label tcode_of
-label_code number [] = refl
-label_code number (x ∷ []) = refl
-label_code number (x ∷ y ∷ []) = refl
-label_code number (x ∷ y ∷ z ∷ bytes) = omega arith
-
 label_codes : (number : ℕ) (plain : List ℕ) → HasCode plain → HasCode (with_label number plain)
-label_codes number plain h = ap (λ n. nat_eq n 0) (label_code number plain) ∙ h
+label_codes number plain h = ap (λ n. nat_eq n 0) (tcode_same number plain) ∙ h
 
 found_codes : (layer : Layer Purpose) (k peer : ℕ) (plain : List ℕ) (purpose : Purpose) (number : Option ℕ) → HasCode plain → IfCode (asked_at k layer (begun_for (peer_at layer k) peer purpose (begin_at number (peer_at layer k).table plain))).0
 found_codes layer k peer plain purpose None h = tt

@@ -4,6 +4,7 @@ use Rattle.std.specs.Prelude.{take}
 use Rattle.std.proofs.lemmas.Bool.Decides.{nat_tests}
 use Rattle.std.proofs.lemmas.Grind.{get_or-set_at}
 use Rattle.std.proofs.lemmas.List.{get_or-set_other}
+use Rattle.std.proofs.lemmas.Bool.{false≢true}
 use Rattle.login_table.specs.declared.login.Login.{Login}
 use Rattle.login_table.specs.Sound.{IsTable}
 use Rattle.login_table.specs.Table.{Table, entered, find, is_live, is_live_of, leave_at, leave_step, place_at}
@@ -34,19 +35,14 @@ use Rattle.sbp_base.specs.Quadlets.{quad}
 use Rattle.sbp_laws.specs.Targets.{Decided, bytes_in, decided_by, decided_in}
 use Rattle.sbp_world.specs.Sessions.Standing.{AreSame}
 use Rattle.sbp_world.specs.Sessions.Writing.{HasResponse, HasStatus, IsBack, IsDecidedBy, IsDone, IsEntered, IsGone, Responds, Writes, WritesOn, is_written}
-
-no : false ≡ true → ⊥
-no e = cc
-
-untrue : {A : Type 0} → false ≡ true → A
-untrue e = absurd (no e)
+use Rattle.sbp_world.proofs.Common.{untrue, none_is}
 
 -- ---- what was done stays so while the logins of its node stand
 
 pub of_id : (id node : ℕ) (login : Login) → is_live_of id node login ≡ true → login.login ≡ id
 of_id id node login p = grind (arith, nat_tests)
 
-of_node : (id node : ℕ) (login : Login) → is_live_of id node login ≡ true → login.node ≡ node
+pub of_node : (id node : ℕ) (login : Login) → is_live_of id node login ≡ true → login.node ≡ node
 of_node id node login p = grind (arith, nat_tests)
 
 of_live : (id node : ℕ) (login : Login) → is_live_of id node login ≡ true → is_live login ≡ true
@@ -108,12 +104,6 @@ not_unknown e = absurd (differ e)
     differ : statuses.LoginId ≡ statuses.NoFault → ⊥
     differ e = cc
 
-none_some : {A : Type 0} (login : Login) → None ≡ Some login → A
-none_some login e = absurd (differ e)
-  where
-    differ : None ≡ Some login → ⊥
-    differ e = cc
-
 pub take_none : (n : ℕ) → length (take {A = ℕ} n []) ≡ 0
 take_none zero = refl
 take_none (suc n) = refl
@@ -135,10 +125,10 @@ module _ (orb : ManagementOrb) (source eui : ℕ) (t : Table) (keys : List (List
       by true q true l =
           let g = found (is_live_of orb.subject source) t.places k e in
           let same : place ≡ k = grind (arith, nat_tests) in
-          none_some login (sym (get_or-set_at t.places k place None None same g.below) ∙ f)
+          none_is login (sym (get_or-set_at t.places k place None None same g.below) ∙ f)
       by false q true l =
           let g = found (is_live_of orb.subject source) t.places k e in
-          let apart : place ≢ k = λ same. (let yes : nat_eq place k ≡ true = grind (arith, nat_tests) in no (sym q ∙ yes)) in
+          let apart : place ≢ k = λ same. (let yes : nat_eq place k ≡ true = grind (arith, nat_tests) in false≢true (sym q ∙ yes)) in
           let was : place_at t.places place ≡ Some login = sym (get_or-set_other t.places k place None None apart) ∙ f in
           absurd ((sound.sound.apart place k login g.login apart was g.stands).ids (of_id orb.subject source login l ∙ sym (of_id orb.subject source g.login g.passes)))
 

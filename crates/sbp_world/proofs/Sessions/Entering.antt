@@ -1,6 +1,7 @@
 -- A session becomes live by a status block of its target alone.
 use Rattle.std.proofs.Common.{arith, ◌≡◌, ◌∙◌, refl, sym, ap, subst, ◌⊎◌, inl, inr, ℕ, ◌==◌, ◌&&◌, Bool, true, false, cond, List, [], Option, Some, None, Result, Ok, Err}
 use Rattle.std.proofs.lemmas.Bool.Decides.{nat_tests}
+use Rattle.std.proofs.lemmas.Bool.{false≢true}
 use Rattle.async_packet.specs.declared.packet.Header.{Header}
 use Rattle.async_packet.specs.Packet.{Packet, lock, lock_response, read_block, read_block_response, read_quadlet, read_quadlet_response, write_block, write_quadlet, write_response}
 use Rattle.sbp_world.proofs.Hosts.Carried.{between_runs, of_runs}
@@ -42,18 +43,7 @@ use Rattle.sbp_session.specs.Moves.{Event, bad, conflict, entered, failed, from_
 use Rattle.sbp_world.specs.Sessions.Entering.{EnteringLaw, IsAdmitted, IsGranted, SessionsEnter, joined_with, is_open}
 use Rattle.sbp_world.proofs.Sessions.Presents.{Fewer, take_fewer}
 use Rattle.sbp_world.proofs.Sessions.Sessions.{acts as session_acts, drop_seat, expires as session_expires, is_plain, own_write, ends_for as session_ends, quadlets_at as session_quadlets, responds as session_responds, sees as session_sees, serves as session_serves, takes_as as session_takes}
-
-no : false ≡ true → ⊥
-no e = cc
-
-untrue : {A : Type 0} → false ≡ true → A
-untrue e = absurd (no e)
-
-none_is : {A : Type 0} (response : LoginResponse) → None ≡ Some response → A
-none_is response e = absurd (differ e)
-  where
-    differ : None ≡ Some response → ⊥
-    differ e = cc
+use Rattle.sbp_world.proofs.Common.{untrue, none_is}
 
 -- ---- the moves that end nothing with status 00
 

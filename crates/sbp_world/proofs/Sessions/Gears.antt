@@ -24,6 +24,7 @@ use Rattle.sbp_laws.specs.Hosts as hosts
 use Rattle.sbp_laws.specs.Lists.{present_list}
 use Rattle.sbp_laws.specs.Packets.{access_at, access_in, answer_in, answered_at, packet_at, packet_in, receiver_in}
 use Rattle.sbp_laws.specs.Turns.{event_of}
+use Rattle.sbp_world.proofs.Common.{untrue}
 
 -- the login that a host has, and its response buffers
 pub record Gear : Type 0 where
@@ -35,9 +36,6 @@ gear_of host = record { login = host.login; responses = host.responses }
 
 abbrev pub gear_at : List Moment → ℕ → Gear
 gear_at past i = gear_of (host_at past i)
-
-untrue : {A : Type 0} → false ≡ true → A
-untrue e = absurd (let no : false ≡ true = e in cc)
 
 pub gear_if : (b : Bool) (x y : Host) → gear_of x ≡ gear_of y → gear_of (cond b x y) ≡ gear_of y
 gear_if true x y e = e

@@ -57,9 +57,7 @@ use Rattle.sbp_world.specs.Sessions.Handed.{GoesTo, HandedLaw, IsHanded, IsOrbOf
 use Rattle.sbp_world.specs.Sessions.Writing.{Writes, is_written}
 use Rattle.sbp_world.proofs.Sessions.Decisions.{bytes_are, none_goes}
 use Rattle.sbp_world.proofs.Sessions.Writing.{behind}
-
-untrue : {A : Type 0} → false ≡ true → A
-untrue e = absurd (let no : false ≡ true = e in cc)
+use Rattle.sbp_world.proofs.Common.{untrue}
 
 -- ---- what a step asks for then
 

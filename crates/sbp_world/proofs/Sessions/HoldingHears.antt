@@ -71,7 +71,7 @@ use Rattle.sbp_world.proofs.Agents.Management.Hearing.{answers_none}
 
 -- ---- the place of a login is the same one
 
-same_login : (underway : Underway) (place : Option ℕ) → work_of (Some underway) ≡ Some (record { operation = operations.Login; place = place }) → Some underway.place ≡ place
+pub same_login : (underway : Underway) (place : Option ℕ) → work_of (Some underway) ≡ Some (record { operation = operations.Login; place = place }) → Some underway.place ≡ place
 same_login underway place e =
     let operation : underway.operation ≡ operations.Login = ap (λ (x : Option Work). operation_or underway.operation x) e in
     let own : cond (is_management underway.operation) (Some underway.place) None ≡ place = ap place_or e in

@@ -4,6 +4,7 @@ use Rattle.std.proofs.lemmas.Bool.Decides.{nat_tests}
 use Rattle.std.proofs.lemmas.List.{get_or-replicate}
 use Rattle.std.proofs.lemmas.List.{get_or-set_other}
 use Rattle.std.proofs.lemmas.Grind.{get_or-set_at}
+use Rattle.std.proofs.lemmas.Bool.{not-false}
 use Rattle.async_packet.specs.Labels.{LabelParts}
 use Rattle.bus_memory.specs.declared.slot.PlaceMemory.{PlaceMemory}
 use Rattle.bus_memory.specs.Laws.{IsWhole}
@@ -72,12 +73,7 @@ use Rattle.sbp_world.proofs.Sessions.Holding.{Leaves, Own, leaves_mild, mild_sel
 use Rattle.sbp_world.proofs.Sessions.HoldingHears.{hears_own}
 use Rattle.sbp_world.proofs.Sessions.Mild.{Mild, carries_old, expires_mild, sees_mild, still, tells}
 use Rattle.sbp_world.proofs.Sessions.Places.{Stand, dummy_places, high_places, low_places, pin_places, put_places}
-
-untrue : {A : Type 0} → false ≡ true → A
-untrue e = absurd (let no : false ≡ true = e in cc)
-
-none_is : {A : Type 0} (response : LoginResponse) → None ≡ Some response → A
-none_is response e = absurd (let no : None ≡ Some response = e in cc)
+use Rattle.sbp_world.proofs.Common.{untrue, none_is}
 
 -- ---- the steps of a list
 
@@ -180,10 +176,6 @@ module _ (Case : Type 0) (past : List Moment) (i : ℕ) (s : InitiatorState) (wh
     others = λ j f. refl;
   }
 
-  not_not : (b : Bool) → not b ≡ false → b ≡ true
-  not_not true e = refl
-  not_not false e = untrue (sym e)
-
   -- a login is sent by a session that is out
   enters : (seat : Seat) → is_in_out (session_of seat) ≡ true → carried (goes sent seat) ≡ None
   unfolding goes
@@ -220,7 +212,7 @@ module _ (Case : Type 0) (past : List Moment) (i : ℕ) (s : InitiatorState) (wh
   does actions.State g = mild_at _ (still s (empty_outbox, s) empty_outbox _ refl (λ response e. e) refl refl (λ running e. e) (mild_self s))
   does actions.Enable g = begun_at operations.Enable _ refl refl s.counts.acts None refl (λ e. (let no : operations.Enable ≡ operations.Login = e in cc))
   does (actions.Login unit reconnect exclusive password) g =
-      managed_at (login_orb s unit reconnect exclusive password) operations.Login _ sends_seat refl refl (λ e. enters s.seat (not_not (is_in_out (session_of s.seat)) g.rows.wrong_state))
+      managed_at (login_orb s unit reconnect exclusive password) operations.Login _ sends_seat refl refl (λ e. enters s.seat (not-false (is_in_out (session_of s.seat)) g.rows.wrong_state))
   does (actions.Query unit) g = managed_at (orb_by (actions.Query unit) s) operations.Query _ keeps_seat refl refl (λ e. absurd (let no : operations.Query ≡ operations.Login = e in cc))
   does actions.Reconnect g = managed_at (orb_by actions.Reconnect s) operations.Reconnect _ sends_seat refl refl (λ e. absurd (let no : operations.Reconnect ≡ operations.Login = e in cc))
   does actions.Logout g = managed_at (orb_by actions.Logout s) operations.Logout _ sends_seat refl refl (λ e. absurd (let no : operations.Logout ≡ operations.Login = e in cc))

@@ -1,6 +1,7 @@
 -- After each line of a world, and behind each delivery of one, the target knows caught up nodes alone, and live sessions are of generations that it has seen.
-use Rattle.std.proofs.Common.{arith, ◌≡◌, ◌∙◌, refl, sym, ap, subst, ℕ, zero, suc, ◌+◌, ◌-◌, ◌<◌, ◌≤◌, nat_eq, nat_lt, Bool, true, false, cond, List, [], ◌∷◌, length, Option, Some, None, not}
+use Rattle.std.proofs.Common.{arith, ◌≡◌, ◌∙◌, refl, sym, ap, subst, ℕ, zero, suc, ◌+◌, ◌-◌, ◌<◌, ◌≤◌, nat_eq, nat_lt, Bool, true, false, cond, List, [], ◌∷◌, length, Option, Some, None}
 use Rattle.std.specs.Prelude.{if◌then◌else◌, slice_index_or, slice_set}
+use Rattle.std.proofs.lemmas.Bool.{not-false}
 use Rattle.packet_store.specs.declared.sent.Sent.{Sent}
 use Rattle.packet_store.specs.Kept.{found_sent}
 use Rattle.rbc_disk.specs.Disk.{Disk}
@@ -8,10 +9,9 @@ use Rattle.rbc_disk.specs.Runs.{Told}
 use Rattle.sbp_bus.specs.declared.requests.Request.{Request}
 use Rattle.sbp_bus.specs.Packets.{end_note, judged_note, no_node, no_packet}
 use Rattle.sbp_bus.specs.Requests.{find}
-use Rattle.sbp_world.proofs.Hosts.Acts.{Goes, goes_on}
+use Rattle.sbp_world.proofs.Hosts.Acts.{goes_on}
 use Rattle.sbp_initiator.specs.Acting.{act_step}
-use Rattle.sbp_initiator.specs.declared.state.InitiatorState.{InitiatorState}
-use Rattle.sbp_initiator.specs.Refusals.{is_in_live, prepares}
+use Rattle.sbp_initiator.specs.Refusals.{is_in_live}
 use Rattle.sbp_initiator.specs.States.{session_of}
 use Rattle.sbp_session.specs.declared.seat.Seat.{Seat}
 use Rattle.sbp_session.specs.declared.seat.Seat.TheVariants as seats
@@ -47,6 +47,8 @@ use Rattle.sbp_world.proofs.Agents.Management.Lines.{all_heard, opens}
 use Rattle.sbp_world.proofs.Sessions.Caught.{Met, Seen, Sits, met_own, is_in, own_hands, sits_any, sits_plain, sits_relist}
 use Rattle.sbp_world.proofs.Sessions.Sessions.{acts as session_acts, expires as session_expires}
 use Rattle.sbp_world.proofs.Sessions.Turns.{delivery_met, key_met, lapse_met, own_delivery_met, own_sight_met, sight_met, tick_met}
+use Rattle.sbp_world.proofs.Common.{untrue}
+use Rattle.sbp_world.proofs.Lists.Joins.{prepared}
 
 copied : (w : WorldState) (line number : ℕ) → Met w → Met (refused line number w)
 copied w line number m = record { up = m.up; sits = m.sits }
@@ -64,33 +66,6 @@ in_by (seats.Held response) e = e
 in_by (seats.Returning response) e = e
 in_by (seats.Leaving response) e = refl
 in_by (seats.Stuck origin) e = e
-
-not_not : (b : Bool) → not b ≡ false → b ≡ true
-not_not true e = refl
-not_not false e = absurd (let x : true ≡ false = e in cc)
-
-unprepared : {A : Type 0} → false ≡ true → A
-unprepared e = absurd (let x : false ≡ true = e in cc)
-
-prepared : (action : Action) (s : InitiatorState) → prepares action ≡ true → Goes action s → is_in_live (session_of s.seat) ≡ true
-prepared (actions.Put cmd) s p g = not_not (is_in_live (session_of s.seat)) g.rows.wrong_state
-prepared (actions.Append cmd) s p g = not_not (is_in_live (session_of s.seat)) g.rows.wrong_state
-prepared actions.Low s p g = unprepared p
-prepared actions.Link s p g = unprepared p
-prepared actions.Ring s p g = unprepared p
-prepared (actions.Dummy orb) s p g = unprepared p
-prepared actions.Rom s p g = unprepared p
-prepared actions.AgentReset s p g = unprepared p
-prepared actions.State s p g = unprepared p
-prepared actions.Enable s p g = unprepared p
-prepared (actions.Login unit reconnect exclusive password) s p g = unprepared p
-prepared (actions.Query unit) s p g = unprepared p
-prepared actions.Reconnect s p g = unprepared p
-prepared actions.Logout s p g = unprepared p
-prepared (actions.Abort orb) s p g = unprepared p
-prepared actions.AbortSet s p g = unprepared p
-prepared actions.UnitReset s p g = unprepared p
-prepared actions.TargetReset s p g = unprepared p
 
 module _ (units ready : ℕ) (has : 0 < units) (start : List Disk) where
   -- ---- an initiator acts

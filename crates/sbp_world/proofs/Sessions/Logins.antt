@@ -5,6 +5,7 @@ use Rattle.std.proofs.lemmas.Bool.Decides.{nat_tests}
 use Rattle.std.proofs.lemmas.Grind.{get_or-set_at}
 use Rattle.std.proofs.lemmas.List.{get_or-set_other}
 use Rattle.std.proofs.lemmas.List.Quantifiers.{position-Some}
+use Rattle.std.proofs.lemmas.Bool.{false≢true}
 use Rattle.sbp_base.specs.Quadlets.{quad}
 use Rattle.login_table.specs.declared.login.Entered.{Entered}
 use Rattle.login_table.specs.declared.login.Login.{Login}
@@ -31,31 +32,15 @@ use Rattle.mgmt_agent.specs.Machine.{Machine, beside, decide_step, decided_as, e
 use Rattle.mgmt_agent.specs.Statuses.{function_of}
 use Rattle.sbp_world.proofs.Agents.Hiring.{not_old}
 use Rattle.sbp_world.specs.Sessions.Standing.{AreSame}
-
-no : false ≡ true → ⊥
-no e = cc
-
-none_some : {A : Type 0} (login : Login) → None ≡ Some login → A
-none_some login e = absurd (differ e)
-  where
-    differ : None ≡ Some login → ⊥
-    differ e = cc
+use Rattle.sbp_world.proofs.Common.{none_is}
+use Rattle.sbp_world.proofs.Sessions.Decisions.{of_node}
 
 not_held : (id : ℕ) (login : Login) → is_held id login ≡ true → is_live login ≡ false
 not_held id login e = by (is_live login) (login.login == id) e
   where
     by : (a b : Bool) → (not a && b) ≡ true → a ≡ false
-    by true b e = absurd (no e)
+    by true b e = absurd (false≢true e)
     by false b e = refl
-
-of_node : (id node : ℕ) (login : Login) → is_live_of id node login ≡ true → login.node ≡ node
-of_node id node login e = by (is_live login) (nat_eq login.login id) (nat_eq login.node node) refl e
-  where
-    by : (a b c : Bool) → nat_eq login.node node ≡ c → (a && b && c) ≡ true → login.node ≡ node
-    by true true true f e = grind (arith, nat_tests)
-    by true true false f e = absurd (no e)
-    by true false c f e = absurd (no e)
-    by false b c f e = absurd (no e)
 
 module _ (id : ℕ) where
   pub same : (places : List (Option Login)) → AreSame id places places
@@ -72,7 +57,7 @@ module _ (id : ℕ) where
   set_same places k x l was now = record { keeps = λ p login e live n. keeps_by p login e live n (nat_eq p k) refl; brings = λ p login e live n. brings_by p login e live n (nat_eq p k) refl }
     where
       apart : (p : ℕ) → nat_eq p k ≡ false → p ≢ k
-      apart p q same = let yes : nat_eq p k ≡ true = grind (arith, nat_tests) in no (sym q ∙ yes)
+      apart p q same = let yes : nat_eq p k ≡ true = grind (arith, nat_tests) in false≢true (sym q ∙ yes)
 
       keeps_by : (p : ℕ) (login : Login) → place_at places p ≡ Some login → is_live login ≡ true → login.node ≡ id → (b : Bool) → nat_eq p k ≡ b → place_at (set places k x) p ≡ Some login
       keeps_by p login e live n true q = let same : p ≡ k = grind (arith, nat_tests) in absurd (was login (sym (ap (place_at places) same) ∙ e) live n)
@@ -86,10 +71,10 @@ module _ (id : ℕ) where
   not_live x own e old login f live n =
       let same : Some own ≡ Some login = sym e ∙ f in
       let own_is : own ≡ login = cc in
-      no (sym (sym (ap is_live own_is) ∙ old) ∙ live)
+      false≢true (sym (sym (ap is_live own_is) ∙ old) ∙ live)
 
   none_foreign : Foreign None
-  none_foreign login e live n = none_some login e
+  none_foreign login e live n = none_is login e
 
   -- ---- the calls of the table
   without_same : (k : Option ℕ) (asked : LoginRequest) (places : List (Option Login)) → find (is_old asked) places ≡ k → AreSame id places (table.without k places)
@@ -121,7 +106,7 @@ module _ (id : ℕ) where
 
     empty : (x : Option Login) → is_none x ≡ true → Foreign x
     empty None e = none_foreign
-    empty (Some own) e = absurd (no e)
+    empty (Some own) e = absurd (false≢true e)
 
     enters : (place : Option ℕ) (k : Option ℕ) → (let asked = asked_by orb source eui in find (is_old asked) t.places ≡ k → position is_none (table.without k t.places) ≡ place → AsLogin (table.enter_at place t (table.without k t.places) (id_at k t.places) asked))
     enters None k e f = same t.places

@@ -49,12 +49,9 @@ use Rattle.sbp_session.specs.declared.seat.Seat.{Seat}
 use Rattle.sbp_session.specs.declared.seat.Seat.TheVariants as seats
 use Rattle.sbp_world.proofs.Sessions.Gears.{gear_at, is_mild, mild_gear}
 use Rattle.sbp_world.proofs.Sessions.Places.{Stand, drop_places, free_places, unpin_places}
-
-untrue : {A : Type 0} → false ≡ true → A
-untrue e = absurd (let no : false ≡ true = e in cc)
-
-none_is : {A : Type 0} (response : LoginResponse) → None ≡ Some response → A
-none_is response e = absurd (let no : None ≡ Some response = e in cc)
+use Rattle.sbp_world.proofs.Common.{untrue, none_is}
+use Rattle.sbp_world.proofs.Lists.LiveMoves.{drop_operation}
+use Rattle.sbp_world.proofs.Pointers.BaseWalks.{dropped_number}
 
 -- ---- a move that ends no login carries no other response
 
@@ -252,14 +249,6 @@ module _ (s : InitiatorState) where
       let v = record u { seat = goes pointed u.seat } in
       let p = moves_on pointed o u refl h in
       pick_state (is_list u.lists.slots.present list) o (with_answered v) v (still (o, v) o (with_answered v) refl (λ response e. e) refl refl (λ running e. e) p) p
-
-  drop_operation : (r : Option ℕ × ListState) (o : OutboxState) (u : InitiatorState) → (dropped_as r o u).1.operation ≡ u.operation
-  drop_operation (None, lists) o u = refl
-  drop_operation (Some n, lists) o u = refl
-
-  drop_number : (r : Option ℕ × ListState) (o : OutboxState) (u : InitiatorState) → (dropped_as r o u).1.number ≡ u.number
-  drop_number (None, lists) o u = refl
-  drop_number (Some n, lists) o u = refl
 
   resets : (act : ℕ) (o : OutboxState) (u : InitiatorState) → IsFor operations.AgentReset act u.operation → M (o, u) → M (end_own_step act words.Done (drop_list_step o u).0 (drop_list_step o u).1)
   resets act o u f h =

@@ -1,6 +1,5 @@
 -- An operation with a management ORB is asked for with the address of the place in which its ORB stands then.
-use Rattle.std.proofs.Common.{arith, ◌≡◌, ◌∙◌, refl, sym, ap, subst, ℕ, ◌==◌, is_some, Bool, true, false, cond, List, [], ◌∷◌, ◌++◌, Option, Some, None}
-use Rattle.std.proofs.lemmas.Bool.Decides.{nat_tests}
+use Rattle.std.proofs.Common.{◌≡◌, ◌∙◌, refl, sym, ap, subst, ℕ, is_some, Bool, true, cond, List, [], ◌∷◌, ◌++◌, Option, Some, None}
 use Rattle.sbp_world.specs.Hosts.Calling.{IsCalled}
 use Rattle.sbp_world.proofs.Hosts.Calling.{calls_law}
 use Rattle.sbp_initiator.specs.Histories.Served.{held_after, with_orb}
@@ -21,9 +20,7 @@ use Rattle.sbp_journal.specs.declared.outbox.Outgoing.{Outgoing}
 use Rattle.sbp_journal.specs.Outgoings.{OutboxState, empty_outbox}
 use Rattle.sbp_world.specs.Sessions.Asking.{AskingLaw, AsksFor}
 use Rattle.sbp_world.proofs.Sessions.PlaceRuns.{acts_held}
-
-untrue : {A : Type 0} → false ≡ true → A
-untrue e = absurd (let no : false ≡ true = e in cc)
+use Rattle.sbp_world.proofs.Common.{untrue, same_number}
 
 -- an action with a management ORB: that of its line, by one write, and it tells nothing
 record Manages (action : Action) (s : InitiatorState) : Type 0 where
@@ -76,9 +73,6 @@ module _ (action : Action) (s : InitiatorState) (m : Manages action s) where
   unfolding act_step
   act_leaves e = judged_leaves (refusal action (facts_with true s action)) e
 
-itself : (n : ℕ) → (n == n) ≡ true
-itself n = grind (arith, nat_tests)
-
 asks_for : (ready : Bool) (i : ℕ) (action : Action) (s : InitiatorState) → IsCalled ready i s → IsAction action → is_some (orb_in (operation_of action) action s) ≡ true → (act_step action empty_outbox s).0 ≡ None → AsksFor action s (act_step action empty_outbox s).1
 asks_for ready i action s called fit has done =
     let m = manages action s has in
@@ -91,7 +85,7 @@ asks_for ready i action s called fit has done =
       orb =
           acts_held ready i s called action fit done place
           ∙ ap (λ (o : Option ManagementOrb). with_orb o place (held_after i ready called.calls) place) m.orb
-          ∙ ap (λ b. cond b (management_bytes (orb_by action s)) (held_after i ready called.calls place)) (itself place);
+          ∙ ap (λ b. cond b (management_bytes (orb_by action s)) (held_after i ready called.calls place)) (same_number place);
     }
 
 pub asking_law : AskingLaw

@@ -1,6 +1,7 @@
 -- What the notes of a history leave of the management ORBs in an initiator's places, and what its own request brings there: the ORB of its action.
 use Rattle.std.proofs.Common.{arith, ◌≡◌, ◌∙◌, refl, sym, ap, ℕ, zero, suc, ◌%◌, ◌<◌, ◌==◌, ◌&&◌, not, is_some, Bool, true, false, cond, List, [], ◌∷◌, length, Option, Some, None}
 use Rattle.std.proofs.lemmas.Bool.Decides.{nat_tests}
+use Rattle.std.proofs.lemmas.Bool.{not-false}
 use Rattle.bus_memory.specs.declared.window.Window.TheVariants as windows
 use Rattle.bus_memory.specs.Windows.{start}
 use Rattle.sbp_world.specs.Hosts.Calls.{behind}
@@ -47,9 +48,7 @@ use Rattle.sbp_session.specs.Laws.{carried}
 use Rattle.sbp_session.specs.Seats.{response_in}
 use Rattle.sbp_session.specs.declared.seat.Seat.{Seat}
 use Rattle.sbp_session.specs.declared.seat.Seat.TheVariants as seats
-
-untrue : {A : Type 0} → false ≡ true → A
-untrue e = absurd (let no : false ≡ true = e in cc)
+use Rattle.sbp_world.proofs.Common.{untrue, same_number}
 
 -- ---- notes
 
@@ -106,11 +105,8 @@ apart_places _ past i m e = refl
 
 -- ---- its own request
 
-itself : (i : ℕ) → (i == i) ≡ true
-itself i = grind (arith, nat_tests)
-
 own_is : (i : ℕ) (operation : Operation) → is_own i i (Some operation) ≡ is_management operation
-own_is i operation = ap (λ b. b && is_management operation) (itself i)
+own_is i operation = ap (λ b. b && is_management operation) (same_number i)
 
 -- what an action writes there, by the terms
 module _ (action : Action) (past : List Moment) (i m : ℕ) (before : Option ManagementOrb) where
@@ -146,10 +142,6 @@ held_carried (seats.Entering entering) e = untrue e
 held_carried (seats.Returning response) e = untrue e
 held_carried (seats.Leaving response) e = untrue e
 held_carried (seats.Stuck origin) e = untrue e
-
-not_not : (b : Bool) → not b ≡ false → b ≡ true
-not_not true e = refl
-not_not false e = untrue (sym e)
 
 module _ (past : List Moment) (i : ℕ) (s : InitiatorState) (h : Hosted past i s) where
   abbrev place : ℕ
@@ -205,8 +197,8 @@ module _ (past : List Moment) (i : ℕ) (s : InitiatorState) (h : Hosted past i 
 
   abort_is : (k : ℕ) → Goes (actions.Abort k) s → IsOrb (actions.Abort k)
   abort_is k g =
-      let live = live_login (not_not _ g.rows.wrong_state) in
-      let address = found_address k (find_in s.lists.slots.slots k) refl (not_not _ g.rows.no_orb) in
+      let live = live_login (not-false _ g.rows.wrong_state) in
+      let address = found_address k (find_in s.lists.slots.slots k) refl (not-false _ g.rows.no_orb) in
       ap (λ n. record (orb_for s 0xb (response_in s.seat).login) { first = n }) address
       ∙ ap (λ (orb : ManagementOrb). record orb { first = orb_address past i k (present_list past i) }) (subject_is 0xb live)
 
@@ -246,17 +238,17 @@ acted_places actions.Enable past i s h m before held e g = stays actions.Enable 
 acted_places (actions.Login unit reconnect exclusive password) past i s h m before held e g =
     turns (actions.Login unit reconnect exclusive password) past i s h m before held e refl (own_is i operations.Login) (login_is past i s h unit reconnect exclusive password)
 acted_places (actions.Query unit) past i s h m before held e g = turns (actions.Query unit) past i s h m before held e refl (own_is i operations.Query) refl
-acted_places actions.Reconnect past i s h m before held e g = turns actions.Reconnect past i s h m before held e refl (own_is i operations.Reconnect) (subject_is past i s h 0x3 (held_login past i s h (not_not _ g.rows.wrong_state)))
-acted_places actions.Logout past i s h m before held e g = turns actions.Logout past i s h m before held e refl (own_is i operations.Logout) (subject_is past i s h 0x7 (live_login past i s h (not_not _ g.rows.wrong_state)))
+acted_places actions.Reconnect past i s h m before held e g = turns actions.Reconnect past i s h m before held e refl (own_is i operations.Reconnect) (subject_is past i s h 0x3 (held_login past i s h (not-false _ g.rows.wrong_state)))
+acted_places actions.Logout past i s h m before held e g = turns actions.Logout past i s h m before held e refl (own_is i operations.Logout) (subject_is past i s h 0x7 (live_login past i s h (not-false _ g.rows.wrong_state)))
 acted_places (actions.Abort k) past i s h m before held e g = turns (actions.Abort k) past i s h m before held e refl (own_is i operations.Abort) (abort_is past i s h k g)
-acted_places actions.AbortSet past i s h m before held e g = turns actions.AbortSet past i s h m before held e refl (own_is i operations.AbortSet) (subject_is past i s h 0xc (live_login past i s h (not_not _ g.rows.wrong_state)))
-acted_places actions.UnitReset past i s h m before held e g = turns actions.UnitReset past i s h m before held e refl (own_is i operations.UnitReset) (subject_is past i s h 0xe (live_login past i s h (not_not _ g.rows.wrong_state)))
-acted_places actions.TargetReset past i s h m before held e g = turns actions.TargetReset past i s h m before held e refl (own_is i operations.TargetReset) (subject_is past i s h 0xf (live_login past i s h (not_not _ g.rows.wrong_state)))
+acted_places actions.AbortSet past i s h m before held e g = turns actions.AbortSet past i s h m before held e refl (own_is i operations.AbortSet) (subject_is past i s h 0xc (live_login past i s h (not-false _ g.rows.wrong_state)))
+acted_places actions.UnitReset past i s h m before held e g = turns actions.UnitReset past i s h m before held e refl (own_is i operations.UnitReset) (subject_is past i s h 0xe (live_login past i s h (not-false _ g.rows.wrong_state)))
+acted_places actions.TargetReset past i s h m before held e g = turns actions.TargetReset past i s h m before held e refl (own_is i operations.TargetReset) (subject_is past i s h 0xf (live_login past i s h (not-false _ g.rows.wrong_state)))
 
 -- its own request brings what its action writes
 pub own_places : (serial generation to : ℕ) (bytes : List ℕ) (action : Action) (past : List Moment) (i m : ℕ) → event_of past ≡ Some (events.Act i action) → place_held (said (notes.Sent serial generation (suc i) to bytes) ∷ past) i m ≡ place_written (Some (events.Act i action)) past i m (place_held past i m)
 own_places serial generation to bytes action past i m e =
-    ap (λ b. cond b (place_written (event_of past) past i m (place_held past i m)) (place_held past i m)) (itself i)
+    ap (λ b. cond b (place_written (event_of past) past i m (place_held past i m)) (place_held past i m)) (same_number i)
     ∙ ap (λ (x : Option Event). place_written x past i m (place_held past i m)) e
 
 -- what its action writes is of the history as the line began: an operation with a management ORB tells nothing

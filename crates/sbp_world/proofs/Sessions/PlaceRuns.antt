@@ -161,7 +161,7 @@ pub record Placed (ready : Bool) (past : List Moment) (i : ℕ) (s : InitiatorSt
 moved : (past now : List Moment) (i : ℕ) (s u : InitiatorState) → ((m : ℕ) → place_held now i m ≡ place_held past i m) → ((m : ℕ) → orb_of u m ≡ orb_of s m) → HoldsPlaces past i s → HoldsPlaces now i u
 moved past now i s u e f h = λ m b. f m ∙ h m b ∙ ap place_bytes (sym (e m))
 
-judged_packet : (serial : ℕ) (judged : Judged) → is_packet (judged_note serial judged) ≡ false
+pub judged_packet : (serial : ℕ) (judged : Judged) → is_packet (judged_note serial judged) ≡ false
 judged_packet serial judgements.Got = refl
 judged_packet serial (judgements.Ignored cause) = refl
 

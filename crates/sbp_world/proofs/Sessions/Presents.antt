@@ -1,5 +1,6 @@
 -- A step of an initiator's slots begins no list, but for one that prepares an ORB.
 use Rattle.std.proofs.Common.{◌≡◌, ◌∙◌, refl, sym, ap, ℕ, is_some, true, false, List, Option, Some, None}
+use Rattle.std.proofs.lemmas.Bool.{false≢true}
 use Rattle.bus_memory.specs.Memory.{Memory}
 use Rattle.sbp_initiator.proofs.Histories.Actions.{dummy_present, pins_present}
 use Rattle.sbp_initiator.proofs.Histories.Effects.{unpin_present}
@@ -12,9 +13,6 @@ use Rattle.orb_list.specs.Lists.{ListState, drop_lists, dummy_lists, free_lists,
 use Rattle.orb_list.specs.Table.{SlotTable, drop_for, drop_step, free_all_step, high_for, high_step, link_set, low_for, low_step, passed_for, slot_in, status_at, status_for, status_step, waiting, waits_high, waits_low}
 use Rattle.orb_list.specs.Tickets.{TicketParts}
 use Rattle.bus_memory.specs.Windows.{slot_of}
-
-no : false ≡ true → ⊥
-no e = cc
 
 -- a list is present only where one was
 abbrev pub Fewer : ListState → ListState → Type 0
@@ -68,7 +66,7 @@ drop_none (Some list) s e = refl
 
 pub drop_fewer : (lists : ListState) → Fewer lists (drop_lists lists).1
 unfolding drop_lists drop_step
-drop_fewer lists f = absurd (no (ap (λ (o : Option PresentList). is_some o) (sym (drop_none lists.slots.present lists.slots refl)) ∙ f))
+drop_fewer lists f = absurd (false≢true (ap (λ (o : Option PresentList). is_some o) (sym (drop_none lists.slots.present lists.slots refl)) ∙ f))
 
 pub free_none : (lists : ListState) → is_some (free_lists lists).slots.present ≡ false
 unfolding free_lists free_all_step

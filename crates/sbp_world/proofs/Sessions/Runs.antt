@@ -4,6 +4,7 @@ use Rattle.std.specs.Prelude.{is_none, slice_index_or}
 use Rattle.std.proofs.lemmas.Bool.Decides.{nat_tests}
 use Rattle.std.proofs.lemmas.Grind.{common_steps}
 use Rattle.std.proofs.lemmas.List.{get_or-replicate, length-replicate}
+use Rattle.std.proofs.lemmas.Bool.{false≢true}
 use Rattle.sbp_world.specs.Agents.Agents.{AreAgentsAt}
 use Rattle.sbp_world.specs.Agents.Holders.{AreHeldAt}
 use Rattle.sbp_world.proofs.Agents.CrewRuns.{agents_between_law, agents_run_law}
@@ -62,9 +63,6 @@ use Rattle.sbp_world.specs.Sessions.Joined.{IsJoined, JoinedBetweenLaw, JoinedLa
 use Rattle.sbp_world.proofs.Sessions.Caught.{Met, Seen, Up, is_in, is_up, sits_any, up_later, up_of}
 use Rattle.sbp_world.proofs.Sessions.Lines.{all_met, line_met, opened}
 use Rattle.sbp_world.proofs.Sessions.Turns.{wire_generation}
-
-no : false ≡ true → ⊥
-no e = cc
 
 -- ---- a new world: each node is in generation 0
 pub first_generation : (m k : ℕ) (t : Topology) → t.generation ≡ 0 → (slice_index_or (replicate m t) k no_topology).generation ≡ 0
@@ -201,7 +199,7 @@ module _ (units ready : ℕ) (has : 0 < units) (start : List Disk) {past : List 
   is_listed : (a b : Bool) → not a ≡ not b → a ≡ true → b ≡ true
   is_listed true true e f = refl
   is_listed true false e f = absurd (let x : false ≡ true = e in cc)
-  is_listed false b e f = absurd (no f)
+  is_listed false b e f = absurd (false≢true f)
 
   some_none : (o : Option ℕ) → is_none o ≡ not (is_some o)
   some_none None = refl

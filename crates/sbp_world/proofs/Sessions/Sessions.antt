@@ -5,6 +5,7 @@ use Rattle.std.proofs.Common.{◌≡◌, refl, sym, subst, is_some, ℕ, ◌==�
 use Rattle.byteorder.specs.Endian.{big_bytes}
 use Rattle.std.proofs.lemmas.Bool.Decides.{nat_tests}
 use Rattle.std.proofs.Common.{arith}
+use Rattle.std.proofs.lemmas.Bool.{false≢true}
 use Rattle.async_packet.specs.Labels.{LabelParts}
 use Rattle.async_packet.specs.Packet.{Packet, header_in, lock, lock_response, read_block, read_block_response, read_quadlet, read_quadlet_response, write_block, write_quadlet, write_response}
 use Rattle.bus_memory.specs.Access.{read_step}
@@ -58,9 +59,6 @@ use Rattle.sbp_session.specs.declared.seat.Seat.{Seat}
 use Rattle.sbp_world.proofs.Sessions.Presents.{Fewer, drop_fewer, dummy_fewer, free_none, high_fewer, low_fewer, manage_fewer, pin_fewer, take_fewer, unpin_fewer, write_fewer}
 use Rattle.sbp_session.specs.Moves.{Event, conflict, entered, failed, goes, good, pointed, pointing, reset, sent}
 
-no : false ≡ true → ⊥
-no e = cc
-
 -- the moves that end no operation with status 00
 abbrev pub is_plain : Event → Bool
 is_plain (entered response) = false
@@ -78,7 +76,7 @@ own_write source target e = by (nat_eq source target) refl e
   where
     by : (b : Bool) → nat_eq source target ≡ b → not b ≡ false → source ≡ target
     by true f g = grind (arith, nat_tests)
-    by false f g = absurd (no (sym g))
+    by false f g = absurd (false≢true (sym g))
 
 -- a property of a session, kept by those
 module _ (Sit : Seat → ListState → Type 0) (plain : (event : Event) (seat : Seat) (lists : ListState) → is_plain event ≡ true → Sit seat lists → Sit (goes event seat) lists) (relist : (seat : Seat) (old new : ListState) → Fewer old new → Sit seat old → Sit seat new) where

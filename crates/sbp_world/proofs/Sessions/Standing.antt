@@ -1,6 +1,7 @@
 -- Each call of a target changes the live logins of the node whose operation is under way alone, but for the sight of a later generation.
 use Rattle.std.proofs.Common.{◌≡◌, ◌∙◌, refl, sym, ap, subst, ℕ, Bool, true, false, cond, List, map, Option, Some, None, Result, Ok, Err}
 use Rattle.std.proofs.Math.ListN.{get_or-map}
+use Rattle.std.proofs.lemmas.Bool.{false≢true}
 use Rattle.async_packet.specs.Labels.{LabelParts}
 use Rattle.label_table.specs.declared.reply.Stale.{Stale}
 use Rattle.label_table.specs.Layer.{Finding, Layer, expiring_step, judging_step, of_again, of_generation, of_grammar, of_label, of_request, of_response, seeing_step}
@@ -24,9 +25,6 @@ use Rattle.sbp_target.proofs.Histories.Settled.{all_good}
 use Rattle.sbp_world.specs.Sessions.Standing.{AreSame, LoginsStand, StandingLaw}
 use Rattle.sbp_world.proofs.Sessions.Logins.{reply_same, same}
 use Rattle.sbp_world.proofs.Sessions.Tables.{delivery_tabled, lapse_tabled, lapsed_table, tabled}
-
-no : false ≡ true → ⊥
-no e = cc
 
 module _ (node : NodeState) (g : Good node) (id : ℕ) where
   -- with these logins
@@ -68,7 +66,7 @@ module _ (node : NodeState) (g : Good node) (id : ℕ) where
       by : (left : Option ℕ) → login.remaining ≡ left → is_live login ≡ true → login_ticked (Some login) ≡ Some login
       by None q l =
           ap (λ (x : Option ℕ). cond (is_last x) None (Some (record login { remaining = one_less x }))) q ∙ ap (λ (x : Option ℕ). Some (record login { remaining = x })) (sym q)
-      by (Some seconds) q l = absurd (let x : is_live login ≡ false = rw q refl in no (sym x ∙ l))
+      by (Some seconds) q l = absurd (let x : is_live login ≡ false = rw q refl in false≢true (sym x ∙ l))
 
   was_live : (before : Option Login) (login : Login) → login_ticked before ≡ Some login → is_live login ≡ true → before ≡ Some login
   was_live None login e l = e
@@ -82,7 +80,7 @@ module _ (node : NodeState) (g : Good node) (id : ℕ) where
           last true h = let z : None ≡ Some login = h in cc
           last false h =
               let own_is : record own { remaining = one_less (Some seconds) } ≡ login = cc in
-              no (ap is_live own_is ∙ l)
+              false≢true (ap is_live own_is ∙ l)
 
   second_same : At (alone ticks node)
   unfolding ticked
@@ -94,7 +92,7 @@ module _ (node : NodeState) (g : Good node) (id : ℕ) where
   -- ---- a sight
   old_by : (r : Bool × Layer Purpose) → r.0 ≡ false → At (reset_by r (scene node empty_outbox)).1
   old_by (false, layer) e = same id node.logins.places
-  old_by (true, layer) e = absurd (no (sym e))
+  old_by (true, layer) e = absurd (false≢true (sym e))
 
   old_same : (generation own : ℕ) → (seeing_step node.layer generation own).0 ≡ false → At (alone (sees generation own) node)
   unfolding seen
@@ -110,7 +108,7 @@ all_dead : (places : List (Option Login)) (place : ℕ) (login : Login) → plac
 all_dead places place login e = held_dead (place_at places place) login (sym (get_or-map held places place None) ∙ e)
 
 new_by : (node : NodeState) (r : Bool × Layer Purpose) (place : ℕ) (login : Login) → r.0 ≡ true → place_at (reset_by r (scene node empty_outbox)).1.node.logins.places place ≡ Some login → is_live login ≡ false
-new_by node (false, layer) place login t e = absurd (no t)
+new_by node (false, layer) place login t e = absurd (false≢true t)
 new_by node (true, layer) place login t e = all_dead (cut_all cuts.Reset None (scene (cleared_node layer node) empty_outbox)).node.logins.places place login e
 
 new_dead : (node : NodeState) (generation own place : ℕ) (login : Login) → (seeing_step node.layer generation own).0 ≡ true → place_at (alone (sees generation own) node).node.logins.places place ≡ Some login → is_live login ≡ false

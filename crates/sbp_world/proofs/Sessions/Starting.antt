@@ -42,12 +42,7 @@ use Rattle.sbp_world.specs.Agents.Management.Calls.{CallsKeep, delivered, demand
 use Rattle.sbp_world.specs.Agents.Management.Offices.{Agrees, Office, by_managed, by_note, by_side, by_sides, placed, placed_by, replied, started, started_by, ticked, with_key}
 use Rattle.sbp_world.proofs.Agents.Management.Calls.{management_law}
 use Rattle.sbp_world.specs.Sessions.Starting.{GoesOn, IsAsked, OperationsStart, StartingLaw}
-
-differ : {A : Type 0} (own : Operation) → None ≡ Some own → A
-differ own e = absurd (not_so e)
-  where
-    not_so : None ≡ Some own → ⊥
-    not_so e = cc
+use Rattle.sbp_world.proofs.Common.{none_is}
 
 goes_on : (before : Option Operation) (now : Operation) → before ≡ Some now → GoesOn before now
 goes_on before now e = record { was = now; is = e; source = refl; orb = refl }
@@ -58,7 +53,7 @@ module _ (m : Machine) (own : Operation) (is : m.operation ≡ Some own) where
   Kept left = (now : Operation) → left ≡ Some now → GoesOn m.operation now
 
   ended : Kept None
-  ended now e = differ now e
+  ended now e = none_is now e
 
   on_in : (phase : Phase) → Kept (Some (record own { phase = phase }))
   on_in phase now e =
@@ -144,7 +139,7 @@ same : (o left : Office) → left.manager ≡ o.manager → Stays o left
 same o left e now f = sym (ap (λ (m : Machine). m.operation) e) ∙ f
 
 note_stays : (note : Note) (o : Office) → Stays o (by_note note o)
-note_stays (notes.ManageFailed i cause) o = λ now f. differ now f
+note_stays (notes.ManageFailed i cause) o = λ now f. none_is now f
 note_stays (notes.Managed i word subject status login) o = same o (by_managed word login o) (managing word login o)
 note_stays (notes.Held id) o = λ now f. f
 note_stays (notes.Back id) o = λ now f. f
@@ -156,7 +151,7 @@ side_stays : (side : Side) (o : Office) → Stays o (by_side side o)
 side_stays (sides.Own note) o = note_stays note o
 side_stays (sides.Managed node function subject status login) o =
     same o (by_managed (function_word function) (login_if (function_word function) status login) o) (managing (function_word function) (login_if (function_word function) status login) o)
-side_stays (sides.ManageFailed node cause) o = λ now f. differ now f
+side_stays (sides.ManageFailed node cause) o = λ now f. none_is now f
 side_stays (sides.Held login) o = λ now f. f
 side_stays (sides.Expired login) o = λ now f. f
 side_stays (sides.Back login) o = λ now f. f
@@ -188,7 +183,7 @@ module _ (node : NodeState) (keeps : CallsKeep node (record { table = node.login
   lapsed_on (Err stale) now e = goes_on node.manager.operation now e
 
   seen_on : (b : Bool) (now : Operation) → (seen b o).manager.operation ≡ Some now → GoesOn node.manager.operation now
-  seen_on true now e = differ now e
+  seen_on true now e = none_is now e
   seen_on false now e = goes_on node.manager.operation now e
 
   module _ (generation : ℕ) (bytes : List ℕ) where

@@ -7,10 +7,8 @@ use Rattle.label_table.specs.History as wire
 use Rattle.label_table.specs.Layer.{Finding, Layer, expiring_step, judging_step, of_again, of_generation, of_grammar, of_label, of_request, of_response}
 use Rattle.login_table.specs.Table.{Table}
 use Rattle.mgmt_agent.specs.declared.decision.ManagerStep.{ManagerStep}
-use Rattle.mgmt_agent.specs.declared.operation.Busy.{Busy}
 use Rattle.mgmt_agent.specs.declared.operation.Operation.{Operation}
 use Rattle.mgmt_agent.specs.Machine as management
-use Rattle.orb_layout.specs.declared.ask.Ask.{Ask}
 use Rattle.orb_layout.specs.declared.ask.Ask.TheVariants.{Nothing}
 use Rattle.orb_layout.specs.Replies.{Answer, Expired}
 use Rattle.rbc_disk.specs.Disk.{Disk}
@@ -29,7 +27,7 @@ use Rattle.sbp_target.specs.Management.{decided_by, failed_by, manage, managed_i
 use Rattle.sbp_target.specs.Nodes.{NodeState, Scene, scene}
 use Rattle.sbp_target.specs.Receiving.{answer_in, concluded, expired, expired_in, judged_scene, received, received_as, timed_out, with_layer}
 use Rattle.sbp_target.specs.Replies.{Whole, scene_of, whole}
-use Rattle.sbp_target.specs.Serving.{answered, is_barred, request_step, serve, served_as, start, started_by as target_started}
+use Rattle.sbp_target.specs.Serving.{answered, is_barred, request_step, serve, served_as, start}
 use Rattle.sbp_target.proofs.Histories.Calling.{Good}
 use Rattle.sbp_target.proofs.Histories.Found.{IsFound, found}
 use Rattle.sbp_target.proofs.Histories.Primitives.{Known, closing_known, expiring_known, live_on}
@@ -38,11 +36,8 @@ use Rattle.sbp_world.specs.Agents.Management.Offices.{Office}
 use Rattle.sbp_world.proofs.Agents.Management.Calm as calm
 use Rattle.sbp_world.proofs.Agents.Management.Calm.{Calm, From}
 use Rattle.sbp_world.proofs.Agents.Management.Managing.{decision_stands}
-use Rattle.sbp_world.proofs.Agents.Enabling.{ask_logins}
-
-start_logins : (source : ℕ) (p : Packet) (bytes : List ℕ) (r : Result Ask Busy × management.Machine) (s : Scene) → (target_started source p bytes r s).node.logins ≡ s.node.logins
-start_logins source p bytes (Ok ask, m) s = ask_logins source ask (answered p bytes 0 [] (scene (record s.node { manager = m }) s.outbox))
-start_logins source p bytes (Err busy, m) s = refl
+use Rattle.sbp_world.proofs.Agents.Enabling.{ask_logins, start_logins}
+use Rattle.sbp_world.proofs.Agents.Management.Calls.{from_self}
 
 -- the logins behind a delivery, by what the packet is found to be, and behind a time-out, by what was waited for
 abbrev pub tabled : Finding Purpose → NodeState → Table
@@ -65,9 +60,6 @@ idle_table m t keys answer e = by m.operation e
 module _ (node : NodeState) (g : Good node) where
   abbrev office : Office
   office = record { table = node.logins; keys = node.keys; manager = node.manager; manages = None; asks = Nothing; decided = None }
-
-  from_self : (layer : Layer Purpose) (lives : Lives) → Known layer lives → From lives layer
-  from_self layer lives k = record { lives = lives; known = k; before = λ p l kind e. e }
 
   from_same : (layer : Layer Purpose) → layer ≡ node.layer → From g.lives layer
   from_same layer same_layer = from_self layer g.lives (subst (λ (l : Layer Purpose). Known l g.lives) (sym same_layer) g.mid.known)

@@ -5,6 +5,7 @@ use Rattle.std.proofs.lemmas.Bool.Decides.{nat_tests}
 use Rattle.std.proofs.lemmas.Grind.{get_or-set_at}
 use Rattle.std.proofs.lemmas.List.{get_or-set_other}
 use Rattle.std.proofs.lemmas.List.Quantifiers.{position-Some}
+use Rattle.std.proofs.lemmas.Bool.{false≢true}
 use Rattle.async_packet.specs.Packet.{Packet, header_in}
 use Rattle.async_packet.specs.Reading.{reading}
 use Rattle.bus_transactions.specs.Wire.{Node, as_sending}
@@ -56,9 +57,6 @@ use Rattle.sbp_world.proofs.Agents.Leaving.{source_known}
 use Rattle.sbp_world.proofs.Sessions.Caught.{Met, met_alike, met_but, Seen, Sits, Up, is_up, own_hands, sits_any, sits_cleared, sits_plain, sits_relist, sits_to, target_hands, up_by, up_flag, up_known, up_later, up_of}
 use Rattle.sbp_world.proofs.Sessions.Sessions.{IfAsked, receives, sees as session_sees}
 
-no : false ≡ true → ⊥
-no e = cc
-
 -- the node that has an ID
 record Holder (g : GenerationsState) (id : ℕ) : Type 0 where
   node : ℕ
@@ -68,7 +66,7 @@ node_found_in : (g : GenerationsState) (id : ℕ) → Up g id → Holder g id
 node_found_in g id u = by (node_of g 0 id) refl
   where
     by : (found : Option ℕ) → node_of g 0 id ≡ found → Holder g id
-    by None e = absurd (no (sym (ap (up_by g) e) ∙ up_flag g id u))
+    by None e = absurd (false≢true (sym (ap (up_by g) e) ∙ up_flag g id u))
     by (Some node) e = record { node = node; there = e }
 
 -- ---- the first node that has an ID
@@ -107,7 +105,7 @@ module _ (w : WorldState) (node : ℕ) where
   next = sees_latest node w.generations
 
   pub other_same : (k : ℕ) → nat_eq k node ≡ false → topology_at next k ≡ topology_at w.generations k
-  other_same k e = get_or-set_other w.generations.seen node k w.generations.latest no_topology (λ x. let y : nat_eq k node ≡ true = grind (arith, nat_tests) in no (sym e ∙ y))
+  other_same k e = get_or-set_other w.generations.seen node k w.generations.latest no_topology (λ x. let y : nat_eq k node ≡ true = grind (arith, nat_tests) in false≢true (sym e ∙ y))
 
   pub own_latest : node < length w.generations.seen → topology_at next node ≡ w.generations.latest
   own_latest l = get_or-set_at w.generations.seen node node w.generations.latest no_topology refl l

@@ -49,22 +49,14 @@ use Rattle.sbp_world.proofs.Sessions.Logins.{same}
 use Rattle.sbp_world.proofs.Sessions.Standing.{stands}
 use Rattle.sbp_world.proofs.Sessions.Starting.{managing}
 use Rattle.sbp_world.proofs.Sessions.Tables.{delivery_tabled, lapse_tabled, lapsed_table, tabled}
-
-none_goes : {A : Type 0} (now : Operation) → None ≡ Some now → A
-none_goes now e = absurd (differ e)
-  where
-    differ : None ≡ Some now → ⊥
-    differ e = cc
-
-untrue : {A : Type 0} → false ≡ true → A
-untrue e = absurd (let no : false ≡ true = e in cc)
+use Rattle.sbp_world.proofs.Common.{untrue, none_is}
 
 -- ---- what is told behind the first note leaves an operation that is under way still as it was
 abbrev Stays : Office → Office → Type 0
 Stays o left = (now : Operation) → left.manager.operation ≡ Some now → left.manager ≡ o.manager
 
 note_stays : (note : Note) (o : Office) → Stays o (by_note note o)
-note_stays (notes.ManageFailed i cause) o = λ now f. none_goes now f
+note_stays (notes.ManageFailed i cause) o = λ now f. none_is now f
 note_stays (notes.Managed i word subject status login) o = λ now f. managing word login o
 note_stays (notes.Held id) o = λ now f. refl
 note_stays (notes.Back id) o = λ now f. refl
@@ -75,7 +67,7 @@ note_stays _ o = λ now f. refl
 side_stays : (side : Side) (o : Office) → Stays o (by_side side o)
 side_stays (sides.Own note) o = note_stays note o
 side_stays (sides.Managed node function subject status login) o = λ now f. managing (function_word function) (login_if (function_word function) status login) o
-side_stays (sides.ManageFailed node cause) o = λ now f. none_goes now f
+side_stays (sides.ManageFailed node cause) o = λ now f. none_is now f
 side_stays (sides.Held login) o = λ now f. refl
 side_stays (sides.Expired login) o = λ now f. refl
 side_stays (sides.Back login) o = λ now f. refl
@@ -173,12 +165,12 @@ module _ (node : NodeState) (g : Good node) (keeps : CallsKeep node (record { ta
   lapses_on (Ok None) now op e l is w = unchanged now op e l is w
   lapses_on (Ok (Some (purposes.Agent place))) now op e l is w = unchanged now op e l is w
   lapses_on (Ok (Some purposes.Management)) now op e l is w =
-      none_goes op (sym (expired_over node.manager node.logins node.keys) ∙ sym (ap (λ (m : Machine). m.operation) e) ∙ is)
+      none_is op (sym (expired_over node.manager node.logins node.keys) ∙ sym (ap (λ (m : Machine). m.operation) e) ∙ is)
   lapses_on (Ok (Some purposes.Unsolicited)) now op e l is w = unchanged now op e l is w
   lapses_on (Err stale) now op e l is w = unchanged now op e l is w
 
   seen_on : (generation own : ℕ) (b : Bool) → (seeing_step node.layer generation own).0 ≡ b → (now : NodeState) (op : Operation) → now ≡ (alone (sees generation own) node).node → now.manager ≡ (seen b o).manager → now.manager.operation ≡ Some op → is_written op.phase ≡ true → GoesOnIn node now op
-  seen_on generation own true f now op n e is w = none_goes op (sym (ap (λ (m : Machine). m.operation) e) ∙ is)
+  seen_on generation own true f now op n e is w = none_is op (sym (ap (λ (m : Machine). m.operation) e) ∙ is)
   seen_on generation own false f now op n e is w =
       keeps_writing node.manager places now.manager now.logins.places op e
       (λ id. subst (λ (x : NodeState). AreSame id places x.logins.places) (sym n) (logins.old_sights id generation own f)) is w
@@ -242,7 +234,7 @@ module _ (units ready : ℕ) (has : 0 < units) where
       let node = after units ready calls in goes_on node (alone (sets_key unit key) node).node op before ((writes_after units ready calls has).keys unit key op is w)
 
   all_written : (calls : List Call) → Is (after units ready calls)
-  all_written [] op is w = none_goes op is
+  all_written [] op is w = none_is op is
   all_written (call ∷ calls) op is w = call_writes call calls (all_written calls) op is w
 
 pub written_law : WrittenLaw

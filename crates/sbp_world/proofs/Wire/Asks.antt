@@ -1,6 +1,7 @@
 -- What a node asks, and what it gives up, is a list of moves of the wire: the packets leave for the nodes that have the IDs.
 use Rattle.std.specs.Prelude.{◌≡◌, ◌≤◌, ◌<◌, ℕ, ◌+◌, ◌&&◌, nat_eq, Bool, true, false, cond, if◌then◌else◌, List, [], ◌∷◌, ◌++◌, length, slice_index_or, Option, Some, None, Result, Ok, Err, refl}
 use Rattle.std.proofs.Common.{arith, sym, ◌∙◌, ap, subst}
+use Rattle.std.proofs.lemmas.Bool.{false≢true}
 use Rattle.sbp_base.specs.Update.{upd}
 use Rattle.async_packet.specs.Canon.{IsValid}
 use Rattle.async_packet.specs.Labels.{LabelParts}
@@ -185,9 +186,6 @@ abbrev IfSmall : Option Asked → Type 0
 IfSmall None = Unit {0}
 IfSmall (Some asked) = (n : ℕ) → slice_index_or asked.bytes n 0 < 256
 
-no_test : false ≡ true → ⊥
-no_test e = cc
-
 both_same : (a b c d : ℕ) → (nat_eq a b && nat_eq c d) ≡ true → (a ≡ b) × (c ≡ d)
 both_same a b c d e = (grind arith, grind arith)
 
@@ -298,7 +296,7 @@ module _ {P : Type 0} {past : List Moment} {layers : ℕ → Node} (w : WorldSta
       by_label false peer number kind call e m small here s =
           let few = h.is.few in
           kept from peer number (request_of from (t.ids old.generation peer) (record { number = number; generation = old.generation; serial = call })) from_five (omega arith) small
-          (λ x y z. no_test (sym e ∙ ap (λ p. nat_eq (t.ids old.generation p) (id_for h.wire from k.node) && nat_eq number asked.label.number) y ∙ ap (λ n. nat_eq (id_for h.wire from k.node) (id_for h.wire from k.node) && nat_eq n asked.label.number) z ∙ same_test (id_for h.wire from k.node) asked.label.number))
+          (λ x y z. false≢true (sym e ∙ ap (λ p. nat_eq (t.ids old.generation p) (id_for h.wire from k.node) && nat_eq number asked.label.number) y ∙ ap (λ n. nat_eq (id_for h.wire from k.node) (id_for h.wire from k.node) && nat_eq n asked.label.number) z ∙ same_test (id_for h.wire from k.node) asked.label.number))
           (h.is.entered.entry from peer number kind call there m small s)
 
       by_node : (b : Bool) (node peer number : ℕ) (kind : ReplyKind) (call : ℕ) → nat_eq node from ≡ b → node ≤ length w.initiators → peer ≤ length w.initiators → number < 64 → state_for (cond b new (h.wire.layer node)).peers (t.ids (cond b new (h.wire.layer node)).generation peer) number ≡ states.UnderWay kind call → IsEntered now node peer number (request_of node (t.ids (cond b new (h.wire.layer node)).generation peer) (record { number = number; generation = (cond b new (h.wire.layer node)).generation; serial = call }))
@@ -311,7 +309,7 @@ module _ {P : Type 0} {past : List Moment} {layers : ℕ → Node} (w : WorldSta
       by_node false node peer number kind call e l m small s =
           let few = h.is.few in
           kept node peer number (request_of node (t.ids (h.wire.layer node).generation peer) (record { number = number; generation = (h.wire.layer node).generation; serial = call })) (omega arith) (omega arith) small
-          (λ x y z. no_test (sym e ∙ ap (λ n. nat_eq n from) x ∙ (let f : nat_eq from from ≡ true = grind arith in f)))
+          (λ x y z. false≢true (sym e ∙ ap (λ n. nat_eq n from) x ∙ (let f : nat_eq from from ≡ true = grind arith in f)))
           (h.is.entered.entry node peer number kind call l m small s)
 
   asks_as : (asked : Asked) (new : Layer P) → asking_step layer id body purpose ≡ (Some asked, new) → ((n : ℕ) → slice_index_or asked.bytes n 0 < 256) → StandsAt past (upd layers from (bare new)) None (with_request (w.store.last + 1) k.node (request_of from id asked.label) (posted from k.node false asked.bytes w))

@@ -41,6 +41,7 @@ use Rattle.sbp_world.proofs.Wire.ToldBytes.{AreTold}
 use Rattle.sbp_world.proofs.Wire.Turned.{Delivered, Turned, delivers, lapse_turns, second_turns, sight_turns, stale_refuses}
 use Rattle.sbp_world.proofs.Wire.Awaiting.{under_way_expires}
 use Rattle.sbp_world.proofs.Wire.UnderWay.{expired_was}
+use Rattle.sbp_world.proofs.Common.{and_second}
 
 either : (holds fails : Type 0) (b : Bool) → (b ≡ true → holds) → (b ≡ false → fails) → Either b holds fails
 either holds fails true h f = h refl
@@ -96,15 +97,11 @@ module _ {past : List Moment} (s : Scene) (h : Stands past s.world) (line serial
       subst (λ b. Either b (IsDelivery serial new) (new ≡ law_refused line 11)) (flies_here s.world h serial)
       (delivers_if false (is_in_flight serial s.world) told (found_here s.world h serial) none)
 
-  and_right : (a b : Bool) → (a && b) ≡ true → b ≡ true
-  and_right true b e = e
-  and_right false b e = cc
-
   pub repeat_brings : (told : List (Option Told)) → s.world.fresh ≡ [] → let new = reverse (delivered_if (may_repeat serial s.world) line serial true told s).world.fresh in Either (law_repeats t serial) (IsDelivery serial new) (new ≡ law_refused line 11)
   repeat_brings told none =
       let new = reverse (delivered_if (may_repeat serial s.world) line serial true told s).world.fresh in
       subst (λ b. Either b (IsDelivery serial new) (new ≡ law_refused line 11)) (repeats_here s.world h serial)
-      (delivers_if true (may_repeat serial s.world) told (and_right (nat_lt (s.world.store.last - 1024) serial) (is_some (found_sent serial s.world.store.kept))) none)
+      (delivers_if true (may_repeat serial s.world) told (and_second (nat_lt (s.world.store.last - 1024) serial) (is_some (found_sent serial s.world.store.kept))) none)
 
 module _ {past : List Moment} (w : WorldState) (h : Stands past w) (line serial : ℕ) where
   abbrev terms_now : Terms

@@ -10,6 +10,7 @@ use Rattle.sbp_world.specs.declared.parts.delivering.Arrival.{Arrival}
 use Rattle.sbp_world.specs.Delivering.{at_initiator, at_none, at_target, delivered_by, initiator_received, initiators_received, received_at, received_by, received_step, target_received}
 use Rattle.sbp_world.specs.Worlds.{Scene}
 use Rattle.sbp_world.specs.Wire.Wires.{Stands}
+use Rattle.sbp_world.proofs.Common.{is_inside}
 
 pub received_is : (told : Option Told) (serial : ℕ) (s : Scene) (sent : Sent) → found_sent serial s.world.store.kept ≡ Some sent → received_step told serial s ≡ received_at told sent s
 unfolding received_step
@@ -20,9 +21,6 @@ to_zero n e = grind arith
 
 to_suc : (n i : ℕ) → n ≡ suc i → nat_eq n 0 ≡ false
 to_suc n i e = grind arith
-
-is_inside : (m n : ℕ) → m < n → nat_lt m n ≡ true
-is_inside m n l = grind arith
 
 is_outside : (m n : ℕ) → n ≤ m → nat_lt m n ≡ false
 is_outside m n l = grind arith

@@ -1,5 +1,5 @@
 -- What a world counts is what the ORBs of its history count, initiator by initiator, and so all together.
-use Rattle.std.specs.Prelude.{ℕ, zero, suc, ◌+◌, ◌^◌, ◌<◌, ◌≤◌, ◌&&◌, not, nat_lt, Bool, true, false, cond, if◌then◌else◌, List, [], ◌∷◌, ◌++◌, length, slice_set, slice_index_or, Option, Some, None}
+use Rattle.std.specs.Prelude.{ℕ, zero, suc, ◌+◌, ◌^◌, ◌<◌, ◌≤◌, ◌&&◌, not, Bool, true, false, cond, if◌then◌else◌, List, [], ◌∷◌, ◌++◌, length, slice_set, slice_index_or, Option, Some, None}
 use Rattle.std.proofs.Common.{◌≡◌, arith, refl, sym, ◌∙◌, ap, subst, nat_eq}
 use Rattle.std.proofs.lemmas.Bool.Decides.{nat_tests}
 use Rattle.std.proofs.lemmas.Grind.{get_or-set_at}
@@ -24,6 +24,7 @@ use Rattle.sbp_bus.specs.Places.{holder_at}
 use Rattle.sbp_world.proofs.Wire.Loaded.{capped_is, cut_none, cut_sum, load_sum, loads_apart, loads_in, loads_more, one_list, sum_apart, sum_more, sum_of, taken_one, taken_sum, two_lists, weights_are}
 use Rattle.sbp_world.proofs.Wire.Paid.{IsNew, Paid, cut_paid, drops, same_paid, takes as takes_paid}
 use Rattle.sbp_world.proofs.Wire.Shares.{Share, appended, cuts, is_appended, is_of, is_one, kept, ledger_of, share, sums, takes, total, total_more, without}
+use Rattle.sbp_world.proofs.Common.{itself, equal_numbers, is_inside}
 
 -- ---- sums over a ledger
 abbrev pub AreWithin : ℕ → List Share → Type 0
@@ -70,20 +71,11 @@ sum_few i (one ∷ all) = by (sum_few i all) (nat_eq one.initiator i)
 abbrev pub row_at : List ListLoad → ℕ → ListLoad
 row_at loads i = slice_index_or loads i new_load
 
-lt_true : (i n : ℕ) → i < n → nat_lt i n ≡ true
-lt_true i n l = grind (arith, nat_tests)
-
-alike : (m n : ℕ) → nat_eq m n ≡ true → m ≡ n
-alike m n e = grind (arith, nat_tests)
-
-itself : (a : ℕ) → nat_eq a a ≡ true
-itself a = grind (arith, nat_tests)
-
 differ : (m n : ℕ) → nat_eq m n ≡ false → m ≡ n → ⊥
 differ m n e f = let g : nat_eq m n ≡ true = grind (arith, nat_tests) in cc
 
 set_is : (i : ℕ) (step : ListLoad → ListLoad) (loads : List ListLoad) → i < length loads → of_initiator i step loads ≡ slice_set loads i (step (row_at loads i))
-set_is i step loads l = ap (λ b. cond b (slice_set loads i (step (row_at loads i))) loads) (lt_true i (length loads) l)
+set_is i step loads l = ap (λ b. cond b (slice_set loads i (step (row_at loads i))) loads) (is_inside i (length loads) l)
 
 row_here : (i j : ℕ) (step : ListLoad → ListLoad) (loads : List ListLoad) → j ≡ i → i < length loads → row_at (of_initiator i step loads) j ≡ step (row_at loads i)
 row_here i j step loads e l = ap (λ xs. row_at xs j) (set_is i step loads l) ∙ get_or-set_at loads i j (step (row_at loads i)) new_load e l
@@ -139,8 +131,8 @@ module _ (n : ℕ) (begun : ℕ → ℕ) (keys : ℕ → Option (ℕ × ℕ)) (m
       where
         by : (b : Bool) → nat_eq j i ≡ b → PaidIn cut_now born_now taken_now all_now j (cond b begun_now (begun j)) (cond b key_now (keys j)) (row_at (of_initiator i step loads) j)
         by true e =
-            subst (λ r. PaidIn cut_now born_now taken_now all_now j begun_now key_now r) (sym (row_here i j step loads (alike j i e) here_inside))
-            (subst (λ x. PaidIn cut_now born_now taken_now all_now x begun_now key_now (step (row_at loads i))) (sym (alike j i e)) p)
+            subst (λ r. PaidIn cut_now born_now taken_now all_now j begun_now key_now r) (sym (row_here i j step loads (equal_numbers j i e) here_inside))
+            (subst (λ x. PaidIn cut_now born_now taken_now all_now x begun_now key_now (step (row_at loads i))) (sym (equal_numbers j i e)) p)
         by false e = subst (λ r. PaidIn cut_now born_now taken_now all_now j (begun j) (keys j) r) (sym (row_there i j step loads e here_inside)) (q j e l)
 
   held_now : (begun_now : ℕ) → begun i ≤ begun_now → AreHeld n (upd begun i begun_now) places
@@ -152,7 +144,7 @@ module _ (n : ℕ) (begun : ℕ → ℕ) (keys : ℕ → Option (ℕ × ℕ)) (m
       by : (b : Bool) → nat_eq (holder_at places p).initiator i ≡ b → list < cond b begun_now (begun (holder_at places p).initiator)
       by true f =
           let x = a.1 in
-          let y : begun (holder_at places p).initiator ≡ begun i = ap begun (alike (holder_at places p).initiator i f) in
+          let y : begun (holder_at places p).initiator ≡ begun i = ap begun (equal_numbers (holder_at places p).initiator i f) in
           omega (arith, x, y, more)
       by false f = a.1
 

@@ -71,7 +71,7 @@ frees_less old new peer number state free shows = record {
     by_test t m kind call true e = absurd (free kind call e)
     by_test t m kind call false e = e
 
-not_free : (kind : ReplyKind) (call : ℕ) → states.Free ≡ states.UnderWay kind call → ⊥
+pub not_free : (kind : ReplyKind) (call : ℕ) → states.Free ≡ states.UnderWay kind call → ⊥
 not_free kind call e = cc
 
 not_resting : (kind : ReplyKind) (call : ℕ) → states.Resting ≡ states.UnderWay kind call → ⊥

@@ -2,7 +2,6 @@
 use Rattle.std.specs.Prelude.{◌≡◌, ◌≤◌, ◌<◌, ℕ, ◌+◌, nat_eq, nat_lt, Bool, true, false, cond, length, position, slice_index_or, Option, Some, None, zero, suc, refl}
 use Rattle.std.specs.List.{position_or_len}
 use Rattle.std.proofs.Common.{arith, sym, ◌∙◌, ap, subst}
-use Rattle.std.proofs.lemmas.Bool.Decides.{nat_tests}
 use Rattle.std.proofs.lemmas.Grind.{get_or-set_at}
 use Rattle.std.proofs.lemmas.List.{get_or-set_other, length-set}
 use Rattle.std.proofs.lemmas.List.Quantifiers.{position-Some}
@@ -16,10 +15,9 @@ use Rattle.sbp_bus.specs.declared.requests.Request.{Request}
 use Rattle.sbp_bus.specs.Requests.{RequestsState, add_step, find, place_of, request_at, serial_at}
 use Rattle.sbp_bus.specs.Sending.{request_of}
 use Rattle.sbp_world.specs.Wire.Knows.{IsEntered, IsLatest, IsOurs, KnowsBy}
+use Rattle.sbp_world.proofs.Common.{equal_numbers, is_inside}
 
 -- ---- numbers
-equal_by : (a b : ℕ) → nat_eq a b ≡ true → a ≡ b
-equal_by a b e = grind arith
 
 same_by : (a b : ℕ) → a ≡ b → nat_eq a b ≡ true
 same_by a b e = grind arith
@@ -31,11 +29,8 @@ other_by : (a b : ℕ) → (a ≡ b → ⊥) → nat_eq a b ≡ false
 other_by a b differs = by_test (nat_eq a b) refl
   where
     by_test : (x : Bool) → nat_eq a b ≡ x → nat_eq a b ≡ false
-    by_test true e = absurd (differs (equal_by a b e))
+    by_test true e = absurd (differs (equal_numbers a b e))
     by_test false e = e
-
-below_by : (a b : ℕ) → a < b → nat_lt a b ≡ true
-below_by a b l = grind (arith, nat_tests)
 
 none_some : {request : Request} → None ≡ Some request → ⊥
 none_some e = cc
@@ -51,7 +46,7 @@ stands_by : (requests : RequestsState) (s : ℕ) (request : Request) (o : Option
 stands_by requests s request None e f = cc
 stands_by requests s request (Some place) e f =
     let p = position-Some (nat_eq s) requests.serials place 0 e in
-    record { place = place; inside = p.0; serial = sym (equal_by s (slice_index_or requests.serials place 0) p.1); there = f }
+    record { place = place; inside = p.0; serial = sym (equal_numbers s (slice_index_or requests.serials place 0) p.1); there = f }
 
 stands : (requests : RequestsState) (s : ℕ) (request : Request) → find requests s ≡ Some request → StandsIn requests s request
 stands requests s request e = stands_by requests s request (position (nat_eq s) requests.serials) refl e
@@ -63,7 +58,7 @@ found_at requests place inside apart =
     let here : position_or_len (nat_eq s) requests.serials ≡ place =
     position_or_len_is (nat_eq s) requests.serials place 0 (omega arith) (λ k l. other_by s (slice_index_or requests.serials k 0) (apart k l)) (λ l. same_by s s refl) in
     ap (request_at requests)
-    (ap (λ n. cond (nat_lt n (length requests.serials)) (Some n) None) here ∙ ap (λ b. cond b (Some place) None) (below_by place (length requests.serials) inside))
+    (ap (λ n. cond (nat_lt n (length requests.serials)) (Some n) None) here ∙ ap (λ b. cond b (Some place) None) (is_inside place (length requests.serials) inside))
 
 -- ---- a request of a node to another under a label
 place_same : (requests : RequestsState) (u v : Transaction) → u ≡ v → serial_at requests u.requester u.responder u.label ≡ serial_at requests v.requester v.responder v.label
@@ -170,7 +165,7 @@ module _ {requests : RequestsState} {nodes : ℕ} {ids : ℕ → ℕ → ℕ} {s
       by_test : (b : Bool) → nat_eq place (place_of from to label.number) ≡ b → slice_index_or with_new.requests place None ≡ None
       by_test true e =
           let o = own_place in
-          let zero : slice_index_or with_new.serials (place_of from to label.number) 0 ≡ 0 = subst (λ x. slice_index_or with_new.serials x 0 ≡ 0) (equal_by place (place_of from to label.number) e) z in
+          let zero : slice_index_or with_new.serials (place_of from to label.number) 0 ≡ 0 = subst (λ x. slice_index_or with_new.serials x 0 ≡ 0) (equal_numbers place (place_of from to label.number) e) z in
           absurd (omega (arith, o, zero))
       by_test false e =
           let d = differ_by place (place_of from to label.number) e in
@@ -190,7 +185,7 @@ module _ {requests : RequestsState} {nodes : ℕ} {ids : ℕ → ℕ → ℕ} {s
         where
           by_test : (b : Bool) → nat_eq st.place (place_of from to label.number) ≡ b → IsLatest with_new ids (at current now_present (count + 1)) bus s other
           by_test true e =
-              let here = equal_by st.place (place_of from to label.number) e in
+              let here = equal_numbers st.place (place_of from to label.number) e in
               let is : count + 1 ≡ s = sym own_place ∙ ap (λ x. slice_index_or with_new.serials x 0) (sym here) ∙ st.serial in
               let what : Some new_request ≡ Some other = sym own_request ∙ ap (λ x. slice_index_or with_new.requests x None) (sym here) ∙ st.there in
               let same : new_request ≡ other = cc in
@@ -208,7 +203,7 @@ module _ {requests : RequestsState} {nodes : ℕ} {ids : ℕ → ℕ → ℕ} {s
   below_now place = by_test (nat_eq place (place_of from to label.number)) refl
     where
       by_test : (b : Bool) → nat_eq place (place_of from to label.number) ≡ b → slice_index_or with_new.serials place 0 ≤ count + 1
-      by_test true e = subst (λ x. slice_index_or with_new.serials x 0 ≤ count + 1) (sym (equal_by place (place_of from to label.number) e)) (let o = own_place in omega arith)
+      by_test true e = subst (λ x. slice_index_or with_new.serials x 0 ≤ count + 1) (sym (equal_numbers place (place_of from to label.number) e)) (let o = own_place in omega arith)
       by_test false e = let o = other_place place (differ_by place (place_of from to label.number) e) in let l = k.below place in omega arith
 
   apart_now : (one two : ℕ) → 0 < slice_index_or with_new.serials one 0 → slice_index_or with_new.serials one 0 ≡ slice_index_or with_new.serials two 0 → one ≡ two
@@ -221,9 +216,9 @@ module _ {requests : RequestsState} {nodes : ℕ} {ids : ℕ → ℕ → ℕ} {s
       clash other f e = let o = other_place other (differ_by other place f) in let l = k.below other in omega (arith, e)
 
       by_test : (a b : Bool) → nat_eq one place ≡ a → nat_eq two place ≡ b → one ≡ two
-      by_test true true f g = equal_by one place f ∙ sym (equal_by two place g)
-      by_test true false f g = absurd (clash two g (sym e ∙ ap (λ x. slice_index_or with_new.serials x 0) (equal_by one place f) ∙ own_place))
-      by_test false true f g = absurd (clash one f (e ∙ ap (λ x. slice_index_or with_new.serials x 0) (equal_by two place g) ∙ own_place))
+      by_test true true f g = equal_numbers one place f ∙ sym (equal_numbers two place g)
+      by_test true false f g = absurd (clash two g (sym e ∙ ap (λ x. slice_index_or with_new.serials x 0) (equal_numbers one place f) ∙ own_place))
+      by_test false true f g = absurd (clash one f (e ∙ ap (λ x. slice_index_or with_new.serials x 0) (equal_numbers two place g) ∙ own_place))
       by_test false false f g =
           let o = other_place one (differ_by one place f) in
           let p = other_place two (differ_by two place g) in

@@ -28,7 +28,7 @@ use Rattle.sbp_world.proofs.Wire.Forgets.{IsSilent, seen_stays, sees_rests, tick
 use Rattle.sbp_world.proofs.Wire.Alike.{told_alike}
 use Rattle.sbp_world.proofs.Wire.Asks.{relayered}
 use Rattle.sbp_world.proofs.Wire.Nodes.{layers_alike}
-use Rattle.sbp_world.proofs.Wire.See.{initiator_layers, saw, seen_layer, target_layers}
+use Rattle.sbp_world.proofs.Wire.See.{initiator_layers, saw, seen_layer, target_layers, not_zero}
 use Rattle.sbp_world.proofs.Wire.Tells.{tells, told_plain}
 
 -- what a node hands out in which no packet leaves
@@ -129,10 +129,7 @@ unfolding learns_at
 saw_by past w i true e there h = cc
 saw_by past w i false e there h = other_saw past w i (suc i - 1) (omega arith) there h
 
-not_target : (i : ℕ) → nat_eq (suc i) 0 ≡ false
-not_target i = grind arith
-
 pub sees_line : (past : List Moment) (w : WorldState) (node : ℕ) → node ≤ length w.initiators → Stands past w → Stands past (see_line node w)
 unfolding see_line sees
 sees_line past w zero l h = target_saw past w h
-sees_line past w (suc i) l h = saw_by past w i (nat_eq (suc i) 0) (not_target i) l h
+sees_line past w (suc i) l h = saw_by past w i (nat_eq (suc i) 0) (not_zero i) l h

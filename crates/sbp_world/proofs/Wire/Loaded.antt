@@ -10,6 +10,7 @@ use Rattle.std.proofs.lemmas.Bool.Decides.{nat_tests}
 use Rattle.sbp_bus.specs.declared.loads.OrbLoad.{OrbLoad}
 use Rattle.sbp_bus.specs.Loads.{capped, orb_load, weights, without_orb}
 use Rattle.sbp_world.proofs.Wire.Shares.{Share, is_of, is_one, without}
+use Rattle.sbp_world.proofs.Common.{itself}
 
 abbrev pub load_sum : List OrbLoad → ℕ
 load_sum [] = 0
@@ -164,9 +165,6 @@ at_is a b = by (nat_lt a b) (nat_eq a b) refl refl
     by true false e f = refl
     by false true e f = refl
     by false false e f = refl
-
-itself : (a : ℕ) → nat_eq a a ≡ true
-itself a = grind (arith, nat_tests)
 
 hit : (a : ℕ) (entry : ℕ × ℕ) (left : List (ℕ × ℕ)) → nat_eq a entry.0 ≡ true → left_at a (entry ∷ left) ≡ entry.1
 hit a entry left e = ap (λ c. unwrap_or (cond c (Some entry.1) (lookup (is_at (nat_cmp a)) left)) 0) (at_is a entry.0 ∙ e)

@@ -1,6 +1,7 @@
 -- Deliveries one after the other, as notes: what stands behind deliveries of the lowest packets, and one delivery more.
 use Rattle.std.proofs.Common.{◌≡◌, refl, sym, ◌∙◌, ap, subst, ℕ, suc, ◌+◌, true, List, [], ◌∷◌, ◌++◌, map, reverse, Some, append_assoc, arith}
 use Rattle.std.proofs.lemmas.List.{reverse-append, reverse-reverse}
+use Rattle.std.proofs.lemmas.Option.{same_Some}
 use Rattle.sbp_journal.specs.Run.{Moment, said}
 use Rattle.sbp_journal.specs.Wire.{terms}
 use Rattle.sbp_journal.specs.declared.note.Note.{Note}
@@ -73,8 +74,6 @@ effects_count [] e = refl
 effects_count (note ∷ ns) e = one_counts note ns e.0 ∙ effects_count ns e.1
 
 -- ---- one delivery
-some_is : (a b : ℕ) → Some a ≡ Some b → a ≡ b
-some_is a b e = cc
 
 first_lowest : (past : List Moment) (serial : ℕ) (note : Note) (rest : List Note) → delivered_by note ≡ Some serial → lowest_in_flight (terms past) ≡ Some serial → AreEffects rest → AreLowest past (note ∷ rest)
 first_lowest past serial (notes.Got s) rest e l f = (l ∙ sym e, effects_lowest (said (notes.Got s) ∷ past) rest f)

@@ -1,7 +1,6 @@
 -- What an initiator tells in a call, and what that leaves of its lists, keep what the world counts.
 use Rattle.std.specs.Prelude.{ℕ, suc, ◌+◌, ◌^◌, ◌<◌, ◌≤◌, Bool, true, false, cond, List, [], ◌∷◌, ◌++◌, map, Option, Some, None}
 use Rattle.std.proofs.Common.{◌≡◌, arith, refl, sym, ◌∙◌, ap, subst, nat_eq}
-use Rattle.std.proofs.lemmas.Bool.Decides.{nat_tests}
 use Rattle.sbp_base.specs.Update.{upd}
 use Rattle.orb_layout.specs.declared.status.StatusKind.{StatusKind}
 use Rattle.orb_list.specs.declared.list.PresentList.{PresentList}
@@ -30,6 +29,7 @@ use Rattle.sbp_world.proofs.Wire.Paid.{IsNew, Paid, append_first, append_next}
 use Rattle.sbp_world.proofs.Wire.Pieces.{weight_is}
 use Rattle.sbp_world.proofs.Wire.Shares.{is_appended, ledger_of}
 use Rattle.sbp_world.proofs.Wire.Slotted.{Drops, IsLatest, IsOfKey, Same, SlottedIn, present_key}
+use Rattle.sbp_world.proofs.Common.{itself}
 
 -- what stands before and in the notes of a world
 abbrev pub history : WorldState → List Moment → List Moment
@@ -47,9 +47,6 @@ is_counted (notes.Taken i n k status answer) = true
 is_counted (notes.Drop i n) = true
 is_counted (notes.Cut i n cause) = true
 is_counted _ = false
-
-itself : (a : ℕ) → nat_eq a a ≡ true
-itself a = grind (arith, nat_tests)
 
 -- a function with one value over another
 pub upd_over : {A : Type 0} (f : ℕ → A) (i : ℕ) (x y z : A) → z ≡ x → (j : ℕ) → upd f i z j ≡ upd (upd f i y) i x j

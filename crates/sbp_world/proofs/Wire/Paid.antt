@@ -8,6 +8,7 @@ use Rattle.sbp_bus.specs.declared.loads.ListLoad.{ListLoad}
 use Rattle.sbp_bus.specs.declared.loads.OrbLoad.{OrbLoad}
 use Rattle.sbp_bus.specs.Loads.{append_step, appended_to, begun_step, capped, cut_left, cut_step, drop_step, orb_load, take_step, weights, with_left, without_orb}
 use Rattle.sbp_world.proofs.Wire.Loaded.{Rises, capped_is, insert_here, insert_rises, insert_there, left_at, load_sum, load_sum_more, remove_here, remove_rises, remove_there, removed, weights_are}
+use Rattle.sbp_world.proofs.Common.{itself, equal_numbers, turned}
 
 -- an ORB that was not appended, and of which no status was taken
 pub record IsNew (appended : Bool) (taken : Option TakenStatus) : Type 0 where
@@ -43,14 +44,8 @@ pub record Paid (cut : ℕ → Bool) (appended : ℕ → ℕ → Bool) (taken : 
   pub sum_is : sum ≡ row.left_weight + load_sum row.waiting
   pub rises : Rises 0 row.left
 
-itself : (a : ℕ) → nat_eq a a ≡ true
-itself a = grind (arith, nat_tests)
-
 apart : (m n : ℕ) → n < m → nat_eq m n ≡ false
 apart m n l = grind (arith, nat_tests)
-
-alike : (m n : ℕ) → nat_eq m n ≡ true → m ≡ n
-alike m n e = grind (arith, nat_tests)
 
 -- ---- a list begins
 begun_row : ℕ → ListLoad → ListLoad
@@ -63,7 +58,7 @@ module _ (cut : ℕ → Bool) (appended : ℕ → ℕ → Bool) (taken : ℕ →
     where
       by : (b : Bool) → nat_eq row.list begun ≡ b → cond b row (record row { list = begun; is_cut = false; waiting = [] }) ≡ record row { list = begun; is_cut = false; waiting = [] }
       by true e =
-          let same : row.list ≡ begun = alike row.list begun e in
+          let same : row.list ≡ begun = equal_numbers row.list begun e in
           let is = p.list_is in
           let none : begun ≡ 0 = omega (arith, same, is) in
           let open_now : row.is_cut ≡ false = p.cut_is ∙ ap cut same ∙ p.uncut begun (omega arith) in
@@ -77,7 +72,7 @@ module _ (cut : ℕ → Bool) (appended : ℕ → ℕ → Bool) (taken : ℕ →
     left_here m = by (nat_eq m row.list) refl
       where
         by : (b : Bool) → nat_eq m row.list ≡ b → left_at m row.left ≡ load_sum (loads m)
-        by true e = subst (λ x. left_at x row.left ≡ load_sum (loads x)) (sym (alike m row.list e)) p.now.left
+        by true e = subst (λ x. left_at x row.left ≡ load_sum (loads x)) (sym (equal_numbers m row.list e)) p.now.left
         by false e = p.others m e
 
     first_row : Paid cut (upd2 appended begun 0 true) taken loads_now sum_now (suc begun) (Some (begun, 0)) (record row { list = begun; is_cut = false; waiting = orb_load 0 weight ∷ [] })
@@ -204,7 +199,7 @@ module _ (cut : ℕ → Bool) (appended : ℕ → ℕ → Bool) (taken : ℕ →
     drop_by : (weight : ℕ) → weight ≡ load_sum row.waiting → sum < 2 ^ 64 → (b : Bool) → nat_eq weight 0 ≡ b → Paid cut appended taken loads sum begun None (cond b row (record row { waiting = []; left = with_left n weight row.left; left_weight = capped (row.left_weight + weight) }))
     drop_by weight is few true e =
         let latest = p.now.latest in
-        let zero_now : weight ≡ 0 = alike weight 0 e in
+        let zero_now : weight ≡ 0 = equal_numbers weight 0 e in
         record {
           list_is = p.list_is;
           cut_is = p.cut_is;
@@ -271,13 +266,13 @@ module _ (cut : ℕ → Bool) (appended : ℕ → ℕ → Bool) (taken : ℕ →
       where
         by : (b : Bool) → nat_eq m n ≡ b → left_at m (removed n row.left) ≡ load_sum (loads_now m)
         by true e =
-            subst (λ x. left_at x (removed n row.left) ≡ load_sum (loads_now x)) (sym (alike m n e)) (remove_here row.left 0 n p.rises ∙ sym (ap load_sum here))
+            subst (λ x. left_at x (removed n row.left) ≡ load_sum (loads_now x)) (sym (equal_numbers m n e)) (remove_here row.left 0 n p.rises ∙ sym (ap load_sum here))
         by false e = remove_there row.left n m e ∙ (p.others m d ∙ ap load_sum (sym (there m e)))
 
     latest_now : (o : Option (ℕ × ℕ)) → nat_eq row.list n ≡ true → row.list ≡ begun - 1 → left_at n row.left ≤ row.left_weight → Now appended taken loads begun o row → Now appended taken loads_now begun o latest_row × (sum_now ≡ row.left_weight - left_at n row.left + 0)
     unfolding latest_row
     latest_now None e is few now =
-        let same : row.list ≡ n = alike row.list n e in
+        let same : row.list ≡ n = equal_numbers row.list n e in
         let s = p.sum_is in
         let a = now.light in
         let b : left_at n row.left ≡ load_sum (loads n) = subst (λ x. left_at x row.left ≡ load_sum (loads x)) same now.left in (
@@ -289,7 +284,7 @@ module _ (cut : ℕ → Bool) (appended : ℕ → ℕ → Bool) (taken : ℕ →
           omega (arith, s, a, b, falls, few),
         )
     latest_now (Some (list, k)) e is few now =
-        let same : row.list ≡ n = alike row.list n e in
+        let same : row.list ≡ n = equal_numbers row.list n e in
         let latest = now.latest in
         let list_is : list ≡ n = omega (arith, same, is, latest) in
         let s = p.sum_is in
@@ -328,7 +323,7 @@ module _ (cut : ℕ → Bool) (appended : ℕ → ℕ → Bool) (taken : ℕ →
     few_left None now two one true e =
         let s = p.sum_is in
         let a = now.light in
-        let b : left_at n row.left ≡ load_sum (loads n) = subst (λ x. left_at x row.left ≡ load_sum (loads x)) (sym (alike n row.list e)) now.left in
+        let b : left_at n row.left ≡ load_sum (loads n) = subst (λ x. left_at x row.left ≡ load_sum (loads x)) (sym (equal_numbers n row.list e)) now.left in
         omega (arith, s, a, b, one)
     few_left None now two one false e =
         let s = p.sum_is in
@@ -338,7 +333,7 @@ module _ (cut : ℕ → Bool) (appended : ℕ → ℕ → Bool) (taken : ℕ →
     few_left (Some (list, k)) now two one true e =
         let latest = now.latest in
         let is = p.list_is in
-        let list_is : list ≡ n = let same : n ≡ row.list = alike n row.list e in omega (arith, same, is, latest) in
+        let list_is : list ≡ n = let same : n ≡ row.list = equal_numbers n row.list e in omega (arith, same, is, latest) in
         let c : left_at n row.left ≡ 0 = subst (λ x. left_at x row.left ≡ 0) list_is now.none_left in
         omega (arith, c)
     few_left (Some (list, k)) now two one false e =
@@ -350,9 +345,6 @@ module _ (cut : ℕ → Bool) (appended : ℕ → ℕ → Bool) (taken : ℕ →
         let b = p.others n e in
         let t = two e in
         omega (arith, s, a, b, t)
-
-    flipped : (a b : ℕ) → nat_eq a b ≡ false → nat_eq b a ≡ false
-    flipped a b e = grind (arith, nat_tests)
 
     cut_by : left_at n row.left ≤ row.left_weight → (b : Bool) → nat_eq row.list n ≡ b → Paid cut_now appended taken loads_now sum_now begun present (cut_left (left_at n row.left, removed n row.left) (cond b (record row { is_cut = true; waiting = [] }) row))
     unfolding latest_row other_row
@@ -371,7 +363,7 @@ module _ (cut : ℕ → Bool) (appended : ℕ → ℕ → Bool) (taken : ℕ →
         }
     cut_by few false e =
         let s = p.sum_is in
-        let a = p.others n (flipped row.list n e) in
+        let a = p.others n (turned row.list n e) in
         record {
           list_is = p.list_is;
           cut_is = p.cut_is ∙ sym (ap (λ b. cond b true (cut row.list)) e);

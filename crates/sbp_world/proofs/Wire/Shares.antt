@@ -12,6 +12,7 @@ use Rattle.sbp_laws.specs.Budget.{share_of, shares}
 use Rattle.sbp_laws.specs.Lists.{TakenStatus, cmd_of, command_at, is_none_taken, taken_at}
 use Rattle.sbp_laws.specs.OrderLaw.{is_cut}
 use Rattle.sbp_laws.specs.Turns.{event_of}
+use Rattle.sbp_world.proofs.Common.{itself}
 
 -- what an ORB counts
 pub record Share : Type 0 where
@@ -159,11 +160,8 @@ is_appended [] = λ i n k. false
 is_appended (said (notes.Append i n k cdb buffer) ∷ past) = upd3 (is_appended past) i n k true
 is_appended (_ ∷ past) = is_appended past
 
-flip : (a b : ℕ) → nat_eq a b ≡ nat_eq b a
+pub flip : (a b : ℕ) → nat_eq a b ≡ nat_eq b a
 flip a b = grind (arith, nat_tests)
-
-itself : (a : ℕ) → nat_eq a a ≡ true
-itself a = grind (arith, nat_tests)
 
 not_true : {A : Type 0} → true ≡ false → A
 not_true e = absurd (differ e)

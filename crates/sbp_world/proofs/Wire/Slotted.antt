@@ -5,6 +5,7 @@ use Rattle.std.proofs.Common.{◌≡◌, arith, refl, sym, ◌∙◌, ap, subst,
 use Rattle.std.proofs.Math.ListN.{length-set}
 use Rattle.std.proofs.lemmas.List.{get_or-map, get_or_past, length-map}
 use Rattle.std.proofs.lemmas.List.Quantifiers.{position-Some}
+use Rattle.std.proofs.lemmas.Option.{same_Some}
 use Rattle.bus_memory.specs.Memory.{Memory}
 use Rattle.bus_memory.specs.Windows.{slot_of}
 use Rattle.orb_layout.specs.declared.status.StatusBlock.{StatusBlock}
@@ -42,9 +43,6 @@ SlottedIn s = Slotted s.slots (present_key s.present) s.lists
 -- ---- slots
 none_some : {A : Type 0} (x : A) → None ≡ Some x → ⊥
 none_some x e = cc
-
-some_is : {A : Type 0} (x y : A) → Some x ≡ Some y → x ≡ y
-some_is x y e = cc
 
 mapped : (slots : List Slot) (f : Slot → Slot) (key now : Option (ℕ × ℕ)) (begun : ℕ) → ((s : Slot) (t : TicketParts) → waiting (f s) ≡ Some t → IsOfKey key t → IsOfKey now t) → ((s : Slot) (t : TicketParts) → waiting (f s) ≡ Some t → waiting s ≡ Some t) → ((s : Slot) → (f s).last ≡ s.last) → Slotted slots key begun → Slotted (map f slots) now begun
 mapped slots f key now begun g w l h =
@@ -101,11 +99,11 @@ prepared slots u key now begun begun_now small own below more wider h = record {
     inside a b = omega (arith, a, b)
 
     waits_by : (k : ℕ) (t : TicketParts) → k < 32 → (c : Bool) → nat_eq k u.slot ≡ c → waiting (slot_in (slice_set slots u.slot (fresh u)) k) ≡ Some t → IsOfKey now t
-    waits_by k t b true c e = subst (IsOfKey now) (some_is u t (sym (ap waiting (set_here slots u.slot k (fresh u) c (inside h.size small))) ∙ e)) own
+    waits_by k t b true c e = subst (IsOfKey now) (same_Some u t (sym (ap waiting (set_here slots u.slot k (fresh u) c (inside h.size small))) ∙ e)) own
     waits_by k t b false c e = wider t (h.waits k t b (sym (ap waiting (set_there slots u.slot k (fresh u) c (inside h.size small))) ∙ e))
 
     last_by : (k : ℕ) (t : TicketParts) → k < 32 → (c : Bool) → nat_eq k u.slot ≡ c → (slot_in (slice_set slots u.slot (fresh u)) k).last ≡ Some t → t.list < begun_now
-    last_by k t b true c e = subst (λ (x : TicketParts). x.list < begun_now) (some_is u t (sym (ap (λ (s : Slot). s.last) (set_here slots u.slot k (fresh u) c (inside h.size small))) ∙ e)) below
+    last_by k t b true c e = subst (λ (x : TicketParts). x.list < begun_now) (same_Some u t (sym (ap (λ (s : Slot). s.last) (set_here slots u.slot k (fresh u) c (inside h.size small))) ∙ e)) below
     last_by k t b false c e =
         let l = h.last k t b (sym (ap (λ (s : Slot). s.last) (set_there slots u.slot k (fresh u) c (inside h.size small))) ∙ e) in
         omega (arith, l, more)
@@ -261,7 +259,7 @@ drops s = drops_for s.present s refl
 
 drop_is_for : (found : Option PresentList) (s : SlotTable) (n : ℕ) → (drop_for found s).0 ≡ Some n → (k : ℕ) × (present_key found ≡ Some (n, k))
 drop_is_for None s n e = absurd (none_some n e)
-drop_is_for (Some list) s n e = (list.tail.number, ap (λ x. Some (x, list.tail.number)) (some_is list.tail.list n e))
+drop_is_for (Some list) s n e = (list.tail.number, ap (λ x. Some (x, list.tail.number)) (same_Some list.tail.list n e))
 
 pub drop_is : (s : SlotTable) (n : ℕ) → (drop_step s).0 ≡ Some n → (k : ℕ) × (present_key s.present ≡ Some (n, k))
 unfolding drop_step

@@ -1,10 +1,10 @@
 -- Over every run what the world counts is what the history says.
-use Rattle.std.specs.Prelude.{ℕ, suc, ◌+◌, ◌*◌, ◌^◌, ◌<◌, Bool, false, List, [], ◌∷◌, ◌++◌, length, map, Some, None}
+use Rattle.std.specs.Prelude.{ℕ, suc, ◌+◌, ◌*◌, ◌^◌, ◌<◌, Bool, false, List, [], ◌∷◌, ◌++◌, length, map, None}
 use Rattle.std.proofs.Common.{◌≡◌, arith, refl, sym, ◌∙◌, ap, subst}
 use Rattle.std.proofs.lemmas.List.{get_or-replicate, length-replicate}
+use Rattle.std.proofs.lemmas.Option.{none-some}
 use Rattle.orb_list.specs.Table.{new_table, unused, waiting}
 use Rattle.orb_list.specs.declared.slot.Slot.{Slot}
-use Rattle.orb_list.specs.Tickets.{TicketParts}
 use Rattle.sbp_initiator.specs.declared.state.InitiatorState.{InitiatorState}
 use Rattle.sbp_initiator.specs.Initiators.{new_state}
 use Rattle.sbp_journal.specs.Run.{Moment, asked, said}
@@ -30,14 +30,12 @@ pub record IsSpent (h : List Moment) (most : ℕ) (w : WorldState) : Type 0 wher
   pub states : AreSlotted w.initiators
 
 -- ---- at the start
-none_some : (t : TicketParts) → None ≡ Some t → ⊥
-none_some t e = cc
 
 new_slotted : SlottedIn new_table
 new_slotted = record {
   size = length-replicate 32 unused;
-  waits = λ k t b e. absurd (none_some t (sym (ap waiting (get_or-replicate 32 k unused unused b)) ∙ e));
-  last = λ k t b e. absurd (none_some t (sym (ap (λ (s : Slot). s.last) (get_or-replicate 32 k unused unused b)) ∙ e));
+  waits = λ k t b e. absurd (none-some t (sym (ap waiting (get_or-replicate 32 k unused unused b)) ∙ e));
+  last = λ k t b e. absurd (none-some t (sym (ap (λ (s : Slot). s.last) (get_or-replicate 32 k unused unused b)) ∙ e));
 }
 
 new_states_slotted : (number : ℕ) (ready : Bool) → SlottedIn (new_state number ready).lists.slots

@@ -38,7 +38,7 @@ use Rattle.bus_transactions.proofs.Places.{new_looked}
 use Rattle.label_table.proofs.Sources.{default_in}
 use Rattle.label_table.specs.declared.place.LabelState.TheVariants as states
 use Rattle.label_table.specs.declared.place.Place.{Place}
-use Rattle.label_table.specs.declared.reply.ReplyKind.{ReplyKind}
+use Rattle.sbp_world.proofs.Wire.Entered.{not_free}
 
 -- one more behind a list
 last_at : {A : Type 0} (xs : List A) (y d : A) (k : ℕ) → k ≡ length xs → slice_index_or (xs ++ y ∷ []) k d ≡ y
@@ -108,9 +108,6 @@ first_lacks : (o : Option ℕ) (request : Request) → request_at new_requests o
 first_lacks None request e = cc
 first_lacks (Some place) request e = let z = first_blank place in cc
 
-none_waits : (kind : ReplyKind) (call : ℕ) → states.Free ≡ states.UnderWay kind call → ⊥
-none_waits kind call e = cc
-
 pub begins : (line initiators : ℕ) (ready : Bool) (units : ℕ) → initiators ≤ 4 → Stands (asked line (events.Begin initiators ready) ∷ []) (new_world initiators ready units)
 unfolding new_world started
 begins line initiators ready units few =
@@ -136,7 +133,7 @@ begins line initiators ready units few =
         sights = λ k l. ap (λ (t : Topology). t.generation) (sym (known k l));
         known_ids = λ k peer l m. ids peer m ∙ ap (λ (t : Topology). id_of t peer) (sym (known k l));
         knows = record { ours = λ s q e. cc; size = length-replicate {A = ℕ} 1600 0; room = length-replicate {A = Option Request} 1600 None; below = first_below 0; apart = first_apart; blank = λ place e. first_blank place; latest = λ s request e. absurd (first_lacks (position (nat_eq s) new_requests.serials) request e) };
-        entered = record { entry = λ node peer number kind call l m s e. absurd (none_waits kind call (sym (new_looked (λ (place : Place). place.state) states.Free refl (local_id peer) number) ∙ e)) };
+        entered = record { entry = λ node peer number kind call l m s e. absurd (not_free kind call (sym (new_looked (λ (place : Place). place.state) states.Free refl (local_id peer) number) ∙ e)) };
         fair = refl;
       };
     }

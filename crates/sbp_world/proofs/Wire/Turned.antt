@@ -35,6 +35,7 @@ use Rattle.sbp_world.proofs.Wire.Effects.{AreEffectSides, others_effects}
 use Rattle.sbp_world.proofs.Wire.Gains.{Gains, hands_out}
 use Rattle.sbp_world.proofs.Wire.OwnTells as own
 use Rattle.sbp_world.proofs.Wire.TargetTells as target_tells
+use Rattle.sbp_world.proofs.Lists.Extends.{marked_fresh}
 
 -- one note more, and behind it effects, the latest one first
 pub record Turned (first : Note) (old new : List Note) : Type 0 where
@@ -105,12 +106,9 @@ unfolding received_step
 arrives told serial s sent found l =
     subst (λ o. Arrives (received_by told o s) s) (sym found) (arrives_where (nat_eq sent.to 0) told sent s refl l)
 
-marked_by : (b : Bool) (w x : WorldState) → x.fresh ≡ w.fresh → (cond b w x).fresh ≡ w.fresh
+pub marked_by : (b : Bool) (w x : WorldState) → x.fresh ≡ w.fresh → (cond b w x).fresh ≡ w.fresh
 marked_by true w x e = refl
 marked_by false w x e = e
-
-marked_fresh : (serial : ℕ) (again : Bool) (w : WorldState) → (marked serial again w).fresh ≡ w.fresh
-marked_fresh serial again w = marked_by _ w _ refl
 
 arrived_turns : (serial : ℕ) (again : Bool) (a : Arrival) (outbox : OutboxState) (w : WorldState) → AreEffectSides outbox.sides → Delivered serial w.fresh (arrived serial again a outbox w).fresh
 unfolding arrived

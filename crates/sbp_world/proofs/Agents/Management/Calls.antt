@@ -125,7 +125,7 @@ ended_if : (b : Bool) (life : Life Purpose) (kind : ReplyKind) → cond b (ended
 ended_if true life kind e = absurd (ended_not life kind e)
 ended_if false life kind e = (refl, e)
 
-from_self : (layer : Layer Purpose) (lives : Lives) → Known layer lives → From lives layer
+pub from_self : (layer : Layer Purpose) (lives : Lives) → Known layer lives → From lives layer
 from_self layer lives k = record { lives = lives; known = k; before = λ p l kind h. h }
 
 -- the operation's transaction is its node's, and there is no other

@@ -1,5 +1,5 @@
 -- A decision of the management agent changes the table of logins as its notes do, by the ORB that it was made on.
-use Rattle.std.proofs.Common.{◌≡◌, ◌∙◌, refl, sym, ap, subst, ℕ, ◌+◌, ◌*◌, ◌^◌, ◌==◌, ◌&&◌, nat_eq, not, Bool, true, false, cond, List, length, map, set, Option, Some, None, Result, Ok, Err, arith}
+use Rattle.std.proofs.Common.{◌≡◌, ◌∙◌, refl, sym, ap, subst, ℕ, ◌+◌, ◌*◌, ◌^◌, ◌==◌, ◌&&◌, nat_eq, not, Bool, true, false, cond, List, map, set, Option, Some, None, Result, Ok, Err, arith}
 use Rattle.std.specs.Prelude.{is_none, position}
 use Rattle.std.proofs.lemmas.Bool.Decides.{nat_tests}
 use Rattle.sbp_base.specs.Quadlets.{quad}
@@ -14,7 +14,7 @@ use Rattle.login_table.proofs.Searching.{found}
 use Rattle.orb_layout.specs.declared.ask.FailCause.{FailCause}
 use Rattle.orb_layout.specs.declared.management.ManagementOrb.{ManagementOrb}
 use Rattle.orb_layout.specs.ManagementOrbs.{management_orb}
-use Rattle.orb_layout.specs.Replies.{Answer, Done, Expired, NoLabel, Payload, Refused, payload_of, write_failure}
+use Rattle.orb_layout.specs.Replies.{Answer, payload_of, write_failure}
 use Rattle.mgmt_agent.specs.declared.decision.Decision.{Decision}
 use Rattle.mgmt_agent.specs.declared.decision.Effect.{Effect}
 use Rattle.mgmt_agent.specs.declared.decision.Effect.TheVariants as effects
@@ -33,10 +33,11 @@ use Rattle.mgmt_agent.specs.Statuses.{function_of, number_of, status_of}
 use Rattle.sbp_journal.specs.declared.note.Note.TheVariants as notes
 use Rattle.sbp_journal.specs.declared.operation.FunctionWord.{FunctionWord}
 use Rattle.sbp_journal.specs.declared.operation.FunctionWord.TheVariants as words
-use Rattle.sbp_laws.specs.Targets.{Decided, at_id, bytes_in, decided_by, decided_in, keep_decided}
+use Rattle.sbp_laws.specs.Targets.{Decided, at_id, decided_by, decided_in, keep_decided}
 use Rattle.sbp_bus.specs.Words.{function_word, login_if}
 use Rattle.sbp_world.specs.Agents.Management.Offices.{Office, by_managed, by_note, placed}
 use Rattle.sbp_world.proofs.Agents.Management.Places.{one_changed, sound_apart}
+use Rattle.sbp_world.proofs.Sessions.Decisions.{bytes_are}
 
 -- ---- what the notes of a decision do
 
@@ -317,13 +318,6 @@ got_if false bytes now cause e = absurd (err_not e)
 err_got : (cause : FailCause) (now : List ℕ) → (let r : Result (List ℕ) FailCause = Err cause in r) ≡ Ok now → ⊥
 err_got cause now e = cc
 
-got_bytes : (answer : Answer) (size : ℕ) (bytes : List ℕ) → payload_of answer size ≡ Ok bytes → bytes_in answer ≡ bytes
-got_bytes (Payload given) size bytes e = got_if (length given == size) given bytes _ e
-got_bytes Done size bytes e = absurd (err_got _ bytes e)
-got_bytes (Refused rcode) size bytes e = absurd (err_got _ bytes e)
-got_bytes Expired size bytes e = absurd (err_got _ bytes e)
-got_bytes NoLabel size bytes e = absurd (err_got _ bytes e)
-
 module _ (o : Office) (m : Machine) (own : Operation) (keys : List (List ℕ)) (answer : Answer) (s : IsSound o.table.places) where
   orb_steps : (bytes : Result (List ℕ) FailCause) (operation : Operation) → operation.source ≡ own.source → operation.phase ≡ phases.Orb → payload_of answer 32 ≡ bytes → Steps o (Some operation) answer (orb_got bytes m own o.table keys)
   orb_steps (Err cause) operation same phase e = refl
@@ -331,7 +325,7 @@ module _ (o : Office) (m : Machine) (own : Operation) (keys : List (List ℕ)) (
       let orb = management_orb bytes in
       let is : decided_by (Some operation) answer ≡ Some (record { orb = orb; source = own.source; eui = 0 }) =
       ap (λ p. decided_in p operation.source answer) phase
-      ∙ ap (λ bs. Some (record { orb = management_orb bs; source = operation.source; eui = 0 })) (got_bytes answer 32 bytes e)
+      ∙ ap (λ bs. Some (record { orb = management_orb bs; source = operation.source; eui = 0 })) (bytes_are answer 32 bytes e)
       ∙ ap (λ n. Some (record { orb = orb; source = n; eui = 0 })) same in
       steps_if (reads_eui orb) o (Some operation) answer (beside o.table (eui_step m own (phases.HighEui orb) high_eui_at)) (decide_step m own orb 0 o.table keys) refl
       (decides_on o (Some operation) answer orb 0 m own keys s is)
@@ -346,7 +340,7 @@ module _ (o : Office) (m : Machine) (own : Operation) (keys : List (List ℕ)) (
       let eui : List ℕ → ℕ = λ bs. high * 2 ^ 32 + quad bs 0 in
       let is : decided_by (Some operation) answer ≡ Some (record { orb = orb; source = own.source; eui = eui bytes }) =
       ap (λ p. decided_in p operation.source answer) phase
-      ∙ ap (λ bs. Some (record { orb = orb; source = operation.source; eui = eui bs })) (got_bytes answer 4 bytes e)
+      ∙ ap (λ bs. Some (record { orb = orb; source = operation.source; eui = eui bs })) (bytes_are answer 4 bytes e)
       ∙ ap (λ n. Some (record { orb = orb; source = n; eui = eui bytes })) same in
       decides_on o (Some operation) answer orb (eui bytes) m own keys s is
 

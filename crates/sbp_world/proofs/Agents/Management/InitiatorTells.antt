@@ -1,5 +1,5 @@
 -- What an initiator tells in each call: notes of its own, none of which is of a node or of the wire.
-use Rattle.std.proofs.Common.{◌≡◌, refl, ℕ, ◌==◌, ◌&&◌, nat_lt, nat_eq, Bool, true, false, cond, List, [], ◌∷◌, length, take, replicate, Option, Some, None, Result, Ok, Err, arith}
+use Rattle.std.proofs.Common.{refl, ℕ, ◌==◌, ◌&&◌, nat_lt, Bool, true, false, cond, List, [], ◌∷◌, length, replicate, Option, Some, None, Result, Ok, Err}
 use Rattle.async_packet.specs.Labels.{LabelParts}
 use Rattle.async_packet.specs.Packet.{Packet, header_in, lock, read_block, read_block_response, read_quadlet, read_quadlet_response, lock_response, write_block, write_quadlet, write_response}
 use Rattle.label_table.specs.declared.judgement.Asked.{Asked}
@@ -27,15 +27,13 @@ use Rattle.sbp_journal.specs.declared.event.Action.TheVariants as actions
 use Rattle.sbp_journal.specs.declared.event.Cmd.{Cmd}
 use Rattle.sbp_journal.specs.declared.note.Note.{Note}
 use Rattle.sbp_journal.specs.declared.note.Note.TheVariants as notes
-use Rattle.sbp_journal.specs.declared.note.NoteBuffer.{NoteBuffer}
-use Rattle.sbp_journal.specs.declared.note.NoteBuffer.TheVariants.{Nothing, In}
 use Rattle.sbp_journal.specs.declared.operation.Operation.{Operation}
 use Rattle.sbp_journal.specs.declared.operation.Operation.TheVariants as operations
 use Rattle.sbp_journal.specs.declared.operation.OpWord.{OpWord}
 use Rattle.sbp_journal.specs.declared.operation.OpWord.TheVariants as words
 use Rattle.sbp_journal.specs.declared.side.Side.TheVariants as sides
-use Rattle.sbp_journal.specs.Buffers.{buffer_of, in_buffer, out_buffer}
-use Rattle.sbp_journal.specs.Form.{HasForm, IsAnswer, IsBuffer}
+use Rattle.sbp_journal.specs.Buffers.{buffer_of}
+use Rattle.sbp_journal.specs.Form.{HasForm, IsAnswer}
 use Rattle.sbp_journal.specs.Outgoings.{OutboxState}
 use Rattle.initiator_base.specs.declared.fifos.Fifo.{Fifo}
 use Rattle.initiator_base.specs.declared.fifos.Fifo.TheVariants as fifos
@@ -58,6 +56,7 @@ use Rattle.sbp_initiator.specs.Receiving.{addressed, answer_of, block_at, block_
 use Rattle.sbp_initiator.specs.Seeing.{all_end, interrupted, reset_step, reset_told, resets_told, see_step, seen_as, states_end}
 use Rattle.sbp_world.proofs.BlockForms.{IsKeyed, IsRead, block_keyed, ok_keyed}
 use Rattle.sbp_world.proofs.Agents.Management.Owned.{AreOwn, IsNoRun, own_more, pick_outbox}
+use Rattle.sbp_world.proofs.InitiatorForms.{buffer_has_byte}
 
 abbrev pub At : Turn → Type 0
 At t = AreOwn t.0.sides
@@ -352,22 +351,6 @@ unfolding see_step
 sees generation id target o s h = sees_as (seeing_step s.layer generation id) target o s h
 
 -- ---- actions
-
-in_has_byte : (b : Bool) (len : ℕ) → nat_eq len 0 ≡ b → IsBuffer (cond b Nothing (In len))
-in_has_byte true len e = tt
-in_has_byte false len e = grind arith
-
-out_has_byte : (bytes : List ℕ) → IsBuffer (out_buffer bytes)
-out_has_byte [] = tt
-out_has_byte (byte ∷ bytes) = omega arith
-
-pick_buffer : (b : Bool) (x y : NoteBuffer) → IsBuffer x → IsBuffer y → IsBuffer (cond b x y)
-pick_buffer true x y h i = h
-pick_buffer false x y h i = i
-
-buffer_has_byte : (cmd : Cmd) → IsBuffer (buffer_of cmd)
-buffer_has_byte cmd =
-    pick_buffer cmd.to_initiator (in_buffer cmd.length) (out_buffer (take cmd.length cmd.payload)) (in_has_byte (nat_eq cmd.length 0) cmd.length refl) (out_has_byte (take cmd.length cmd.payload))
 
 puts_as : (r : Option TicketParts × ListState) (cmd : Cmd) (o : OutboxState) (s : InitiatorState) → AreOwn o.sides → At (put_as r cmd o s)
 puts_as (None, lists) cmd o s h = h

@@ -32,13 +32,12 @@ use Rattle.sbp_journal.specs.Outgoings.{empty_outbox}
 use Rattle.async_packet.specs.Canon.{canon}
 use Rattle.async_packet.proofs.RoundTrip.{canon_spells}
 use Rattle.async_packet.proofs.Spelled.{reading_spelled}
-use Rattle.bus_transactions.specs.Judging.{facts_of, may_get}
+use Rattle.bus_transactions.specs.Judging.{facts_of}
 use Rattle.bus_transactions.specs.Rows.{kind_as}
 use Rattle.bus_transactions.proofs.FitJudged.{bytes_of, source_fits, spelled}
 use Rattle.bus_transactions.proofs.Fits.{answer_fits}
 use Rattle.bus_transactions.proofs.MoveAnswer.{answer_packet}
 use Rattle.label_table.specs.Bodies.{Gives, response_to}
-use Rattle.label_table.specs.Judging.{row_of}
 use Rattle.label_table.specs.Layer.{answering_step}
 use Rattle.mgmt_agent.specs.declared.operation.Busy.{Busy}
 use Rattle.orb_layout.specs.declared.ask.Ask.{Ask}
@@ -90,6 +89,7 @@ use Rattle.sbp_world.proofs.Agents.Management.Outs.{response_term}
 use Rattle.sbp_world.proofs.Agents.Management.Still.{ClosesOnly, gets_but, hist, ignores_still, requests_still}
 use Rattle.sbp_world.proofs.Agents.Management.Told.{office_in, term_in}
 use Rattle.sbp_world.proofs.Agents.Management.Turning.{KeepsWire, calm_turn, wire_still}
+use Rattle.sbp_world.proofs.Agents.CrewFirsts.{current_by}
 
 -- what a request asks for
 record AccessIs (p : Packet) : Type 0 where
@@ -140,7 +140,7 @@ started_manages (Err busy, m) o = refl
 pub started_asks : (m : management.Machine) (source orb : ℕ) (o : Office) → m.operation ≡ None → orb < 2 ^ 48 → FitsAsk (started_by (management.start_with m.operation m source orb) o).asks
 started_asks m source orb o e small = subst (λ x. FitsAsk (started_by (management.start_with x m source orb) o).asks) (sym e) small
 
-start_asks : (o : Office) (source orb : ℕ) → o.manager.operation ≡ None → orb < 2 ^ 48 → FitsAsk (started source orb o).asks
+pub start_asks : (o : Office) (source orb : ℕ) → o.manager.operation ≡ None → orb < 2 ^ 48 → FitsAsk (started source orb o).asks
 unfolding management.start_step
 start_asks o source orb e small = started_asks o.manager source orb o e small
 
@@ -149,7 +149,7 @@ unfolding sent_all
 one_passed start past packet number kind e v i = response_term start past v i packet number kind e
 
 -- the response that leaves first
-answer_is_one : (p : Packet) (bytes : List ℕ) (s : Scene) → s.outbox.packets ≡ [] → (answered p bytes 0 [] s).outbox.packets ≡ record { to = (header_in p).source; label = None; bytes = canon (response_to s.node.layer.node p 0 []) } ∷ []
+pub answer_is_one : (p : Packet) (bytes : List ℕ) (s : Scene) → s.outbox.packets ≡ [] → (answered p bytes 0 [] s).outbox.packets ≡ record { to = (header_in p).source; label = None; bytes = canon (response_to s.node.layer.node p 0 []) } ∷ []
 unfolding answer_step answering_step
 answer_is_one p bytes s e = ap (λ ps. ps ++ record { to = (header_in p).source; label = None; bytes = canon (response_to s.node.layer.node p 0 []) } ∷ []) e
 
@@ -253,10 +253,6 @@ module _ {past : List Moment} (start : List Disk) (w : WorldState) (h : Stands p
         managing_turn start past x.node l.law_now v x.outbox (replied (answer_in p) rested) old none source [] turned idle office refl (none_passed start past) ready l.id_small ask l.bytes l.wire.sent l.wire.serials
 
   -- ---- a request
-  -- a packet that is got is of the target's generation
-  current_by : (c n r a e : Bool) → may_get (row_of (record { is_current = c; is_for_node = n; is_response = r; is_awaited = a; is_repeated = e })) ≡ true → c ≡ true
-  current_by true n r a e m = refl
-  current_by false n r a e m = absurd (let no : false ≡ true = m in cc)
 
   module _ (p : Packet) (read : reading sent.bytes ≡ Ok p) (none : reply_kind p ≡ None) where
     record Asks : Type 0 where

@@ -51,13 +51,13 @@ use Rattle.sbp_world.proofs.Agents.Management.Passing.{keeping, keeping_self, sa
 use Rattle.sbp_world.proofs.Agents.Management.Still.{Still, hist, lapses_but, others_still}
 use Rattle.sbp_world.proofs.Agents.Management.Told.{office_in, one_note}
 
-agent_no : (place : ℕ) → Some (purposes.Agent place) ≢ Some purposes.Management
+pub agent_no : (place : ℕ) → Some (purposes.Agent place) ≢ Some purposes.Management
 agent_no place e = cc
 
-unsolicited_no : Some purposes.Unsolicited ≢ Some purposes.Management
+pub unsolicited_no : Some purposes.Unsolicited ≢ Some purposes.Management
 unsolicited_no e = cc
 
-none_no : None ≢ Some purposes.Management
+pub none_no : None ≢ Some purposes.Management
 none_no e = cc
 
 module _ (units ready : ℕ) (has : 0 < units) (start : List Disk) where

@@ -57,7 +57,7 @@ pub none_passed : (start : List Disk) (past : List Moment) → PassedOver start 
 unfolding sent_all
 none_passed start past v i = refl
 
-one_sent : (packet : Outgoing) (v : WorldState) → sent_all 0 (packet ∷ []) v ≡ sent 0 packet v
+pub one_sent : (packet : Outgoing) (v : WorldState) → sent_all 0 (packet ∷ []) v ≡ sent 0 packet v
 unfolding sent_all
 one_sent packet v = refl
 

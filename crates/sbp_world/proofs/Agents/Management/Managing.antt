@@ -70,7 +70,7 @@ quiet_says (side ∷ later) o q =
 
 -- ---- cuts and cleared units let no packet leave
 
-cut_by : (b : Bool) (place : ℕ) (cause : CutCause) (o : OutboxState) → (told_cut b place cause o).packets ≡ o.packets
+pub cut_by : (b : Bool) (place : ℕ) (cause : CutCause) (o : OutboxState) → (told_cut b place cause o).packets ≡ o.packets
 cut_by true place cause o = refl
 cut_by false place cause o = refl
 
@@ -104,7 +104,7 @@ one_clear_sends : (unit : ℕ) (s : Scene) → (clear_one unit s).outbox.packets
 unfolding clear_unit
 one_clear_sends unit s = sends_if (nat_lt unit (length s.node.units)) (clear_unit unit s) s s.outbox.packets refl refl
 
-left_sends : (x : Option ℕ) (o : OutboxState) → (tell_left x o).packets ≡ o.packets
+pub left_sends : (x : Option ℕ) (o : OutboxState) → (tell_left x o).packets ≡ o.packets
 left_sends None o = refl
 left_sends (Some login) o = refl
 

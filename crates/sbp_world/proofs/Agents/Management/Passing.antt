@@ -1,6 +1,5 @@
 -- Where the target has no turn, or nothing happens to its management, its terms stay its state.
-use Rattle.std.proofs.Common.{arith, ◌≡◌, ◌∙◌, refl, sym, ap, subst, ℕ, ◌+◌, ◌≤◌, nat_eq, true, false, cond, List, ◌∷◌, Option, Some, None}
-use Rattle.sbp_base.specs.Update.{upd}
+use Rattle.std.proofs.Common.{◌≡◌, ◌∙◌, refl, sym, ap, subst, ℕ, ◌≤◌, true, false, List, ◌∷◌, Option, Some, None}
 use Rattle.bus_transactions.specs.May.{is_reset}
 use Rattle.bus_transactions.specs.Wire.{transaction}
 use Rattle.label_table.specs.Layer.{Layer}
@@ -18,6 +17,7 @@ use Rattle.sbp_target.specs.Nodes.{NodeState}
 use Rattle.sbp_world.specs.Agents.Management.Offices.{Office, at_rest, office_of}
 use Rattle.sbp_world.specs.Agents.Management.Terms.{Awaits, IsManagementAt}
 use Rattle.sbp_world.proofs.Agents.Management.Still.{Still}
+use Rattle.sbp_world.proofs.Lists.ManageSends.{later_ids}
 
 -- what is kept of the transactions of the target
 pub record Keeping (t u : Terms) : Type 0 where
@@ -94,10 +94,6 @@ opened_kept events.Settle t e = record { generation = refl; ids = λ peer. refl;
 opened_kept events.Tick t e = record { generation = refl; ids = λ peer. refl; held = λ x kind s r h. h }
 opened_kept (events.Inject initiator bytes) t e = record { generation = refl; ids = λ peer. refl; held = λ x kind s r h. h }
 opened_kept (events.Key unit key) t e = record { generation = refl; ids = λ peer. refl; held = λ x kind s r h. h }
-
--- a reset tells the IDs of a later generation
-later_ids : (ids : ℕ → ℕ → ℕ) (bus g : ℕ) (new : ℕ → ℕ) (peer : ℕ) → g ≤ bus → upd ids (bus + 1) new g peer ≡ ids g peer
-later_ids ids bus g new peer l = ap (λ b. (cond b new (ids g)) peer) (let x : nat_eq g (bus + 1) ≡ false = grind arith in x)
 
 pub reset_kept : (line : ℕ) (physical : List ℕ) (generation : ℕ) (ms : List Moment) → (terms ms).generation 0 ≤ (terms ms).bus → Keeping (terms ms) (terms (said (notes.Reset generation) ∷ asked line (events.Reset physical) ∷ ms))
 reset_kept line physical generation ms aged = record {

@@ -10,6 +10,7 @@ use Rattle.login_table.specs.Sound.{IsSound}
 use Rattle.login_table.specs.Table.{expired_id, expired_ids, held, is_last, is_live, one_less, place_at, ticked}
 use Rattle.login_table.proofs.Searching.{within}
 use Rattle.sbp_laws.specs.Targets.{at_id, second_gone}
+use Rattle.sbp_world.proofs.Common.{itself}
 
 -- ---- one login is changed
 
@@ -20,10 +21,7 @@ pub record AreApart (places : List (Option Login)) : Type 0 where
 pub sound_apart : (places : List (Option Login)) → IsSound places → AreApart places
 sound_apart places s = record { apart = λ i j a b n e f. (s.apart i j a b n e f).ids }
 
-same_id : (n : ℕ) → nat_eq n n ≡ true
-same_id n = grind (arith, nat_tests)
-
-other_id : (m n : ℕ) → m ≢ n → nat_eq m n ≡ false
+pub other_id : (m n : ℕ) → m ≢ n → nat_eq m n ≡ false
 other_id m n d = by_test (nat_eq m n) refl
   where
     by_test : (b : Bool) → nat_eq m n ≡ b → b ≡ false
@@ -31,7 +29,7 @@ other_id m n d = by_test (nat_eq m n) refl
     by_test false e = refl
 
 pub at_own : (change : Login → Option Login) (login : Login) → at_id login.login change (Some login) ≡ change login
-at_own change login = ap (λ b. cond b (change login) (Some login)) (same_id login.login)
+at_own change login = ap (λ b. cond b (change login) (Some login)) (itself login.login)
 
 pub at_other : (id : ℕ) (change : Login → Option Login) (x : Option Login) → ((login : Login) → x ≡ Some login → login.login ≢ id) → at_id id change x ≡ x
 at_other id change None d = refl
@@ -89,7 +87,7 @@ held_id (Some own) login e = (own, (refl, same e))
         id_in None = 0
         id_in (Some l) = l.login
 
-next_below : (j k : ℕ) → j < k + 1 → nat_eq j k ≡ false → j < k
+pub next_below : (j k : ℕ) → j < k + 1 → nat_eq j k ≡ false → j < k
 next_below j k h e = grind (arith, nat_tests)
 
 -- the login of the place, if it has one, is held next
@@ -191,7 +189,7 @@ expired_there : (places : List (Option Login)) (k : ℕ) (login y : Login) → p
 expired_there [] k login y e last same = absurd (let no : None ≡ Some login = e in cc)
 expired_there (x ∷ places) zero login y e last same =
     let first : expired_id x ≡ Some login.login = ap expired_id e ∙ ap (λ b. cond b (Some login.login) None) last in
-    rw first (ap (without_ids (filter_map expired_id places)) (ap (λ b. cond b None (Some y)) (ap (λ n. nat_eq n login.login) same ∙ same_id login.login)) ∙ without_none (filter_map expired_id places))
+    rw first (ap (without_ids (filter_map expired_id places)) (ap (λ b. cond b None (Some y)) (ap (λ n. nat_eq n login.login) same ∙ itself login.login)) ∙ without_none (filter_map expired_id places))
 expired_there (x ∷ places) (suc k) login y e last same = by_first (expired_id x) refl (expired_there places k login y e last same)
   where
     by_first : (o : Option ℕ) → expired_id x ≡ o → without_ids (filter_map expired_id places) (Some y) ≡ None → without_ids (filter_map expired_id (x ∷ places)) (Some y) ≡ None

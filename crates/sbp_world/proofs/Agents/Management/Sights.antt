@@ -46,6 +46,7 @@ use Rattle.sbp_world.proofs.Agents.Management.Passing.{Keeping, awaits_kept, kee
 use Rattle.sbp_world.proofs.Agents.Management.Resting.{Rested, second_rests, seen_first, sight_rests}
 use Rattle.sbp_world.proofs.Agents.Management.Still.{Still, hist}
 use Rattle.sbp_world.proofs.Agents.Management.Told.{office_in}
+use Rattle.sbp_world.proofs.Agents.CrewSights.{flag_by}
 
 -- ---- a call that asks for nothing: what it tells, and what it is then
 module _ (units ready : ℕ) (start : List Disk) where
@@ -93,10 +94,6 @@ seen_test l g t a e = by_case (nat_lt l g) refl
 
 same_generation : (l g t : ℕ) → l ≤ g → t ≡ l → nat_lt l g ≡ false → g ≡ t
 same_generation l g t a e f = grind arith
-
-flag_by : (b : Bool) (x y : Layer Purpose) → (cond {A = Bool × Layer Purpose} b (true, x) (false, y)).0 ≡ b
-flag_by true x y = refl
-flag_by false x y = refl
 
 layer_by : (b : Bool) (x y : Layer Purpose) → b ≡ false → (cond {A = Bool × Layer Purpose} b (true, x) (false, y)).1 ≡ y
 layer_by true x y e = absurd (let no : true ≡ false = e in cc)

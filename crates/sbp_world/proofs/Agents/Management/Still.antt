@@ -1,5 +1,5 @@
 -- The transactions of the target that are under way stay so while packets leave, and while other nodes hear what is theirs.
-use Rattle.std.proofs.Common.{◌≡◌, ◌∙◌, refl, sym, ap, subst, ℕ, ◌+◌, ◌≤◌, ◌&&◌, ◌||◌, not, nat_eq, Bool, true, false, cond, List, [], ◌∷◌, ◌++◌, map, Option, Some, None, arith}
+use Rattle.std.proofs.Common.{◌≡◌, ◌∙◌, refl, sym, ap, subst, ℕ, ◌+◌, ◌≤◌, ◌||◌, not, nat_eq, Bool, true, false, cond, List, [], ◌∷◌, ◌++◌, map, Option, Some, None, arith}
 use Rattle.async_packet.specs.Fields.{rcode_of}
 use Rattle.async_packet.specs.Labels.{LabelParts}
 use Rattle.bus_transactions.specs.Sent.{AreSent}
@@ -17,6 +17,8 @@ use Rattle.sbp_journal.specs.declared.outbox.Outgoing.{Outgoing}
 use Rattle.sbp_bus.specs.Generations.{node_of, topology_at}
 use Rattle.sbp_world.specs.Sending.{asked, posted, sent, sent_all, sent_to}
 use Rattle.sbp_world.specs.Worlds.{WorldState}
+use Rattle.sbp_world.proofs.Common.{and_first}
+use Rattle.sbp_world.proofs.Hosts.Held.{pays_held}
 
 pub record Still (t u : Terms) : Type 0 where
   pub injected : (s : ℕ) → u.injected s ≡ t.injected s
@@ -38,14 +40,6 @@ still_then t u v a b = record {
 }
 
 -- ---- a packet is sent
-
-gives_held : (begun : Option Transaction) (rcode : ℕ) (t : Terms) → (gives begun rcode t).held ≡ t.held
-gives_held None rcode t = refl
-gives_held (Some u) rcode t = refl
-
-pays_held : (owed : Option Owed) (given : ℕ → Option Sending) (s : ℕ) (q : Sending) (t : Terms) → (pays owed given s q t).held ≡ t.held
-pays_held None given s q t = refl
-pays_held (Some owed) given s q t = gives_held (asked_in (given owed.serial)) _ t
 
 gives_ids : (begun : Option Transaction) (rcode : ℕ) (t : Terms) → (gives begun rcode t).ids ≡ t.ids
 gives_ids None rcode t = refl
@@ -87,10 +81,6 @@ free_not : (h : Held) (kind : Kind) (s : ℕ) → sent_law.is_free h ≡ true �
 free_not free kind s e f = absurd (let no : free ≡ waits kind s = f in cc)
 free_not (waits k r) kind s e f = absurd (let no : false ≡ true = e in cc)
 free_not rests kind s e f = absurd (let no : rests ≡ waits kind s = f in cc)
-
-and_first : (a b : Bool) → (a && b) ≡ true → a ≡ true
-and_first true b e = refl
-and_first false b e = absurd (let no : false ≡ true = e in cc)
 
 -- what is sent begins no transaction that is under way
 abbrev pub IsFree : Terms → Sending → Type 0
@@ -166,7 +156,7 @@ module _ (past : List Moment) where
 
 -- ---- a packet is heard
 
-judges_held : (u : Option Transaction) (cause : Option Cause) (s : ℕ) (q : Sending) (t : Terms) → (judges u cause s q t).held ≡ t.held
+pub judges_held : (u : Option Transaction) (cause : Option Cause) (s : ℕ) (q : Sending) (t : Terms) → (judges u cause s q t).held ≡ t.held
 judges_held None cause s q t = refl
 judges_held (Some u) cause s q t = refl
 

@@ -15,7 +15,7 @@ use Rattle.mgmt_agent.specs.Machine.{source_in}
 use Rattle.rbc_disk.specs.Disk.{Disk}
 use Rattle.sbp_journal.specs.Run.{Moment, said}
 use Rattle.sbp_journal.specs.Transactions.{Kind, Sending, Transaction, begun_by, between, part_of, request}
-use Rattle.sbp_journal.specs.Wire.{Owed, Terms, asked_in, begins, gives, kind_in, pays, puts, sends, terms, waits}
+use Rattle.sbp_journal.specs.Wire.{Owed, Terms, asked_in, begins, kind_in, pays, puts, sends, terms, waits}
 use Rattle.sbp_journal.specs.declared.note.Note.TheVariants as notes
 use Rattle.sbp_journal.specs.declared.note.Note.TheVariants as notes
 use Rattle.sbp_journal.specs.Outgoings.{OutboxState}
@@ -37,6 +37,7 @@ use Rattle.sbp_world.proofs.Agents.Management.Outs.{quiet_out}
 use Rattle.sbp_world.proofs.Agents.Management.Requests.{IsRequestFor, kind_for, no_lock_for}
 use Rattle.sbp_world.proofs.Agents.Management.Still.{Still, hist}
 use Rattle.sbp_world.proofs.Agents.Management.Told.{office_in}
+use Rattle.sbp_world.proofs.Hosts.Held.{gives_held}
 
 -- ---- a turn that leaves the management alone
 
@@ -98,14 +99,9 @@ pub asks_id : (layer : Layer Purpose) (peer : ℕ) (body : Body) (purpose : Purp
 unfolding asking_step
 asks_id layer peer body purpose = asking_id (peer_place peer layer) layer peer (unlabelled layer peer body) purpose
 
--- a request that is sent: its transaction waits
-gave : (begun : Option Transaction) (rcode : ℕ) (v : Terms) → (gives begun rcode v).held ≡ v.held
-gave None rcode v = refl
-gave (Some x) rcode v = refl
-
 paid : (owed : Option Owed) (given : ℕ → Option Sending) (s : ℕ) (q : Sending) (v : Terms) (u : Transaction) → (pays owed given s q v).held u ≡ v.held u
 paid None given s q v u = refl
-paid (Some owed) given s q v u = ap (λ h. h u) (gave (asked_in (given owed.serial)) _ v)
+paid (Some owed) given s q v u = ap (λ h. h u) (gives_held (asked_in (given owed.serial)) _ v)
 
 sent_waits : (s : ℕ) (q : Sending) (t : Terms) (u : Transaction) (number : ℕ) (kind : Kind) → begun_by q ≡ Some u → part_of q.bytes ≡ request number kind → (sends s q t).held u ≡ waits kind s
 sent_waits s q t u number kind e p =

@@ -17,6 +17,8 @@ use Rattle.sbp_journal.specs.Run.{Moment}
 use Rattle.sbp_laws.specs.Lists.{named_in}
 use Rattle.sbp_laws.specs.StatusLaw.{if_waits, taking_of}
 use Rattle.sbp_world.proofs.Hosts.Statuses.Folds.{untrue}
+use Rattle.sbp_world.proofs.Common.{and_second}
+use Rattle.sbp_world.proofs.Hosts.Brings.{pick_read}
 
 -- ---- a block that is read
 
@@ -24,10 +26,6 @@ pub record IsRead (management : Bool) (bytes : List ℕ) (block : StatusBlock) :
   pub src : src_of bytes ≡ block.src
   pub kind : kind_of management bytes ≡ Some block.kind
   pub orb : block.orb ≡ offset_at bytes 0
-
-pick_read : {G : Type 0} (b : Bool) (fault : OrbFault) (rest : Result StatusBlock OrbFault) (block : StatusBlock) → (rest ≡ Ok block → G) → cond b (Err fault) rest ≡ Ok block → G
-pick_read true fault rest block g e = cc
-pick_read false fault rest block g e = g e
 
 read_row : (management : Bool) (bytes : List ℕ) (kind : Option StatusKind) (block : StatusBlock) → kind_of management bytes ≡ kind → in_row bytes kind ≡ Ok block → IsRead management bytes block
 read_row management bytes None block k e = cc
@@ -110,17 +108,13 @@ place_slot offset e = by_tests (nat_eq offset (start (windows.Management 0))) (n
     by_tests false true f g e = let same : offset ≡ start (windows.Management 1) = grind (arith, nat_tests) in ap slot_of same ∙ second_place
     by_tests false false f g e = untrue e
 
-second_of : (a b : Bool) → a && b ≡ true → b ≡ true
-second_of true b e = e
-second_of false b e = untrue e
-
 pub placed_none : (past : List Moment) (i : ℕ) (bytes : List ℕ) → names_place bytes ≡ true → taking_of past i (read_block false bytes) ≡ []
 placed_none past i bytes e = by_read (read_block false bytes) refl
   where
     by_read : (r : Result StatusBlock OrbFault) → read_block false bytes ≡ r → taking_of past i r ≡ []
     by_read (Err fault) r = refl
     by_read (Ok block) r =
-        let at : slot_of block.orb ≡ None = ap slot_of (is_read_by false bytes block r).orb ∙ place_slot (offset_at bytes 0) (second_of (nat_le 8 (length bytes)) (is_managed_orb (offset_at bytes 0)) e) in
+        let at : slot_of block.orb ≡ None = ap slot_of (is_read_by false bytes block r).orb ∙ place_slot (offset_at bytes 0) (and_second (nat_le 8 (length bytes)) (is_managed_orb (offset_at bytes 0)) e) in
         ap (λ (found : Option ℕ). if_waits past i (named_in past i found) block.kind) at
 
 pick_taking : (past : List Moment) (i : ℕ) (b : Bool) (fault : OrbFault) (rest : Result StatusBlock OrbFault) → taking_of past i rest ≡ [] → taking_of past i (cond b (Err fault) rest) ≡ []

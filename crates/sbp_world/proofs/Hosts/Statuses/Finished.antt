@@ -19,7 +19,7 @@ use Rattle.sbp_laws.specs.Turns.{EachMoment, EachTurn, EachTurnBefore}
 use Rattle.sbp_world.specs.Histories.{history_of}
 use Rattle.sbp_world.specs.Runs.{Run}
 use Rattle.sbp_world.specs.Hosts.Runs.{IsRun}
-use Rattle.sbp_world.proofs.Hosts.Deliveries.{deliveries_law}
+use Rattle.sbp_world.proofs.Hosts.Deliveries.{deliveries_law, some_same}
 use Rattle.sbp_world.proofs.Hosts.Prepares.{itself}
 use Rattle.sbp_world.specs.Hosts.Statuses.Finished.{FinishedLaw, IsTakenHere, OnceTakenLaw}
 use Rattle.sbp_world.specs.Hosts.Statuses.Taking.{TakenOf, TakesDue, of_one}
@@ -128,13 +128,10 @@ module _ (line : ℕ) (run : Run) (q : IsRun run) where
   abbrev most_of : ℕ
   most_of = run.initiators
 
-  to_same : {a b : ℕ} → Some a ≡ Some b → a ≡ b
-  to_same e = cc
-
   receivers : (later past : List Moment) (serial : ℕ) → later ++ said (notes.Got serial) ∷ past ≡ all → (j : ℕ) → receiver_in ((terms past).sent serial) ≡ Some (suc j) → j < run.initiators
   receivers later past serial e j f =
       let d = deliveries_law.deliveries line run q later past serial e in
-      d.inside j (to_same (ap receiver_in (sym d.was) ∙ f))
+      d.inside j (some_same (ap receiver_in (sym d.was) ∙ f))
 
   module _ (wild : ℕ → Bool) where
     none_taken : (rest : List Note) → Inside most_of rest → AreSame most_of (takings_in rest) [] → of_others wild (takings_in rest) ≡ []

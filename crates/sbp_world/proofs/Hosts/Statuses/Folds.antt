@@ -2,6 +2,7 @@
 use Rattle.std.proofs.Common.{arith, ◌≡◌, refl, sym, ◌∙◌, ap, ℕ, zero, suc, ◌≤◌, nat_eq, not, Bool, true, false, cond, List, [], ◌∷◌, Option, Some, None, Result, Ok, Err}
 use Rattle.std.proofs.lemmas.Bool.Decides.{nat_tests}
 use Rattle.std.specs.List.{AllByRecursion}
+use Rattle.std.proofs.lemmas.Bool.{not-true}
 use Rattle.orb_layout.specs.declared.fault.OrbFault.{OrbFault}
 use Rattle.orb_layout.specs.declared.status.StatusBlock.{StatusBlock}
 use Rattle.orb_layout.specs.declared.status.StatusKind.{StatusKind}
@@ -31,10 +32,6 @@ untrue e = absurd (differ e)
   where
     differ : false ≡ true → ⊥
     differ e = cc
-
-not_true : (b : Bool) → not b ≡ true → b ≡ false
-not_true true e = untrue e
-not_true false e = refl
 
 -- ---- notes that take nothing of an initiator, and say of no packet that it was got
 
@@ -106,7 +103,7 @@ module _ (i : ℕ) where
   silent_each : (note : Note) (past : List Moment) → is_silent i note ≡ true → EachTurn (TakesDue i) past → EachTurn (TakesDue i) (said note ∷ past)
   silent_each (notes.Got serial) past e h = untrue e
   silent_each (notes.Taken j n k status answer) past e h =
-      let other = ap (λ (b : Bool). cond b (record { initiator = j; one = orb n k; status = status } ∷ []) []) (not_true (nat_eq i j) e) in
+      let other = ap (λ (b : Bool). cond b (record { initiator = j; one = orb n k; status = status } ∷ []) []) (not-true (nat_eq i j) e) in
       same_rest past [] (notes.Taken j n k status answer ∷ []) (sym other) h
   silent_each (notes.Ignored serial cause) past e h = (refl, h)
   silent_each (notes.TimedOut serial) past e h = (refl, h)
@@ -117,11 +114,11 @@ module _ (i : ℕ) where
   silent_each note past e h = same_rest past [] (note ∷ []) refl h
 
   silent_moments : (note : Note) (past : List Moment) → is_silent i note ≡ true → EachMoment (TakenOf i) past → EachMoment (TakenOf i) (said note ∷ past)
-  silent_moments (notes.Taken j n k status answer) past e h = (λ same. untrue (sym (not_true (nat_eq i j) e) ∙ same), h)
+  silent_moments (notes.Taken j n k status answer) past e h = (λ same. untrue (sym (not-true (nat_eq i j) e) ∙ same), h)
   silent_moments note past e h = (tt, h)
 
   silent_count : (note : Note) (past : List Moment) (n k : ℕ) → is_silent i note ≡ true → takes past i n k ≡ count_of (taken_at past i n k) → takes (said note ∷ past) i n k ≡ count_of (taken_at (said note ∷ past) i n k)
-  silent_count (notes.Taken j m l status answer) past n k e h = by_test (nat_eq i j) (not_true (nat_eq i j) e) _ _
+  silent_count (notes.Taken j m l status answer) past n k e h = by_test (nat_eq i j) (not-true (nat_eq i j) e) _ _
     where
       by_test : (b : Bool) → b ≡ false → (x : ℕ) (u : Option TakenStatus) → cond b x (takes past i n k) ≡ count_of (cond b u (taken_at past i n k))
       by_test true f x u = untrue (sym f)

@@ -35,7 +35,6 @@ use Rattle.sbp_initiator.proofs.Histories.Called.{count_law}
 use Rattle.sbp_world.specs.Hosts.Calls.{behind}
 use Rattle.sbp_world.specs.Hosts.Core.{Core}
 use Rattle.sbp_world.specs.Hosts.Worlds.{IsHost}
-use Rattle.sbp_world.proofs.Hosts.Beside.{begins}
 use Rattle.sbp_world.proofs.Hosts.Carries.{Carries, Does, Tells}
 use Rattle.sbp_world.proofs.Hosts.Cores.{got_told}
 use Rattle.sbp_world.proofs.Hosts.Hosted.{Cored, cored_carried, first_cored}
@@ -50,6 +49,7 @@ use Rattle.sbp_world.proofs.Hosts.Statuses.Folds.{Counted, apart_on, asked_on, c
 use Rattle.sbp_world.proofs.Hosts.Statuses.Hearing.{Hears, hears_so, ignored_silent, ignores, others_silent, takes_none, takes_one}
 use Rattle.sbp_world.proofs.Hosts.Statuses.Housed.{got_access}
 use Rattle.sbp_world.proofs.Hosts.Statuses.Quiet.{AreCalmSides, act_calm, all_silent, expire_calm, own_calm, see_calm}
+use Rattle.sbp_world.proofs.Hosts.Runs.{first_host}
 
 -- ---- a status that is taken
 
@@ -143,7 +143,7 @@ module _ (ready : Bool) (past : List Moment) (i serial generation : ℕ) (bytes 
 
 -- ---- what lines carry on
 
-few_before : (a b : ℕ) → a ≤ b → b ≤ 2 ^ 32 → a ≤ 2 ^ 32
+pub few_before : (a b : ℕ) → a ≤ b → b ≤ 2 ^ 32 → a ≤ 2 ^ 32
 few_before a b l f = omega arith
 
 -- What a history says of the statuses that an initiator takes, where its login numbers have 32 bits.
@@ -230,15 +230,11 @@ module _ (ready : Bool) where
 none_counted : (i : ℕ) → Counted [] i
 none_counted i = record { each = tt; taken = tt; count = λ n k. refl }
 
-first_hosted : (line i initiators : ℕ) (ready : Bool) → IsHost (said (notes.Begin initiators ready) ∷ asked line (events.Begin initiators ready) ∷ []) i (new_state i ready)
-unfolding new_state
-first_hosted line i initiators ready = record { number = refl; rows = begins line i initiators ready; pin = refl }
-
 pub first_held : (line i initiators : ℕ) (ready : Bool) → i < initiators → Held ready (said (notes.Begin initiators ready) ∷ asked line (events.Begin initiators ready) ∷ []) i (new_state i ready)
 first_held line i initiators ready b =
     let start = asked line (events.Begin initiators ready) ∷ [] in
     record {
       cored = first_cored line i initiators ready b;
-      host = first_hosted line i initiators ready;
+      host = first_host line i initiators ready;
       takes = λ f. silent_on i (notes.Begin initiators ready) start refl (asked_on i line (events.Begin initiators ready) [] (none_counted i));
     }

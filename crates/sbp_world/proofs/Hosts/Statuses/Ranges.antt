@@ -96,11 +96,11 @@ said_inside most (note ∷ ns) past h k = said_inside most ns past h k
 
 -- ---- a run
 
-lines_same : (run : Run) (x entries : List Entry) → AreLines run entries → AreLines (front_of run x) entries
+pub lines_same : (run : Run) (x entries : List Entry) → AreLines run entries → AreLines (front_of run x) entries
 lines_same run x [] h = tt
 lines_same run x (e ∷ before) h = (h.0, lines_same run x before h.1)
 
-moments_same : (line : ℕ) (run : Run) (x entries : List Entry) → moments_behind line (front_of run x) entries ≡ moments_behind line run entries
+pub moments_same : (line : ℕ) (run : Run) (x entries : List Entry) → moments_behind line (front_of run x) entries ≡ moments_behind line run entries
 moments_same line run x [] = refl
 moments_same line run x (e ∷ before) = ap (λ ms. map said e.notes ++ asked e.line e.event ∷ ms) (moments_same line run x before)
 

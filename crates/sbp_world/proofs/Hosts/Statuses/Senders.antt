@@ -2,7 +2,8 @@
 use Rattle.std.proofs.Common.{arith, ◌≡◌, refl, sym, ◌∙◌, ap, subst, ◌⊎◌, inl, inr, ℕ, suc, ◌<◌, ◌≤◌, ◌&&◌, not, nat_eq, Bool, true, false, cond, List, [], ◌∷◌, ◌++◌, length, map, Option, Some, None, Result, Ok, Err, append_assoc}
 use Rattle.std.proofs.lemmas.Bool.Decides.{nat_tests}
 use Rattle.std.specs.Prelude.{IsSomeAnd}
-use Rattle.async_packet.specs.Packet.{Packet, header_in, lock, lock_response, read_block, read_block_response, read_quadlet, read_quadlet_response, write_block, write_quadlet, write_response}
+use Rattle.std.proofs.lemmas.Bool.{not-false}
+use Rattle.async_packet.specs.Packet.{Packet, header_in}
 use Rattle.async_packet.specs.Reading.{reading}
 use Rattle.async_packet.specs.declared.fault.PacketFault.{PacketFault}
 use Rattle.bus_memory.specs.declared.window.Window.TheVariants as windows
@@ -50,7 +51,7 @@ use Rattle.sbp_world.specs.Hosts.Handing.{history}
 use Rattle.sbp_world.specs.Hosts.Runs.{IsRun}
 use Rattle.sbp_world.proofs.Hosts.Answering.{request_of}
 use Rattle.sbp_world.proofs.Hosts.AnsweringLines.{all_sound}
-use Rattle.sbp_world.proofs.Hosts.Deliveries.{deliveries_law}
+use Rattle.sbp_world.proofs.Hosts.Deliveries.{deliveries_law, some_same}
 use Rattle.sbp_world.proofs.Hosts.GotRequests.{request_got}
 use Rattle.sbp_world.proofs.Hosts.Knows.{sent_stays}
 use Rattle.sbp_world.proofs.Hosts.Runs.{are_told}
@@ -61,12 +62,10 @@ use Rattle.sbp_world.proofs.Hosts.Statuses.Brings.{ignored_got}
 use Rattle.sbp_world.proofs.Hosts.Statuses.Finished.{finished_law}
 use Rattle.sbp_world.proofs.Hosts.Statuses.Folds.{untrue}
 use Rattle.sbp_world.proofs.Hosts.Statuses.Hearing.{served}
+use Rattle.sbp_world.proofs.Common.{none_is}
+use Rattle.sbp_world.proofs.Lists.StatusKnown.{writes_no_rom}
 
 -- ---- a write that an initiator gets is of its target
-
-not_so : (b : Bool) → not b ≡ false → b ≡ true
-not_so true e = refl
-not_so false e = untrue (sym e)
 
 other_first : (b : Bool) (x y : Judged × Turn) → (x.0 ≡ judgements.Got → ⊥) → (cond b x y).0 ≡ judgements.Got → b ≡ false
 other_first true x y n e = absurd (n e)
@@ -74,22 +73,11 @@ other_first false x y n e = refl
 
 of_target : (p : Packet) (s : InitiatorState) → reads_rom p ≡ false → is_foreign p s ≡ false → (header_in p).source ≡ s.target
 of_target p s none e =
-    let same : nat_eq (header_in p).source s.target ≡ true = not_so (nat_eq (header_in p).source s.target) (ap (λ (b : Bool). not b && not (nat_eq (header_in p).source s.target)) (sym none) ∙ e) in
+    let same : nat_eq (header_in p).source s.target ≡ true = not-false (nat_eq (header_in p).source s.target) (ap (λ (b : Bool). not b && not (nat_eq (header_in p).source s.target)) (sym none) ∙ e) in
     grind (arith, nat_tests)
 
 no_read : {A : Type 0} (access : Access) (found : Access) → Some found ≡ Some access → found.is_write ≡ false → access.is_write ≡ true → A
 no_read access found e none w = let same : found ≡ access = cc in untrue (sym none ∙ (ap (λ (a : Access). a.is_write) same ∙ w))
-
-writes_no_rom : (p : Packet) (access : Access) → access_of p ≡ Some access → access.is_write ≡ true → reads_rom p ≡ false
-writes_no_rom (write_quadlet header offset value) access e w = refl
-writes_no_rom (write_block header offset payload) access e w = refl
-writes_no_rom (read_quadlet header offset) access e w = no_read access _ e refl w
-writes_no_rom (read_block header offset count) access e w = no_read access _ e refl w
-writes_no_rom (lock header offset extended payload) access e w = refl
-writes_no_rom (write_response header rcode) access e w = refl
-writes_no_rom (read_quadlet_response header rcode value) access e w = refl
-writes_no_rom (read_block_response header rcode payload) access e w = refl
-writes_no_rom (lock_response header rcode extended payload) access e w = refl
 
 got_own : (p : Packet) (access : Access) (bytes : List ℕ) (s : InitiatorState) → access_of p ≡ Some access → access.is_write ≡ true → (request_step p bytes empty_outbox s).0 ≡ judgements.Got → (header_in p).source ≡ s.target
 got_own p access bytes s a w got =
@@ -142,14 +130,8 @@ record IsSpelled (read : Result Packet PacketFault) (access : Access) : Type 0 w
   is : read ≡ Ok packet
   asks : access_of packet ≡ Some access
 
-no_access : {A : Type 0} (access : Access) → None ≡ Some access → A
-no_access access e = absurd (differ e)
-  where
-    differ : None ≡ Some access → ⊥
-    differ e = cc
-
 spelled : (read : Result Packet PacketFault) (access : Access) → access_in (spelled_by read) ≡ Some access → IsSpelled read access
-spelled (Err fault) access e = no_access access e
+spelled (Err fault) access e = none_is access e
 spelled (Ok p) access e = record { packet = p; is = refl; asks = e }
 
 record IsOne (found : Option Access) (P : Access → Type 0) : Type 0 where
@@ -196,9 +178,6 @@ module _ (line : ℕ) (run : Run) (earlier : List Entry) (q : IsRun (front_of ru
 
 -- ---- a status that is taken
 
-same_number : {a b : ℕ} → Some a ≡ Some b → a ≡ b
-same_number e = cc
-
 module _ (line : ℕ) (run : Run) (q : IsRun run) (later past : List Moment) (i n k : ℕ) (status : StatusKind) (answer : List ℕ) (e : later ++ said (notes.Taken i n k status answer) ∷ past ≡ history_of line run) where
   abbrev moment : Moment
   moment = said (notes.Taken i n k status answer)
@@ -223,7 +202,7 @@ module _ (line : ℕ) (run : Run) (q : IsRun run) (later past : List Moment) (i 
       ∙ (ap (λ (x : ℕ → Option Sending). x serial) (sent_stays ((terms taken.before).sent serial) serial (terms taken.before)) ∙ d.was)
 
   to_is : d.was_got.sent.to ≡ suc i
-  to_is = same_number (sym (ap receiver_in now_sent) ∙ taken.to_it)
+  to_is = some_same (sym (ap receiver_in now_sent) ∙ taken.to_it)
 
   abbrev w : WorldState
   w = (after_all d.told (begun (after (beginning run) d.earlier))).world

@@ -13,7 +13,7 @@ use Rattle.sbp_laws.specs.Terms.{appends}
 use Rattle.sbp_world.specs.Hosts.Fits.{AreRows, IfLast, IsOf, LastFits, StateFits}
 use Rattle.sbp_world.specs.Hosts.Rows.{name, name_in, present_in}
 
-all_three : (a b c : Bool) → a ≡ true → b ≡ true → c ≡ true → (a && b && c) ≡ true
+pub all_three : (a b c : Bool) → a ≡ true → b ≡ true → c ≡ true → (a && b && c) ≡ true
 all_three true true true e f g = refl
 all_three true true false e f g = cc
 all_three true false c e f g = cc

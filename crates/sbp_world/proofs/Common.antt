@@ -1,0 +1,90 @@
+-- What many proofs of this crate cite of truth values, numbers, options and lists, and of nothing else.
+use Rattle.std.proofs.Common.{arith, ◌≡◌, refl, sym, ap, ℕ, ◌<◌, ◌≤◌, nat_eq, nat_lt, ◌==◌, ◌&&◌, Bool, true, false, cond, List, [], ◌∷◌, ◌++◌, map, length, Option, Some, None}
+use Rattle.std.proofs.lemmas.Bool.{false≢true}
+use Rattle.std.proofs.lemmas.Bool.Decides.{nat_tests}
+use Rattle.std.proofs.lemmas.Option.{none-some}
+use Rattle.sbp_journal.specs.Run.{Moment, said}
+use Rattle.sbp_journal.specs.declared.note.Note.{Note}
+use Rattle.sbp_world.specs.Agents.Management.Terms.{DeliversMore}
+use Rattle.sbp_world.specs.Hosts.Runs.{more_deliveries}
+
+-- ---- what is not
+pub untrue : {A : Type 0} → false ≡ true → A
+untrue e = absurd (false≢true e)
+
+pub none_is : {A B : Type 0} (x : B) → None ≡ Some x → A
+none_is x e = absurd (none-some x e)
+
+pub some_none : {A B : Type 0} (x : B) → Some x ≡ None → A
+some_none x e = absurd (none-some x (sym e))
+
+-- ---- truth values
+pub and_first : (a b : Bool) → (a && b) ≡ true → a ≡ true
+and_first true b e = refl
+and_first false b e = e
+
+pub and_second : (a b : Bool) → (a && b) ≡ true → b ≡ true
+and_second true b e = e
+and_second false b e = untrue e
+
+pub cond_on : {A : Type 0} (b : Bool) (x y : A) → b ≡ true → cond b x y ≡ x
+cond_on true x y e = refl
+cond_on false x y e = untrue e
+
+pub cond_off : {A : Type 0} (b : Bool) (x y : A) → b ≡ false → cond b x y ≡ y
+cond_off true x y e = untrue (sym e)
+cond_off false x y e = refl
+
+-- ---- numbers
+pub itself : (n : ℕ) → nat_eq n n ≡ true
+itself n = grind (arith, nat_tests)
+
+pub same_number : (n : ℕ) → (n == n) ≡ true
+same_number n = grind (arith, nat_tests)
+
+pub equal : (a b : ℕ) → (a == b) ≡ true → a ≡ b
+equal a b e = grind (arith, nat_tests)
+
+pub equal_numbers : (a b : ℕ) → nat_eq a b ≡ true → a ≡ b
+equal_numbers a b e = grind (arith, nat_tests)
+
+pub turned : (a b : ℕ) → nat_eq a b ≡ false → nat_eq b a ≡ false
+turned a b e = grind (arith, nat_tests)
+
+pub is_inside : (m n : ℕ) → m < n → nat_lt m n ≡ true
+is_inside m n l = grind arith
+
+pub least : (n m : ℕ) → m ≡ n → n ≤ m
+least n m e = omega arith
+
+-- ---- lists
+pub no_bytes : (bytes : List ℕ) → length bytes ≡ 0 → bytes ≡ []
+no_bytes [] e = refl
+no_bytes (x ∷ bytes) e = absurd (omega (arith, e))
+
+pub moments_split : (a b c : List Moment) → a ++ (b ++ c) ≡ (a ++ b) ++ c
+moments_split [] b c = refl
+moments_split (m ∷ a) b c = ap (λ ms. m ∷ ms) (moments_split a b c)
+
+pub moments_joined : (a b c : List Moment) → (a ++ b) ++ c ≡ a ++ (b ++ c)
+moments_joined a b c = sym (moments_split a b c)
+
+pub moment_joined : (a : List Moment) (m : Moment) (b : List Moment) → (a ++ m ∷ []) ++ b ≡ a ++ m ∷ b
+moment_joined [] m b = refl
+moment_joined (x ∷ a) m b = ap (λ ms. x ∷ ms) (moment_joined a m b)
+
+pub notes_joined : (a b c : List Note) → (a ++ b) ++ c ≡ a ++ (b ++ c)
+notes_joined [] b c = refl
+notes_joined (n ∷ a) b c = ap (λ ns. n ∷ ns) (notes_joined a b c)
+
+pub said_split : (a b : List Note) (past : List Moment) → map said (a ++ b) ++ past ≡ map said a ++ (map said b ++ past)
+said_split [] b past = refl
+said_split (n ∷ a) b past = ap (λ ms. said n ∷ ms) (said_split a b past)
+
+pub said_joined : (a b : List Note) (past : List Moment) → map said a ++ (map said b ++ past) ≡ map said (a ++ b) ++ past
+said_joined a b past = sym (said_split a b past)
+
+-- ---- lines that deliver
+pub delivers : (most : Option ℕ) → DeliversMore (more_deliveries most)
+delivers (Some count) = tt
+delivers None = tt
