@@ -24,12 +24,12 @@ use Rattle.sbp_world.specs.Runs.{AreEntries, Entry, Run, after, beginning}
 use Rattle.sbp_world.specs.Settling.{MayAll, after_all}
 use Rattle.sbp_world.specs.Wire.Lines.{AreLines}
 use Rattle.sbp_world.specs.Worlds.{Scene, WorldState, begun, initiator_at, without_notes}
-use Rattle.sbp_world.proofs.Agents.CrewRuns.{agents_between_law, agents_run_law, lines_same, moments_same}
+use Rattle.sbp_world.proofs.Agents.CrewRuns.{agents_between_law, agents_run_law}
 use Rattle.sbp_world.proofs.Agents.Enabling.{enabled_between_law, enabled_law}
 use Rattle.sbp_world.proofs.Agents.Holders.{are_held, holders_between_law, holders_law, seats_after}
 use Rattle.sbp_world.proofs.Agents.Management.Holding.{Holding}
 use Rattle.sbp_world.proofs.Agents.Management.Lines.{all_heard, opens}
-use Rattle.sbp_world.proofs.Agents.Management.Runs.{are_told, no_repeats, not_reset}
+use Rattle.sbp_world.proofs.Agents.Management.Runs.{no_repeats, not_reset}
 use Rattle.sbp_world.proofs.Agents.Management.Still.{hist}
 use Rattle.sbp_world.proofs.Agents.Registering.{enabled_terms_between_law, enabled_terms_law}
 use Rattle.sbp_world.proofs.Agents.Seating.{opened as seats_opened}
@@ -39,10 +39,11 @@ use Rattle.sbp_world.proofs.Hosts.Carried.{between_runs, of_runs}
 use Rattle.sbp_world.proofs.Hosts.Hosted.{host_law}
 use Rattle.sbp_world.proofs.Hosts.LoginCounts.{logins_few}
 use Rattle.sbp_world.proofs.Hosts.OrbRuns.{Orbs, orbs_between, orbs_of_runs}
-use Rattle.sbp_world.proofs.Hosts.Runs.{count_after, count_between, run_law}
+use Rattle.sbp_world.proofs.Hosts.Runs.{count_after, count_between, run_law, are_told}
 use Rattle.sbp_world.proofs.Hosts.StepLaws.{step_law}
 use Rattle.sbp_world.proofs.Lists.Courses.{more_than_one}
 use Rattle.sbp_world.proofs.Lists.OpenProved.{taken_lists_law}
+use Rattle.sbp_world.proofs.Lists.JoinLaws.{moments_same, lines_same}
 
 -- an initiator is what a list of its calls makes of a new one
 pub record HasCalls (i : ℕ) (s : InitiatorState) : Type 0 where

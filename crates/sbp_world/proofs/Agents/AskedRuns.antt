@@ -6,7 +6,7 @@ use Rattle.sbp_world.specs.Runs.{after, beginning}
 use Rattle.sbp_world.specs.Settling.{after_all}
 use Rattle.sbp_world.specs.Worlds.{begun}
 use Rattle.sbp_world.proofs.Agents.Management.Lines.{all_heard, opens}
-use Rattle.sbp_world.proofs.Agents.Management.Runs.{are_told, holds_after, no_repeats, not_reset}
+use Rattle.sbp_world.proofs.Agents.Management.Runs.{holds_after, no_repeats, not_reset}
 use Rattle.sbp_world.proofs.Agents.Management.Still.{hist}
 use Rattle.sbp_world.specs.Agents.Agents.{AreAgentsAt}
 use Rattle.sbp_world.specs.Agents.AskedRuns.{AreAskedAt, AskedBetweenLaw, AskedRunLaw}
@@ -14,6 +14,7 @@ use Rattle.sbp_world.specs.Agents.Holders.{AreHeldAt}
 use Rattle.sbp_world.proofs.Agents.AskedAgents.{are_asked}
 use Rattle.sbp_world.proofs.Agents.CrewRuns.{agents_between_law, agents_run_law}
 use Rattle.sbp_world.proofs.Agents.Holders.{holders_between_law, holders_law}
+use Rattle.sbp_world.proofs.Hosts.Runs.{are_told}
 
 pub asked_run_law : AskedRunLaw
 asked_run_law line run few has small size short all fit =

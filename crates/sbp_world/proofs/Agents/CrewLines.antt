@@ -33,7 +33,7 @@ use Rattle.sbp_world.specs.Settling.{MayAll, MayNext, after_all, delivered_at, d
 use Rattle.sbp_world.specs.Settling as settling
 use Rattle.sbp_world.specs.Worlds.{Scene, WorldState, begun, with_note, with_target, without_notes}
 use Rattle.sbp_world.specs.Wire.Lines.{IsLine}
-use Rattle.sbp_world.proofs.Wire.Comes.{own_inside, own_outside, received_is, to_own, to_zero}
+use Rattle.sbp_world.proofs.Wire.Comes.{own_inside, own_outside, received_is, to_own, to_zero, to_suc as not_zero}
 use Rattle.sbp_world.proofs.Wire.Holding.{Sound}
 use Rattle.sbp_world.proofs.Wire.Nodes.{handed_alike, marked_alike}
 use Rattle.sbp_world.proofs.Wire.ToldBytes.{AreTold}
@@ -48,7 +48,7 @@ use Rattle.sbp_world.specs.Agents.Crews.{with_requests}
 use Rattle.sbp_world.proofs.Agents.Asides.{asides_law}
 use Rattle.sbp_world.proofs.Agents.CrewDelivery.{delivered_crew}
 use Rattle.sbp_world.proofs.Agents.CrewOthers.{got_out, settled_ends, stopped_ends}
-use Rattle.sbp_world.proofs.Agents.CrewPass.{AllSites, Crewed, IsSite, acts, injects, keys_line, loses, not_zero, own_crew, refuses, resets, same_crew, sights, ticks_line, times_out}
+use Rattle.sbp_world.proofs.Agents.CrewPass.{AllSites, Crewed, IsSite, acts, injects, keys_line, loses, own_crew, refuses, resets, same_crew, sights, ticks_line, times_out}
 use Rattle.sbp_world.proofs.Agents.Known.{known_over_delivery}
 
 -- what a line tells of runs, as its deliveries begin

@@ -57,6 +57,7 @@ use Rattle.sbp_world.proofs.Agents.CrewOthers.{lapsed_out, posts_still, seen_out
 use Rattle.sbp_world.proofs.Agents.CrewSights.{key_crew, second_crew, sight_crew}
 use Rattle.sbp_world.proofs.Agents.Known.{AreSent, known_over_key, known_over_lapse, known_over_own, known_over_second, known_over_sight}
 use Rattle.sbp_world.proofs.Agents.Purposes.{g, law}
+use Rattle.sbp_world.proofs.Wire.Comes.{to_suc}
 
 -- what is known as a delivery begins: the units of the terms are those of the target, with its media, and who has a place is its login's initiator
 pub record IsSite (start : List Disk) (past : List Moment) (s : Scene) : Type 0 where
@@ -73,10 +74,6 @@ pub record Crewed (start : List Disk) (past : List Moment) (w : WorldState) : Ty
   pub requests : List Request
   pub are : AreOf requests (over (term_in start past w)).agents w.target
   pub sent : AreSent requests w.target w.requests
-
--- a packet of another node's
-pub not_zero : (n i : ℕ) → n ≡ suc i → nat_eq n 0 ≡ false
-not_zero n i e = grind arith
 
 module _ (units ready : ℕ) (has : 0 < units) (start : List Disk) where
   abbrev C : List Moment → WorldState → Type 0
@@ -149,7 +146,7 @@ module _ (units ready : ℕ) (has : 0 < units) (start : List Disk) where
     injects_to line from i bytes e (Some to) =
         let v = with_note (notes.Injected (w.store.last + 1)) w in
         let one : term_in start past v ≡ t = going_still (notes.Injected (w.store.last + 1)) t idle in
-        let two : term_in start past (posted from to true bytes w) ≡ term_in start past v = posts_still start past from to bytes v (not_zero from i e) (ap (λ (x : Target). x.reply) one ∙ idle) in
+        let two : term_in start past (posted from to true bytes w) ≡ term_in start past v = posts_still start past from to bytes v (to_suc from i e) (ap (λ (x : Target). x.reply) one ∙ idle) in
         same_crew w (posted from to true bytes w) (ap (λ (x : Target). (over x).agents) (two ∙ one)) refl refl c
 
     pub injects : (line i : ℕ) (bytes : List ℕ) → C past (inject_line line i bytes w)
@@ -159,7 +156,7 @@ module _ (units ready : ℕ) (has : 0 < units) (start : List Disk) where
     -- an initiator sees a generation
     sees_own : {more : ℕ} (i : ℕ) → Sound past more (see_line (suc i) w) → C past (see_line (suc i) w)
     unfolding see_line nodes.sees
-    sees_own {more} i sound = by (nat_eq (suc i) 0) (not_zero (suc i) i refl) sound
+    sees_own {more} i sound = by (nat_eq (suc i) 0) (to_suc (suc i) i refl) sound
       where
         told_world : WorldState
         told_world = with_seen (suc i) (told_seen (suc i) w)
@@ -169,7 +166,7 @@ module _ (units ready : ℕ) (has : 0 < units) (start : List Disk) where
         by false e sound =
             let turn : Turn = see_step told_world.generations.latest.generation (id_of told_world.generations.latest (suc i)) (id_of told_world.generations.latest 0) empty_outbox (initiator_at told_world (suc i - 1)) in
             let v = with_initiator (suc i - 1) turn.1 told_world in
-            let is_over : term_in start past v ≡ over t = seen_out start (hist past w) (suc i) w.generations.latest.generation (not_zero (suc i) i refl) in
+            let is_over : term_in start past v ≡ over t = seen_out start (hist past w) (suc i) w.generations.latest.generation (to_suc (suc i) i refl) in
             own_crew w h i 0 turn.0 v
             (own.sees told_world.generations.latest.generation (id_of told_world.generations.latest (suc i)) (id_of told_world.generations.latest 0) empty_outbox (initiator_at told_world (suc i - 1)) tt)
             (ap (λ (x : Target). x.reply) is_over ∙ (over_idle t).reply) (ap (λ (x : Target). (over x).agents) is_over ∙ asides_law.twice t) refl refl sound c
@@ -181,7 +178,7 @@ module _ (units ready : ℕ) (has : 0 < units) (start : List Disk) where
         sender_out : (i : ℕ) → request.node ≡ suc i → (so : Option Sending) → (terms (hist past w)).sent serial ≡ so → is_serial (sender_in so) 0 ≡ false
         sender_out i e None s = refl
         sender_out i e (Some q) s =
-            not_zero q.from i (from_asked start w h.sound.stands (g units ready has start w h) (law units ready has start w h) h.at serial request found q s ∙ e)
+            to_suc q.from i (from_asked start w h.sound.stands (g units ready has start w h) (law units ready has start w h) h.at serial request found q s ∙ e)
 
         lapses_own : {more : ℕ} (i j : ℕ) → request.node ≡ suc i → (r : Bool × Turn) → own.At r.1 → Sound past more (timed_out line serial request.node (at_initiator j r w)) → C past (timed_out line serial request.node (at_initiator j r w))
         lapses_own {more} i j e (true, turn) told sound =
@@ -245,7 +242,7 @@ module _ (units ready : ℕ) (has : 0 < units) (start : List Disk) where
             subst (λ b. C past (timed_out line serial request.node (if b then packets.at_target (target_expired request w.target) w else initiator_expires request w))) (sym is_zero)
             (lapses_target e (subst (λ b. Sound past more (timed_out line serial request.node (if b then packets.at_target (target_expired request w.target) w else initiator_expires request w))) is_zero sound))
         lapses_at {more} (suc i) e sound =
-            let other = not_zero request.node i e in
+            let other = to_suc request.node i e in
             subst (λ b. C past (timed_out line serial request.node (if b then packets.at_target (target_expired request w.target) w else initiator_expires request w))) (sym other)
             (own_if i (request.node - 1) e (nat_lt (request.node - 1) (length w.initiators)) (subst (λ b. Sound past more (timed_out line serial request.node (if b then packets.at_target (target_expired request w.target) w else initiator_expires request w))) other sound))
 

@@ -21,7 +21,7 @@ use Rattle.sbp_world.specs.Agents.Management.Terms.{DeliversMore}
 use Rattle.sbp_world.proofs.Agents.Management.Begins.{first_holds, first_past}
 use Rattle.sbp_world.proofs.Agents.Management.Holding.{Holding}
 use Rattle.sbp_world.proofs.Agents.Management.Lines.{line_holds, opens}
-use Rattle.sbp_world.proofs.Agents.Management.Runs.{are_told, no_repeats, not_reset}
+use Rattle.sbp_world.proofs.Agents.Management.Runs.{no_repeats, not_reset}
 use Rattle.sbp_world.proofs.Agents.Management.Still.{hist}
 use Rattle.sbp_world.specs.Agents.Agents.{AgentsBetweenLaw, AgentsRunLaw, AreAgentsAt, ArePurposedAt, SerialsBetweenLaw, SerialsLaw}
 use Rattle.sbp_world.specs.Agents.Holders.{IsHeld, IsOf}
@@ -33,6 +33,8 @@ use Rattle.sbp_world.proofs.Agents.Notes.{notes_law}
 use Rattle.sbp_world.specs.Agents.Serials.{AreHandedAt}
 use Rattle.sbp_world.proofs.Agents.Runs.{handed_between_law, handed_law}
 use Rattle.sbp_world.proofs.Agents.Units.{units_between_law}
+use Rattle.sbp_world.proofs.Lists.JoinLaws.{moments_same, lines_same}
+use Rattle.sbp_world.proofs.Hosts.Runs.{are_told}
 
 -- ---- a new world
 first_crew : (line n : ℕ) (ready : Bool) (units : ℕ) (start : List Disk) → Crewed start (first_past line n ready) (new_world n ready units)
@@ -98,14 +100,6 @@ line_sites start past line (events.Inject initiator bytes) told s m u = tt
 line_sites start past line (events.Key unit key) told s m u = tt
 
 -- ---- runs
--- with other lines
-pub moments_same : (line : ℕ) (run : Run) (all entries : List Entry) → moments_behind line (record run { entries = all }) entries ≡ moments_behind line run entries
-moments_same line run all [] = refl
-moments_same line run all (e ∷ before) = ap (λ ms. map said e.notes ++ asked e.line e.event ∷ ms) (moments_same line run all before)
-
-pub lines_same : (run : Run) (all entries : List Entry) → AreLines run entries → AreLines (record run { entries = all }) entries
-lines_same run all [] l = tt
-lines_same run all (e ∷ before) l = (l.0, lines_same run all before l.1)
 
 pub record CrewAfter (line : ℕ) (run : Run) (entries : List Entry) (w : WorldState) : Type 0 where
   pub past : List Moment

@@ -65,13 +65,14 @@ use Rattle.sbp_world.proofs.Agents.Management.Calm as calm
 use Rattle.sbp_world.proofs.Agents.Management.Calm.{Calm, From}
 use Rattle.sbp_world.proofs.Agents.Management.Managing.{decision_stands}
 use Rattle.sbp_world.proofs.Agents.Management.Lines.{all_heard, opens}
-use Rattle.sbp_world.proofs.Agents.Management.Runs.{are_told, holds_after, no_repeats, not_reset}
+use Rattle.sbp_world.proofs.Agents.Management.Runs.{holds_after, no_repeats, not_reset}
 use Rattle.sbp_world.proofs.Agents.Management.Still.{hist}
 use Rattle.sbp_world.specs.Agents.Enabled.{AreLive, EnabledBetweenLaw, EnabledLaw, HasLive}
 use Rattle.sbp_world.proofs.Agents.Enabled.{Enabled, accesses_by, clears_from, clears_one, cuts_all, cuts_placed, lapses, replies, set_enabled}
 use Rattle.sbp_world.proofs.Agents.Hiring.{reply_hires}
 use Rattle.sbp_world.proofs.Agents.Serves.{ask_keeps, start_keeps}
 use Rattle.sbp_world.proofs.Agents.Sparing.{Spares, reply_spares}
+use Rattle.sbp_world.proofs.Hosts.Runs.{are_told}
 
 same_desks : (Live : ℕ → Type 0) (node now : NodeState) → now.desks ≡ node.desks → Enabled Live node → Enabled Live now
 same_desks Live node now e h = subst (λ (ds : List Desk). (place : ℕ) → (slice_index_or ds place new_desk).is_enabled ≡ true → Live place) (sym e) h

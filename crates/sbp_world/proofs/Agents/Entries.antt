@@ -1,11 +1,9 @@
 -- What the requests that nodes send make of those that the bus has: each stands at the place of its node, its peer and its label, with its serial.
-use Rattle.std.proofs.Common.{arith, ◌≡◌, ◌∙◌, ◌⊎◌, refl, sym, ap, subst, inl, inr, ℕ, zero, suc, ◌+◌, ◌<◌, nat_eq, nat_lt, Bool, true, false, cond, List, [], ◌∷◌, length, Option, Some, None}
+use Rattle.std.proofs.Common.{arith, ◌≡◌, ◌∙◌, ◌⊎◌, refl, sym, ap, subst, inl, inr, ℕ, zero, suc, ◌+◌, ◌<◌, nat_eq, Bool, true, false, List, [], ◌∷◌, length, Option, Some, None}
 use Rattle.std.specs.Prelude.{position, slice_index_or}
-use Rattle.std.specs.List.{position_or_len}
 use Rattle.std.proofs.lemmas.Grind.{get_or-set_at}
 use Rattle.std.proofs.lemmas.List.{get_or-set_other, length-set}
 use Rattle.std.proofs.lemmas.List.Quantifiers.{position-Some}
-use Rattle.std.proofs.lemmas.List.Sums.{position_or_len_is}
 use Rattle.async_packet.specs.Labels.{LabelParts}
 use Rattle.packet_store.specs.Stored.{Stored}
 use Rattle.sbp_bus.specs.declared.requests.Request.{Request as BusRequest}
@@ -24,32 +22,12 @@ use Rattle.sbp_world.proofs.Wire.Alike.{sent_alike}
 use Rattle.sbp_world.specs.Agents.Crews.{Has, Request, with_request, with_requests}
 use Rattle.sbp_world.specs.Agents.Hands.{AllLeave}
 use Rattle.sbp_world.proofs.Agents.Serials.{Within, requests_within}
-use Rattle.sbp_world.proofs.Common.{equal_numbers, is_inside}
+use Rattle.sbp_world.proofs.Common.{equal_numbers}
+use Rattle.sbp_world.proofs.Wire.Latest.{differ_by, found_at}
 
 -- ---- numbers
 
-differ_by : (a b : ℕ) → nat_eq a b ≡ false → a ≡ b → ⊥
-differ_by a b e f = let x : nat_eq a b ≡ true = grind arith in cc
-
-other_by : (a b : ℕ) → (a ≡ b → ⊥) → nat_eq a b ≡ false
-other_by a b differs = by_test (nat_eq a b) refl
-  where
-    by_test : (x : Bool) → nat_eq a b ≡ x → nat_eq a b ≡ false
-    by_test true e = absurd (differs (equal_numbers a b e))
-    by_test false e = e
-
-same_by : (a b : ℕ) → a ≡ b → nat_eq a b ≡ true
-same_by a b e = grind arith
-
 -- ---- what is found by a serial
--- a serial that stands at one place alone
-found_at : (requests : RequestsState) (place : ℕ) → place < length requests.serials → ((k : ℕ) → k < place → slice_index_or requests.serials place 0 ≡ slice_index_or requests.serials k 0 → ⊥) → find requests (slice_index_or requests.serials place 0) ≡ slice_index_or requests.requests place None
-found_at requests place inside apart =
-    let s = slice_index_or requests.serials place 0 in
-    let here : position_or_len (nat_eq s) requests.serials ≡ place =
-    position_or_len_is (nat_eq s) requests.serials place 0 (omega arith) (λ k l. other_by s (slice_index_or requests.serials k 0) (apart k l)) (λ l. same_by s s refl) in
-    ap (request_at requests)
-    (ap (λ n. cond (nat_lt n (length requests.serials)) (Some n) None) here ∙ ap (λ b. cond b (Some place) None) (is_inside place (length requests.serials) inside))
 
 pub found_here : (requests : RequestsState) → length requests.serials ≡ 1600 → ((one two : ℕ) → 0 < slice_index_or requests.serials one 0 → slice_index_or requests.serials one 0 ≡ slice_index_or requests.serials two 0 → one ≡ two) → (place : ℕ) → place < 1600 → 0 < slice_index_or requests.serials place 0 → find requests (slice_index_or requests.serials place 0) ≡ slice_index_or requests.requests place None
 found_here requests size apart place small written =

@@ -35,7 +35,7 @@ use Rattle.sbp_world.proofs.Wire.ToldBytes.{happened_fits}
 use Rattle.sbp_world.proofs.Agents.Management.Begins.{first_holds}
 use Rattle.sbp_world.proofs.Agents.Management.Holding.{Holding, good_of, known_id, same_id}
 use Rattle.sbp_world.proofs.Agents.Management.Lines.{all_heard, opens}
-use Rattle.sbp_world.proofs.Agents.Management.Runs.{are_told, holds_after, no_repeats, not_reset}
+use Rattle.sbp_world.proofs.Agents.Management.Runs.{holds_after, no_repeats, not_reset}
 use Rattle.sbp_world.proofs.Agents.Management.Still.{hist}
 use Rattle.sbp_world.specs.Agents.Holders.{AreHeldAt, HoldersBetweenLaw, HoldersLaw, IsHeld, IsLiveOf, IsOf}
 use Rattle.sbp_world.proofs.Agents.Peers.{Peer, found_leaves, is_peer, peer_of}
@@ -43,6 +43,7 @@ use Rattle.sbp_world.proofs.Agents.Placed.{Has, IsHolder, Placed}
 use Rattle.sbp_world.proofs.Agents.Seats.{Seats, of_peer}
 use Rattle.sbp_world.proofs.Agents.Seating.{all_seats, line_seats, opened}
 use Rattle.sbp_world.proofs.Agents.Telling.{Of}
+use Rattle.sbp_world.proofs.Hosts.Runs.{are_told}
 
 -- ---- the initiator of an ID by the terms: no other has it
 pub finds : (more k i : ℕ) (t : Terms) (id : ℕ) → ((m : ℕ) → id_for t 0 (m + 1) ≡ id → m ≡ i) → id_for t 0 (i + 1) ≡ id → k ≤ i → i < k + more → initiator_from more k t id ≡ i

@@ -55,8 +55,9 @@ use Rattle.sbp_world.proofs.Agents.Hiring.{Hires, HiresIn, IsEntry, reply_hires}
 use Rattle.sbp_world.proofs.Agents.Lists.{AreNoEntries, all_over, at_other, at_own, crew_more, entries_more, idle_packets, idle_sides, quiet_entries}
 use Rattle.sbp_world.proofs.Agents.Serves.{ask_keeps, failed_crew}
 use Rattle.sbp_world.proofs.Agents.Steps.{abort_alike}
-use Rattle.sbp_world.proofs.Agents.Walk.{other_id, same_id}
+use Rattle.sbp_world.proofs.Agents.Walk.{same_id}
 use Rattle.sbp_world.proofs.Lists.BusyCuts.{in_reset}
+use Rattle.sbp_world.proofs.Agents.Management.Places.{other_id}
 
 pub in_place : (place : ℕ) → place < 8 → place_in place ≡ Some place
 in_place place b = by (nat_lt place 8) (grind (arith, nat_tests))
@@ -150,7 +151,7 @@ unit_test unit places p = by (place_at places p) refl
     by None e = rw e refl
     by (Some login) e = rw e refl
 
-clears_desks : (left unit : ℕ) (s : Scene) → (clear_from left unit s).node.desks ≡ s.node.desks
+pub clears_desks : (left unit : ℕ) (s : Scene) → (clear_from left unit s).node.desks ≡ s.node.desks
 unfolding clear_from clear_unit
 clears_desks zero unit s = refl
 clears_desks (suc left) unit s = clears_desks left (unit + 1) (clear_unit unit s)

@@ -63,7 +63,7 @@ use Rattle.sbp_world.proofs.Agents.Management.Holding.{Holding, marked_hist, was
 use Rattle.sbp_world.proofs.Agents.Management.InitiatorTells as own
 use Rattle.sbp_world.proofs.Agents.Management.Lines.{all_heard, line_holds, opens}
 use Rattle.sbp_world.proofs.Agents.Management.Owned.{AreOwn, IsNoRun, IsOwn}
-use Rattle.sbp_world.proofs.Agents.Management.Runs.{are_told, holds_after, no_repeats, not_reset}
+use Rattle.sbp_world.proofs.Agents.Management.Runs.{holds_after, no_repeats, not_reset}
 use Rattle.sbp_world.proofs.Agents.Management.Still.{hist}
 use Rattle.sbp_world.specs.Agents.Enabled.{AreTermsOf, EnabledTermsBetweenLaw, EnabledTermsLaw}
 use Rattle.sbp_world.proofs.Agents.Agreeing.{delivery_agrees, lapse_agrees, second_agrees, sight_agrees}
@@ -72,6 +72,7 @@ use Rattle.sbp_world.proofs.Agents.Heeding.{same_registers}
 use Rattle.sbp_world.proofs.Agents.Holders.{seats_after}
 use Rattle.sbp_world.proofs.Agents.Seats.{Seats}
 use Rattle.sbp_world.proofs.Agents.Seating.{all_seats, opened as seats_opened}
+use Rattle.sbp_world.proofs.Hosts.Runs.{are_told}
 
 first_bytes : (told : List (Option Told)) → AreTold told → BytesTold (first_told told)
 first_bytes [] t = tt

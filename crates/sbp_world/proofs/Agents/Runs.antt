@@ -6,7 +6,7 @@ use Rattle.sbp_world.specs.Runs.{after, beginning}
 use Rattle.sbp_world.specs.Settling.{after_all}
 use Rattle.sbp_world.specs.Worlds.{begun}
 use Rattle.sbp_world.proofs.Agents.Management.Lines.{all_heard, opens}
-use Rattle.sbp_world.proofs.Agents.Management.Runs.{are_told, holds_after, no_repeats, not_reset}
+use Rattle.sbp_world.proofs.Agents.Management.Runs.{holds_after, no_repeats, not_reset}
 use Rattle.sbp_world.proofs.Agents.Management.Still.{hist}
 use Rattle.sbp_world.specs.Agents.Fresh.{LabelsBetweenLaw, LabelsLaw}
 use Rattle.sbp_world.proofs.Agents.Fresh.{labels_new}
@@ -16,6 +16,7 @@ use Rattle.sbp_world.specs.Agents.Purposes.{ArePurposesAt, BetweenLaw, PurposesL
 use Rattle.sbp_world.specs.Agents.Serials.{AreHandedAt, HandedBetweenLaw, HandedLaw}
 use Rattle.sbp_world.proofs.Agents.Handed.{are_handed}
 use Rattle.sbp_world.proofs.Agents.Purposes.{are_purposes}
+use Rattle.sbp_world.proofs.Hosts.Runs.{are_told}
 
 pub purposes_law : PurposesLaw
 purposes_law line run few has small size short all fit =

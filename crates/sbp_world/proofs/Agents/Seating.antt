@@ -44,13 +44,10 @@ use Rattle.sbp_world.proofs.Agents.Management.InitiatorTells as own
 use Rattle.sbp_world.proofs.Agents.Management.Lines.{all_heard, opens}
 use Rattle.sbp_world.proofs.Agents.Peers.{injects_on, lost_kept, marked_kept}
 use Rattle.sbp_world.proofs.Agents.Seats.{Seats, delivery_seats, key_seats, lapse_seats, marked_same, own_hands, sight_seats, tick_seats}
+use Rattle.sbp_world.proofs.Wire.Sound.{first_fits}
 
 copied : (w : WorldState) (line number : ℕ) → Seats w → Seats (refused line number w)
 copied w line number q = record { placed = q.placed; peers = q.peers; leaves = q.leaves }
-
-first_bytes : (told : List (Option Told)) → AreTold told → BytesTold (first_told told)
-first_bytes [] t = tt
-first_bytes (told ∷ before) t = t.0
 
 module _ (units ready : ℕ) (has : 0 < units) (start : List Disk) where
   -- ---- an initiator acts
@@ -179,7 +176,7 @@ module _ (units ready : ℕ) (has : 0 < units) (start : List Disk) where
     heard = heard_by (found_sent serial s.world.store.kept) refl
 
   delivers_if : {past : List Moment} {lines : ℕ} (b : Bool) (line serial : ℕ) (again : Bool) (told : List (Option Told)) (s : Scene) → AreTold told → Holding units ready start past lines s.world → Seats s.world → Seats (delivered_if b line serial again told s).world
-  delivers_if true line serial again told s t h q = heard s h q serial again (first_told told) (first_bytes told t)
+  delivers_if true line serial again told s t h q = heard s h q serial again (first_told told) (first_fits told t)
   delivers_if false line serial again told s t h q = copied s.world line no_packet q
 
   next_heard : {past : List Moment} {lines : ℕ} (told : Option Told) → BytesTold told → (s : Scene) → Holding units ready start past lines s.world → Seats s.world → (o : Option ℕ) → Seats (delivered_at o told s).world

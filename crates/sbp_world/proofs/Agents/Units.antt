@@ -17,13 +17,14 @@ use Rattle.sbp_world.specs.Wire.Lines.{AreLines}
 use Rattle.sbp_world.specs.Worlds.{WorldState, begun}
 use Rattle.sbp_world.proofs.Wire.ToldBytes.{happened_fits}
 use Rattle.sbp_world.proofs.Agents.Management.Lines.{opens}
-use Rattle.sbp_world.proofs.Agents.Management.Runs.{are_told, holds_after, no_repeats, not_reset}
+use Rattle.sbp_world.proofs.Agents.Management.Runs.{holds_after, no_repeats, not_reset}
 use Rattle.sbp_world.proofs.Agents.Management.Still.{hist}
 use Rattle.sbp_world.specs.Agents.Units.{AreUnitsAt, UnitsBetweenLaw, UnitsLaw}
 use Rattle.sbp_world.proofs.Agents.Holders.{seats_after}
 use Rattle.sbp_world.proofs.Agents.Seating.{opened as opened_seats}
 use Rattle.sbp_world.proofs.Agents.UnitsLines.{all_units, line_units, opened}
 use Rattle.sbp_world.proofs.Agents.UnitsRun.{Match}
+use Rattle.sbp_world.proofs.Hosts.Runs.{are_told}
 
 -- ---- a new world
 

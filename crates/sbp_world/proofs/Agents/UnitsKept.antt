@@ -70,7 +70,7 @@ loss_runs phases.WritingLastStatus m cause = refl
 loss_runs phases.Suspended m cause = refl
 loss_runs phases.Dead m cause = refl
 
-runs_if : (b : Bool) (x y : AgentStep × Machine) → x.0.ran ≡ None → y.0.ran ≡ None → (cond b x y).0.ran ≡ None
+pub runs_if : (b : Bool) (x y : AgentStep × Machine) → x.0.ran ≡ None → y.0.ran ≡ None → (cond b x y).0.ran ≡ None
 runs_if true x y h i = h
 runs_if false x y h i = i
 

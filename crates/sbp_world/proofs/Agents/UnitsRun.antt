@@ -37,7 +37,7 @@ use Rattle.sbp_target.specs.Telling.{orb_of, tell_ran}
 use Rattle.target_base.specs.Logins.{if_served}
 use Rattle.target_base.specs.Places.{mask_of}
 use Rattle.sbp_target.proofs.Histories.Calling.{Good}
-use Rattle.sbp_world.proofs.Agents.UnitsKept.{In, Keeps, announces_by, follows, keeps_steps, notes_tell}
+use Rattle.sbp_world.proofs.Agents.UnitsKept.{In, Keeps, announces_by, follows, keeps_steps, notes_tell, runs_if}
 use Rattle.sbp_world.proofs.Agents.UnitsMarked.{came_not, others_mask, run_came}
 use Rattle.sbp_world.proofs.Agents.UnitsTold.{HasLogin, Makes, Spares, by_resets, by_run, by_side, spare_more, unit_for}
 
@@ -80,10 +80,6 @@ main_none place plain told phases.WritingLastStatus m answer e = absurd (let no 
 main_none place plain told phases.Suspended m answer e = absurd (let no : false ≡ true = e in cc)
 main_none place plain told phases.Dead m answer e = absurd (let no : false ≡ true = e in cc)
 
-pub none_if : (b : Bool) (x y : AgentStep × Machine) → x.0.ran ≡ None → y.0.ran ≡ None → (cond b x y).0.ran ≡ None
-none_if true x y h i = h
-none_if false x y h i = i
-
 pub ahead_none : (m : Machine) (r : Result (List ℕ) FailCause) → (ahead_read m r).0.ran ≡ None
 ahead_none m (Ok bytes) = refl
 ahead_none m (Err cause) = refl
@@ -91,7 +87,7 @@ ahead_none m (Err cause) = refl
 pub reset_none : (m : Machine) (place : ℕ) (plain : PlainDisk) (told : Option Told) (which : Which) (answer : Answer) → is_reset (state_in m.phase) ≡ true → (reply_step m place plain told which answer).0.ran ≡ None
 unfolding reply_step
 reset_none m place plain told Main answer e = main_none place plain (told_or told) m.phase m answer e
-reset_none m place plain told Ahead answer e = none_if (is_ahead m.ahead) (ahead_step m answer) (quiet, m) (ahead_none m (payload_of answer 32)) refl
+reset_none m place plain told Ahead answer e = runs_if (is_ahead m.ahead) (ahead_step m answer) (quiet, m) (ahead_none m (payload_of answer 32)) refl
 
 -- a place whose agent runs a command has a live login
 live_by : (node : NodeState) (g : Good node) (place : ℕ) → place < 8 → (b : Bool) → is_reset (state_in (desk_at node place).agent.phase) ≡ b → (plain : PlainDisk) (told : Option Told) (which : Which) (answer : Answer) (outcome : Outcome) → (reply_step (desk_at node place).agent place plain told which answer).0.ran ≡ Some outcome → HasLogin node.logins.places place

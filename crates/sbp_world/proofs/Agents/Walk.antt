@@ -36,16 +36,10 @@ use Rattle.sbp_world.specs.Agents.Crews.{AreOne, Request, by_packet, by_packets,
 use Rattle.sbp_world.proofs.Agents.Serials.{Paired, Turning, more_has, number_after, one_more, sent_within}
 use Rattle.sbp_world.proofs.Agents.Writes.{HasBody, asked_writes, has_body, no_body}
 use Rattle.sbp_world.proofs.Agents.Management.Requests.{writes_body}
+use Rattle.sbp_world.proofs.Agents.Management.Places.{other_id}
 
 pub same_id : (n : ℕ) → nat_eq n n ≡ true
 same_id n = grind (arith, nat_tests)
-
-pub other_id : (p q : ℕ) → p ≢ q → nat_eq p q ≡ false
-other_id p q d = by (nat_eq p q) refl
-  where
-    by : (b : Bool) → nat_eq p q ≡ b → b ≡ false
-    by true e = absurd (d (grind (arith, nat_tests)))
-    by false e = refl
 
 -- ---- desks
 

@@ -2,7 +2,7 @@
 use Rattle.std.proofs.Common.{◌≡◌, refl, sym, ◌∙◌, ap, subst, ℕ, ◌+◌, nat_lt, Bool, true, false, cond, List, [], ◌∷◌, Option, Some, None}
 use Rattle.async_packet.specs.Labels.{LabelParts}
 use Rattle.label_table.specs.declared.reply.ReplyKind.{ReplyKind}
-use Rattle.label_table.specs.History.{Life, Told, and_before, ended, forgotten, life, not_begun, over, under_way}
+use Rattle.label_table.specs.History.{Told, and_before, forgotten, life, not_begun, under_way}
 use Rattle.label_table.specs.History as wire
 use Rattle.label_table.specs.Layer.{Layer, expiring_step, judging_step, seeing_step, seen_in_generation}
 use Rattle.sbp_initiator.specs.declared.purpose.Purpose.{Purpose}
@@ -26,6 +26,7 @@ use Rattle.sbp_world.proofs.Hosts.Layered.{LayerLeft, expire_left, read, receive
 use Rattle.sbp_world.proofs.Hosts.Lives.{At, AskedAt, Called, ask_at, asked_now, at_life, expire_at, judge_at, was_asked}
 use Rattle.sbp_world.proofs.Hosts.Pointed.{expired_called, judged_called, stale_is}
 use Rattle.sbp_world.proofs.Hosts.Pointing.{at_same}
+use Rattle.sbp_world.proofs.Pointers.Finds.{none_ended}
 
 -- each one is with this peer
 abbrev pub Aims : Layer Purpose → ℕ → Type 0
@@ -48,12 +49,6 @@ left_aims l target now c (read body act asked step) h = λ peer m q a. by_asked 
     by_asked : (peer m : ℕ) (q : Option Purpose) → AskedAt l target asked (purposes.Rom act) peer m q → peer ≡ target
     by_asked peer m q (asked_now p n e) = p
     by_asked peer m q (was_asked a) = h peer m q a
-
--- a later generation leaves none
-pub none_ended : (x : Life Purpose) (kind : ReplyKind) (purpose : Option Purpose) → ended x ≡ under_way kind purpose → ⊥
-none_ended not_begun kind purpose e = cc
-none_ended (under_way that q) kind purpose e = cc
-none_ended over kind purpose e = cc
 
 seen_none : (layer : Layer Purpose) (generation id : ℕ) → Called layer → nat_lt layer.generation generation ≡ true → (peer number : ℕ) (purpose : Option Purpose) → At (seen_in_generation layer generation id) peer number purpose → ⊥
 unfolding seeing_step

@@ -35,7 +35,7 @@ use Rattle.sbp_world.proofs.Hosts.Acts.{Goes}
 use Rattle.sbp_world.proofs.Hosts.AnswerPlans.{PlansHold, names, names_of, plans_appended}
 use Rattle.sbp_world.proofs.Hosts.AnswerTakes.{taken_answer}
 use Rattle.sbp_world.proofs.Hosts.AnswerTold.{AllTaken, Answers, AreUntaken, apart_untaken, taken_on, taken_there, taken_told, untaken_told}
-use Rattle.sbp_world.proofs.Hosts.ByteActs.{AreKept, fresh, is_ok_slot, low, others_kept, rest_kept, small, told_kept}
+use Rattle.sbp_world.proofs.Hosts.ByteActs.{AreKept, fresh, low, others_kept, rest_kept, small, told_kept}
 use Rattle.sbp_world.proofs.Hosts.ByteRuns.{Bytes, bytes_carried, first, kept_told}
 use Rattle.sbp_world.proofs.Hosts.ByteTerms.{byte_terms, bytes_kept}
 use Rattle.sbp_world.proofs.Hosts.Carried.{between_runs, of_runs}
@@ -52,6 +52,7 @@ use Rattle.sbp_world.proofs.Hosts.PointSees.{see_left}
 use Rattle.sbp_world.proofs.Hosts.Shown.{IsHeard}
 use Rattle.sbp_world.proofs.Hosts.TakenWalks.{AllSay, expire_says, receive_says, see_says}
 use Rattle.sbp_world.proofs.Hosts.Telling.{action_law}
+use Rattle.sbp_world.proofs.Pointers.GuardActs.{ok_of as is_ok_slot}
 
 pub record Answered (ready : Bool) (past : List Moment) (i : ℕ) (s : InitiatorState) : Type 0 where
   pub bytes : Bytes ready past i s

@@ -1,5 +1,5 @@
 -- What the transaction layer sends when it is asked for something: a request, under a label.
-use Rattle.std.proofs.Common.{arith, ◌≡◌, refl, sym, ◌∙◌, ap, ℕ, suc, ◌+◌, ◌<◌, Bool, true, false, cond, List, length, Option, Some, None}
+use Rattle.std.proofs.Common.{arith, ◌≡◌, refl, sym, ◌∙◌, ap, ℕ, ◌<◌, List, length, Option, Some, None}
 use Rattle.async_packet.specs.Canon.{IsValid}
 use Rattle.async_packet.specs.Labels.{LabelParts}
 use Rattle.label_table.specs.declared.judgement.Asked.{Asked}
@@ -27,11 +27,6 @@ number_in (Some label) = label.number
 abbrev pub IfRequest : Option Asked → Type 0
 IfRequest None = Unit {0}
 IfRequest (Some asked) = IsRequest asked.label.number asked.bytes
-
--- a label that serves is one of the table
-pub below_by : (b : Bool) (number count n : ℕ) (rest : Option ℕ) → cond b (Some number) rest ≡ Some n → (rest ≡ Some n → n < number + 1 + count) → n < number + suc count
-below_by true number count n rest e h = let f : number ≡ n = cc in omega arith
-below_by false number count n rest e h = let f = h e in omega arith
 
 module _ (layer : Layer Purpose) (peer : ℕ) (body : Body) (purpose : Purpose) (c : IsLayer layer) (v : IsValid (request_with (header_to layer.node peer 0) body)) where
   found_request : (k : ℕ) (number : Option ℕ) → ((n : ℕ) → number ≡ Some n → n < 64) → IfRequest (asked_at k layer (begun_for (peer_at layer k) peer purpose (begin_at number (peer_at layer k).table (unlabelled layer peer body)))).0

@@ -40,7 +40,8 @@ use Rattle.sbp_world.specs.Hosts.Calls.{MayFind, MayPacket}
 use Rattle.sbp_world.specs.Hosts.Handing.{history}
 use Rattle.sbp_world.specs.Hosts.Lines.{MayDeliver, MayHear}
 use Rattle.sbp_world.specs.Hosts.Steps.{MayTake}
-use Rattle.sbp_world.proofs.Hosts.Knows.{sent_stays, was_sent}
+use Rattle.sbp_world.proofs.Hosts.Knows.{was_sent}
+use Rattle.sbp_world.proofs.Sessions.BlockNotes.{gets_sent as sent_stays}
 
 -- ---- the src of a block is that of its bytes
 

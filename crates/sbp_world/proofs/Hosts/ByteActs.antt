@@ -1,12 +1,11 @@
 -- What an action that is done leaves of an initiator's page tables and its buffers.
-use Rattle.std.proofs.Common.{arith, ◌≡◌, refl, sym, ◌∙◌, ap, subst, ℕ, zero, suc, ◌<◌, ◌==◌, not, is_some, Bool, true, false, List, [], ◌∷◌, ◌++◌, Option, Some, None, Result, Ok, Err}
+use Rattle.std.proofs.Common.{arith, ◌≡◌, refl, sym, ◌∙◌, ap, subst, ℕ, zero, suc, ◌<◌, ◌==◌, not, is_some, Bool, true, false, List, [], ◌∷◌, ◌++◌, Option, Some, None, Ok}
 use Rattle.std.proofs.lemmas.List.Quantifiers.{position-Some}
 use Rattle.bus_memory.specs.Memory.{Memory}
 use Rattle.bus_memory.specs.declared.window.Window.TheVariants as windows
 use Rattle.sbp_initiator.specs.Histories.Ends.{own}
 use Rattle.sbp_initiator.specs.Histories.Laws.{AreCalls, Call, IsCall, acts, after}
 use Rattle.sbp_initiator.specs.Histories.Slots.{action_calls, calls_if, dummy_calls, orb_calls, pin_calls, quad_calls, slot_calls, slot_calls_after}
-use Rattle.sbp_initiator.proofs.Histories.Actions.{is_ok}
 use Rattle.orb_layout.specs.ManagementOrbs.{management_bytes}
 use Rattle.orb_layout.specs.declared.management.ManagementOrb.{ManagementOrb}
 use Rattle.orb_list.specs.Layout.{written}
@@ -16,7 +15,6 @@ use Rattle.orb_list.specs.Runs.{run}
 use Rattle.orb_list.specs.Table as table
 use Rattle.orb_list.specs.Table.{SlotTable, find_in, is_free, may_prepare, slot_in, unused}
 use Rattle.orb_list.specs.Tickets.{TicketParts}
-use Rattle.orb_list.specs.declared.fault.ListFault.{ListFault}
 use Rattle.orb_list.proofs.Tied.{may_lowest}
 use Rattle.sbp_initiator.specs.Acting.{act_step, login_id, orb_by}
 use Rattle.sbp_initiator.specs.Commands.{asked_by}
@@ -49,6 +47,7 @@ use Rattle.sbp_world.proofs.Hosts.ByteTerms.{Fills, SlotBytes, appended_bytes, b
 use Rattle.sbp_world.proofs.Hosts.Carries.{IsLineOf}
 use Rattle.sbp_world.proofs.Hosts.OrbFits.{IsFull}
 use Rattle.sbp_world.proofs.Hosts.OrbRuns.{refused_same}
+use Rattle.sbp_world.proofs.Pointers.GuardActs.{ok_of}
 
 -- ---- calls of the slots that leave them
 
@@ -112,13 +111,6 @@ others_kept actions.UnitReset past i j e = tt
 others_kept actions.TargetReset past i j e = tt
 
 -- ---- an action
-
-pub is_ok_slot : (r : Result ℕ ListFault) → is_ok r ≡ true → (slot : ℕ) × (r ≡ Ok slot)
-is_ok_slot (Ok slot) e = (slot, refl)
-is_ok_slot (Err fault) e = absurd (differ e)
-  where
-    differ : false ≡ true → ⊥
-    differ e = cc
 
 module _ (ready : Bool) (i : ℕ) (calls : List Call) (called : AreCalls calls) where
   abbrev turn : Turn
@@ -212,10 +204,10 @@ module _ (ready : Bool) (i : ℕ) (calls : List Call) (called : AreCalls calls) 
 
     pub acted_bytes : (action : Action) → Goes action state → IsLineOf action → event_of past ≡ Some (events.Act i action) → (act_step action empty_outbox state).0 ≡ None → SlotBytes (byte_terms (behind (own (action_notes action past i)) past) i) (act_step action empty_outbox state).1.1.lists.memory
     acted_bytes (actions.Put cmd) g fit line n =
-        let f = is_ok_slot (may_prepare state.lists.slots) (g.allowed.prepares refl) in
+        let f = ok_of (may_prepare state.lists.slots) (g.allowed.prepares refl) in
         prepared_now (actions.Put cmd) fit.0 n cmd fit (ap cmd_of line) f.0 f.1 [] tt refl refl
     acted_bytes (actions.Append cmd) g fit line n =
-        let f = is_ok_slot (may_prepare state.lists.slots) (g.allowed.prepares refl) in
+        let f = ok_of (may_prepare state.lists.slots) (g.allowed.prepares refl) in
         prepared_now (actions.Append cmd) fit.0 n cmd fit (ap cmd_of line) f.0 f.1 (slot_runs.LinkHigh ∷ slot_runs.LinkLow ∷ []) (tt, (tt, tt)) refl (rest_kept past i (new_list past i) (new_number past i) cmd)
     acted_bytes actions.Low g fit line n = calm_now actions.Low fit.0 n (refl, tt) (tt, tt)
     acted_bytes actions.Link g fit line n = calm_now actions.Link fit.0 n (refl, tt) (tt, tt)

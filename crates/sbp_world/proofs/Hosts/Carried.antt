@@ -51,12 +51,12 @@ use Rattle.sbp_world.specs.Hosts.Runs.{IsRun, more_deliveries}
 use Rattle.sbp_world.proofs.Hosts.Acting.{acts}
 use Rattle.sbp_world.proofs.Hosts.Asked.{IfRequest, is_request}
 use Rattle.sbp_world.proofs.Hosts.Carries.{Are, Carries, CarriesSent, IsLineOf, IsNoAct, NoneActs, by_more, note_carried}
-use Rattle.sbp_world.proofs.Hosts.Hosting.{line_same}
 use Rattle.sbp_world.proofs.Hosts.Knows.{may_see, target_there}
 use Rattle.sbp_world.proofs.Hosts.Passes.{delivers, line_expires, line_sees, ticks}
 use Rattle.sbp_world.proofs.Hosts.Runs.{are_told, count_after, count_between}
 use Rattle.sbp_world.proofs.Hosts.Shows.{Arriving, arriving, lapsing, shown_now}
 use Rattle.sbp_world.proofs.Common.{untrue}
+use Rattle.sbp_world.proofs.Hosts.Hands.{line_stays as line_same}
 
 -- the next packet was not injected
 fresh : {past : List Moment} (w : WorldState) → Stands past w → (terms (history w past)).injected (w.store.last + 1) ≡ false

@@ -36,8 +36,8 @@ use Rattle.sbp_world.specs.Worlds.{WorldState, initiator_at, with_initiator, wit
 use Rattle.sbp_world.specs.Hosts.Calls.{behind}
 use Rattle.sbp_world.specs.Hosts.Handing.{AreNotes, AreOthers, IsOther, history}
 use Rattle.sbp_world.proofs.Hosts.Asked.{IsRequest, number_in}
-use Rattle.sbp_world.proofs.Hosts.Hands.{all_own}
-use Rattle.sbp_world.proofs.Hosts.Hosting.{hands_keep, line_same, state_here, state_there}
+use Rattle.sbp_world.proofs.Hosts.Hands.{all_own, line_stays as line_same}
+use Rattle.sbp_world.proofs.Hosts.Hosting.{hands_keep, state_here, state_there}
 use Rattle.sbp_world.proofs.Hosts.Mild.{AreMild, FromTarget, IsMild}
 use Rattle.sbp_world.proofs.Hosts.Shown.{IsElsewhere, IsHeard, IsShown}
 

@@ -91,7 +91,7 @@ module _ (past : List Moment) (weight i : ℕ) (s : SlotTable) where
 -- ---- packets
 
 -- a note begins no line
-line_stays : (ns : List Note) (past : List Moment) → event_of (map said ns ++ past) ≡ event_of past
+pub line_stays : (ns : List Note) (past : List Moment) → event_of (map said ns ++ past) ≡ event_of past
 line_stays [] past = refl
 line_stays (note ∷ ns) past = line_stays ns past
 

@@ -45,11 +45,11 @@ use Rattle.sbp_world.proofs.Hosts.Beside.{beside_rests, pin_told, sent_rests}
 use Rattle.sbp_world.proofs.Hosts.Brings.{src_read, told_got}
 use Rattle.sbp_world.proofs.Hosts.Carries.{Does, IsLineOf, IsNoAct, Tells, is_apart}
 use Rattle.sbp_world.proofs.Hosts.Hears.{expire_listed, receive_listed}
-use Rattle.sbp_world.proofs.Hosts.Knows.{sent_stays}
 use Rattle.sbp_world.proofs.Hosts.Liners.{host_listed, number_call, silent}
 use Rattle.sbp_world.proofs.Hosts.Passes.{judged_apart}
 use Rattle.sbp_world.proofs.Hosts.Sees.{sees_listed}
 use Rattle.sbp_world.proofs.Hosts.Shown.{IsHeard}
+use Rattle.sbp_world.proofs.Sessions.BlockNotes.{gets_sent as sent_stays}
 
 -- ---- notes of others
 

@@ -1,10 +1,10 @@
 -- The lists of every initiator of a world.
-use Rattle.std.proofs.Common.{arith, ◌≡◌, refl, sym, ◌∙◌, ap, subst, ℕ, ◌+◌, ◌<◌, ◌==◌, nat_eq, Bool, true, false, List, [], ◌∷◌, ◌++◌, length, get_or, map, slice_set, Option, Some, None}
+use Rattle.std.proofs.Common.{arith, ◌≡◌, refl, sym, ◌∙◌, ap, subst, ℕ, ◌+◌, ◌<◌, ◌==◌, nat_eq, Bool, true, false, List, [], ◌∷◌, length, get_or, slice_set, Option, Some, None}
 use Rattle.std.proofs.lemmas.Bool.Decides.{nat_tests}
 use Rattle.std.proofs.lemmas.Grind.{common_steps}
 use Rattle.std.proofs.lemmas.List.{length-set}
 use Rattle.async_packet.specs.Labels.{LabelParts}
-use Rattle.sbp_journal.specs.Run.{Moment, said}
+use Rattle.sbp_journal.specs.Run.{Moment}
 use Rattle.sbp_journal.specs.Outgoings.{OutboxState}
 use Rattle.sbp_journal.specs.declared.outbox.Outgoing.{Outgoing}
 use Rattle.sbp_journal.specs.declared.note.Note.{Note}
@@ -26,7 +26,7 @@ use Rattle.sbp_world.specs.Hosts.Handing.{AreNotes, AreOthers, history}
 use Rattle.sbp_world.specs.Hosts.Steps.{IsNoAbort, is_beside}
 use Rattle.sbp_world.specs.Hosts.Worlds.{AreBut, AreHosts, IsHost, NoneAborts, WorldLaw}
 use Rattle.sbp_world.proofs.Hosts.Beside.{beside_rests}
-use Rattle.sbp_world.proofs.Hosts.Hands.{all_others, all_own, all_still}
+use Rattle.sbp_world.proofs.Hosts.Hands.{all_others, all_own, all_still, line_stays}
 
 -- ---- what is handed out changes no initiator, and begins no line
 
@@ -78,13 +78,8 @@ all_sent_keep from (packet ∷ later) w = all_sent_keep from later (sent from pa
 pub hands_keep : (from weight : ℕ) (outbox : OutboxState) (w : WorldState) → (handed_out from weight outbox w).initiators ≡ w.initiators
 hands_keep from weight outbox w = all_sent_keep from outbox.packets (told_all weight outbox.sides w) ∙ all_told_keep weight outbox.sides w
 
--- a note begins no line
-pub line_same : (ns : List Note) (past : List Moment) → event_of (map said ns ++ past) ≡ event_of past
-line_same [] past = refl
-line_same (note ∷ ns) past = line_same ns past
-
 no_abort : (past : List Moment) (w x : WorldState) (i : ℕ) → IsNoAbort i (event_of (history w past)) → IsNoAbort i (event_of (history x past))
-no_abort past w x i n = subst (IsNoAbort i) (line_same w.fresh past ∙ sym (line_same x.fresh past)) n
+no_abort past w x i n = subst (IsNoAbort i) (line_stays w.fresh past ∙ sym (line_stays x.fresh past)) n
 
 -- ---- the packets of a node
 

@@ -1,6 +1,6 @@
 -- What the wire that a world stands for tells of its initiators: what a packet is that the store has, the generation that an initiator is in,
 -- and that its target is a node.
-use Rattle.std.proofs.Common.{arith, ◌≡◌, refl, sym, ◌∙◌, ap, ℕ, suc, ◌<◌, ◌≤◌, not, nat_eq, nat_lt, Bool, true, false, List, length, Option, Some, None}
+use Rattle.std.proofs.Common.{arith, ◌≡◌, refl, sym, ◌∙◌, ap, ℕ, suc, ◌<◌, ◌≤◌, not, nat_eq, nat_lt, Bool, true, false, List, length, Some}
 use Rattle.std.proofs.lemmas.Bool.Decides.{nat_tests}
 use Rattle.bus_transactions.specs.Wire.{Node, as_sending}
 use Rattle.bus_transactions.proofs.Follows.{found_kept}
@@ -10,8 +10,7 @@ use Rattle.packet_store.specs.declared.sent.Sent.{Sent}
 use Rattle.packet_store.specs.Kept.{found_sent, is_flying}
 use Rattle.packet_store.specs.Stored.{Stored}
 use Rattle.sbp_journal.specs.Run.{Moment}
-use Rattle.sbp_journal.specs.Transactions.{Sending, part_of}
-use Rattle.sbp_journal.specs.Wire.{Terms, arrives, gets, is_news, is_served, terms}
+use Rattle.sbp_journal.specs.Wire.{Terms, terms}
 use Rattle.sbp_initiator.specs.declared.purpose.Purpose.{Purpose}
 use Rattle.sbp_bus.specs.Generations.{id_of, node_of}
 use Rattle.sbp_world.specs.Worlds.{WorldState, initiator_at}
@@ -21,17 +20,13 @@ use Rattle.sbp_world.proofs.Wire.Found.{node_found}
 use Rattle.sbp_world.proofs.Wire.Holding.{NodesOf, to_target}
 use Rattle.sbp_world.specs.Hosts.Handing.{history}
 use Rattle.sbp_world.specs.Hosts.Lines.{MaySee}
-use Rattle.sbp_world.proofs.Sessions.BlockNotes.{judges_sent, closes_if_sent, closes_sent, part_sent}
+use Rattle.sbp_world.proofs.Sessions.BlockNotes.{judges_sent, closes_if_sent, closes_sent, gets_sent}
 
 -- ---- a packet that is got stays as it was sent
 
-pub sent_stays : (found : Option Sending) (s : ℕ) (t : Terms) → (gets found s t).sent ≡ t.sent
-sent_stays None s t = refl
-sent_stays (Some packet) s t = part_sent (part_of packet.bytes) s packet (is_served s (is_news s (arrives s t)))
-
 -- ---- a sight
 
-seen_flag : (layer : Layer Purpose) (generation node : ℕ) → (seeing_step layer generation node).0 ≡ nat_lt layer.generation generation
+pub seen_flag : (layer : Layer Purpose) (generation node : ℕ) → (seeing_step layer generation node).0 ≡ nat_lt layer.generation generation
 unfolding seeing_step
 seen_flag layer generation node = by_test (nat_lt layer.generation generation) refl
   where

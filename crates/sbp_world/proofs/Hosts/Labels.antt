@@ -51,6 +51,7 @@ use Rattle.sbp_world.specs.Hosts.Runs.{IsRun}
 use Rattle.sbp_world.proofs.Hosts.Deciding.{run_refusal_law}
 use Rattle.sbp_world.proofs.Hosts.Runs.{count_after}
 use Rattle.sbp_world.proofs.Common.{untrue}
+use Rattle.sbp_world.proofs.Wire.Kept.{and_true}
 
 -- ---- the lowest label
 
@@ -207,10 +208,6 @@ some_label None = refl
 some_label (Some asked) = refl
 
 -- ---- reads find a label whatever their address
-
-and_true : (b : Bool) → (b && true) ≡ b
-and_true true = refl
-and_true false = refl
 
 read_plain : (node peer offset : ℕ) → IsValid (request_with (header_to node peer 0) (quadlet_read offset)) → is_write (canon (request_with (header_to node peer 0) (quadlet_read offset))) ≡ false
 unfolding is_write

@@ -24,6 +24,7 @@ use Rattle.sbp_world.specs.Hosts.Orbs.{next_of}
 use Rattle.sbp_world.proofs.Hosts.OrbTerms.{AreLeft, AreStill, IsStill, OrbTerms, append_first, append_next, dummy_said, first_linked, link_said, low_said, orb_terms, orbs_left, with_append, with_dummy, with_link, with_low}
 use Rattle.sbp_world.proofs.Hosts.Prepares.{itself}
 use Rattle.sbp_world.proofs.Lists.BusyTold.{still_cut}
+use Rattle.sbp_world.proofs.Pointers.Naming.{at_most, still_below}
 
 abbrev pub Within : OrbTerms → Type 0
 Within t = (n : ℕ) → t.linked n ≤ t.appended n
@@ -53,12 +54,6 @@ last_same t w = record {
   id = λ n k b. refl;
   dummy = λ n k e. e;
 }
-
-at_most : (a b c : ℕ) → a ≤ b → b ≤ c → a ≤ c
-at_most a b c h g = omega arith
-
-still_below : (k a b : ℕ) → k < a → a ≤ b → k < b
-still_below k a b h g = omega arith
 
 pub last_on : (t u v : OrbTerms) → Last t u → Last u v → Last t v
 last_on t u v a b = record {

@@ -42,7 +42,7 @@ use Rattle.sbp_world.proofs.Hosts.OrbLinks.{dummy_fits, dummy_none, link_fits, l
 use Rattle.sbp_world.proofs.Hosts.OrbTerms.{AreLeft, OrbTerms, orb_terms, told_left}
 use Rattle.sbp_world.proofs.Hosts.Readings.{read_as}
 use Rattle.sbp_world.proofs.Hosts.StepLaws.{step_law}
-use Rattle.sbp_world.proofs.Hosts.Telling.{is_ok_slot}
+use Rattle.sbp_world.proofs.Pointers.GuardActs.{ok_of as is_ok_slot}
 
 module _ (past : List Moment) (i : ℕ) (calls : List slot_runs.Call) (quads : List ℕ) where
   -- what is told and done

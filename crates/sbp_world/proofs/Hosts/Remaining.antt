@@ -19,6 +19,7 @@ use Rattle.sbp_world.proofs.Wire.Runs.{sound_after}
 use Rattle.sbp_world.proofs.Wire.Starts.{laws_of}
 use Rattle.sbp_world.specs.Hosts.Remaining.{RemainingLaw, Remains}
 use Rattle.sbp_world.specs.Hosts.Runs.{IsRun}
+use Rattle.sbp_world.proofs.Hosts.PointerNotes.{older}
 
 -- what no moment but a packet that is sent changes
 pub record Same (t u : Terms) : Type 0 where
@@ -105,13 +106,10 @@ same_remains m past k e = record {
   before_it = λ r h. e r;
 }
 
-pub other_serial : (r s count : ℕ) → r ≤ count → s ≡ count + 1 → nat_eq r s ≡ false
-other_serial r s count h e = grind (arith, nat_tests)
-
 other_way : (r s count : ℕ) → r ≤ count → s ≡ count + 1 → nat_eq s r ≡ false
 other_way r s count h e = grind (arith, nat_tests)
 
-step : (m : Moment) (past : List Moment) → SerialsCount (m ∷ past) → Remains past (m ∷ past)
+pub step : (m : Moment) (past : List Moment) → SerialsCount (m ∷ past) → Remains past (m ∷ past)
 step (asked line event) past c = same_remains (asked line event) past (opened_same event (terms past)) (λ r. refl)
 step (said (notes.Sent s generation from to bytes)) past c =
     let t = terms past in
@@ -121,8 +119,8 @@ step (said (notes.Sent s generation from to bytes)) past c =
     let p = pays_same t.owes t.sent s packet (begins (begun_by packet) s packet put) in
     record {
       count = let n = p.count ∙ a.count in omega arith;
-      sent = λ r h. ap (λ f. f r) (p.sent ∙ a.sent) ∙ ap (λ b. cond b (Some packet) (t.sent r)) (other_serial r s t.count h c.0);
-      answers = λ r h. p.answers r (other_serial r s t.count h c.0) ∙ ap (λ f. f r) a.answers;
+      sent = λ r h. ap (λ f. f r) (p.sent ∙ a.sent) ∙ ap (λ b. cond b (Some packet) (t.sent r)) (older r s t.count h c.0);
+      answers = λ r h. p.answers r (older r s t.count h c.0) ∙ ap (λ f. f r) a.answers;
       before_it = λ r h. ap (λ b. cond b past (before_sent past r)) (other_way r s t.count h c.0);
     }
 step (said (notes.Got s)) past c = same_remains (said (notes.Got s)) past (gets_same ((terms past).sent s) s (terms past)) (λ r. refl)

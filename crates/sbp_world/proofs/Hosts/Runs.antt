@@ -43,10 +43,11 @@ use Rattle.sbp_world.specs.Hosts.Worlds.{AreHosts, IsHost, NoneAborts}
 use Rattle.sbp_world.proofs.Hosts.Aborts.{line_aborts}
 use Rattle.sbp_world.proofs.Hosts.Beside.{begins, beside_rests, sent_rests}
 use Rattle.sbp_world.proofs.Hosts.Brings.{may_deliver}
-use Rattle.sbp_world.proofs.Hosts.Hosting.{line_same, note_hosts}
+use Rattle.sbp_world.proofs.Hosts.Hosting.{note_hosts}
 use Rattle.sbp_world.proofs.Hosts.Knows.{may_see, target_there}
 use Rattle.sbp_world.proofs.Hosts.Liners.{acts, delivers, line_expires, line_sees, ticks}
 use Rattle.sbp_world.proofs.Hosts.Readings.{read_law}
+use Rattle.sbp_world.proofs.Hosts.Hands.{line_stays as line_same}
 
 -- ---- a line begins
 

@@ -1,10 +1,9 @@
 -- An action that is done tells the notes that the run asks for.
-use Rattle.std.proofs.Common.{arith, ◌≡◌, refl, sym, ◌∙◌, ap, subst, ℕ, suc, ◌+◌, ◌-◌, ◌==◌, not, is_some, Bool, true, false, cond, List, [], ◌∷◌, ◌++◌, Option, Some, None, Result, Ok, Err}
+use Rattle.std.proofs.Common.{arith, ◌≡◌, refl, sym, ◌∙◌, ap, subst, ℕ, suc, ◌+◌, ◌-◌, ◌==◌, not, is_some, Bool, true, false, cond, List, [], ◌∷◌, ◌++◌, Option, Some, None, Ok}
 use Rattle.std.proofs.lemmas.List.{append-nil}
 use Rattle.std.proofs.lemmas.Bool.{not-false}
 use Rattle.label_table.specs.declared.judgement.Asked.{Asked as Label}
 use Rattle.label_table.specs.Layer.{Layer}
-use Rattle.orb_list.specs.declared.fault.ListFault.{ListFault}
 use Rattle.orb_list.specs.declared.list.Link.{Link}
 use Rattle.orb_list.specs.declared.list.Link.TheVariants as links
 use Rattle.orb_list.specs.declared.list.Linking.{Linking}
@@ -41,7 +40,7 @@ use Rattle.sbp_world.specs.Hosts.Acting.{ActionLaw, HasRows}
 use Rattle.sbp_world.proofs.Hosts.Acts.{Goes, found_number, goes_layer, goes_on, some_waits}
 use Rattle.sbp_world.proofs.Hosts.Beside.{find_waits, found_list}
 use Rattle.sbp_world.proofs.Hosts.Readings.{read_as}
-use Rattle.sbp_world.proofs.Pointers.GuardActs.{some_of}
+use Rattle.sbp_world.proofs.Pointers.GuardActs.{some_of, ok_of}
 
 -- ---- the rows of a refusal
 
@@ -119,10 +118,6 @@ module _ (o : OutboxState) (s : InitiatorState) where
       put_cond true = record { sides = refl; present_is = refl; number_is = refl }
       put_cond false = record { sides = refl; present_is = refl; number_is = refl }
 
-pub is_ok_slot : (found : Result ℕ ListFault) → is_ok found ≡ true → (slot : ℕ) × (found ≡ Ok slot)
-is_ok_slot (Ok slot) e = (slot, refl)
-is_ok_slot (Err fault) e = cc
-
 append_two : (xs : List Side) (x : Side) (ys : List Side) → (xs ++ x ∷ []) ++ ys ≡ xs ++ x ∷ ys
 append_two [] x ys = refl
 append_two (first ∷ xs) x ys = ap (λ zs. first ∷ zs) (append_two xs x ys)
@@ -190,14 +185,14 @@ module _ (past : List Moment) (s : InitiatorState) (r : AreRows past s.number s.
 
   put_told : (cmd : Cmd) → is_ok (may_prepare s.lists.slots) ≡ true → (put_step cmd o s).0.sides ≡ o.sides ++ own (action_notes (actions.Put cmd) past s.number)
   put_told cmd e =
-      let f = is_ok_slot (may_prepare s.lists.slots) e in
+      let f = ok_of (may_prepare s.lists.slots) e in
       (put_some o s cmd f.0 f.1).sides
       ∙ (ap (λ x. o.sides ++ sides.Own (notes.Append s.number x (orb_number s.lists.slots.present) cmd.cdb (buffer_of cmd)) ∷ []) (sym read.list)
       ∙ ap (λ x. o.sides ++ sides.Own (notes.Append s.number (new_list past s.number) x cmd.cdb (buffer_of cmd)) ∷ []) (sym read.number))
 
   append_told : (cmd : Cmd) → is_ok (may_prepare s.lists.slots) ≡ true → (append_step cmd o s).0.sides ≡ o.sides ++ own (action_notes (actions.Append cmd) past s.number)
   append_told cmd e =
-      let f = is_ok_slot (may_prepare s.lists.slots) e in
+      let f = ok_of (may_prepare s.lists.slots) e in
       by_list f.0 f.1 s.lists.slots.present refl
     where
       in_terms : (n k : ℕ) → new_list past s.number ≡ n → new_number past s.number ≡ k → o.sides ++ own (append_notes s.number n k cmd) ≡ o.sides ++ own (action_notes (actions.Append cmd) past s.number)

@@ -49,9 +49,9 @@ use Rattle.sbp_laws.specs.OnLists.{LawfulOnLists}
 use Rattle.sbp_world.specs.Lists.LawfulLists.{ListsLaw}
 use Rattle.sbp_world.proofs.Lists.AnswerChecks.{check_length, ended_none, told_none}
 use Rattle.sbp_world.proofs.Lists.LinedAppends.{AllLined, LinedAt, lined_appends}
-use Rattle.sbp_world.proofs.Lists.PlacedOps.{each_from}
 use Rattle.sbp_world.proofs.Common.{none_is}
 use Rattle.sbp_world.proofs.Hosts.ResponseTells.{some}
+use Rattle.sbp_world.proofs.Lists.StatusKnown.{each_from}
 
 -- ---- the commands of lines fill their buffers
 abbrev pub FillsEvent : Event → Type 0

@@ -17,7 +17,7 @@ use Rattle.rbc_disk.specs.Runs.{Told}
 use Rattle.rbc_disk.specs.Units.{PlainDisk}
 use Rattle.rbc_command.specs.declared.sense.Sense.{Sense}
 use Rattle.sbp_world.specs.Agents.Alike.{answers}
-use Rattle.sbp_world.proofs.Agents.UnitsRun.{ahead_none, none_if}
+use Rattle.sbp_world.proofs.Agents.UnitsRun.{ahead_none}
 use Rattle.std.proofs.Common.{arith, ◌≡◌, ◌∙◌, refl, sym, ap, subst, ◌<◌, ◌≤◌, ℕ, suc, nat_eq, nat_lt, Bool, true, false, cond, List, [], ◌∷◌, ◌++◌, map, Some}
 use Rattle.std.proofs.lemmas.Bool.Decides.{nat_tests}
 use Rattle.std.proofs.lemmas.Bool.{false≢true}
@@ -29,6 +29,7 @@ use Rattle.sbp_world.proofs.Lists.Passing.{PassLaw}
 use Rattle.sbp_world.proofs.Lists.Running.{later_unrun}
 use Rattle.sbp_world.proofs.Lists.Runless.{AllPlain}
 use Rattle.sbp_world.proofs.Lists.UnrunTerms.{ends_grow, lists_grow, passes_from}
+use Rattle.sbp_world.proofs.Agents.UnitsKept.{runs_if as none_if}
 
 abbrev pub IsUnrun : Moment → Type 0
 IsUnrun (said (notes.Ran i n k unit cdb bytes check)) = ⊥

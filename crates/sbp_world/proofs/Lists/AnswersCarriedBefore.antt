@@ -23,7 +23,7 @@ use Rattle.sbp_world.proofs.Lists.DataSlots.{appends_grow, prepared_below, same_
 use Rattle.sbp_world.proofs.Lists.Passing.{PassAt, PassLaw, RunsNext}
 use Rattle.sbp_world.proofs.Lists.SlotShut.{AllApart}
 use Rattle.sbp_world.proofs.Lists.StatusKnown.{IsKnown, known_less, all_three}
-use Rattle.sbp_world.proofs.Lists.WasReads.{got_now}
+use Rattle.sbp_world.proofs.Lists.WasReads.{got_now, got_later}
 
 pub tail_is : (m x : Moment) (a b : List Moment) → m ∷ a ≡ x ∷ b → a ≡ b
 tail_is m x a b e = cc
@@ -63,12 +63,8 @@ got_still (said (notes.Got other)) past serial e = by (other == serial)
     by false = e
 got_still m past serial e = e
 
-pub got_on : (later past : List Moment) (serial : ℕ) → was_got past serial ≡ true → was_got (later ++ past) serial ≡ true
-got_on [] past serial e = e
-got_on (m ∷ later) past serial e = got_still m (later ++ past) serial (got_on later past serial e)
-
 pub got_then : (past : List Moment) (serial : ℕ) → WasGot past serial → was_got past serial ≡ true
-got_then past serial w = subst (λ ms. was_got ms serial ≡ true) w.is (got_on w.later (said (notes.Got serial) ∷ w.before) serial (got_now w.before serial))
+got_then past serial w = subst (λ ms. was_got ms serial ≡ true) w.is (got_later w.later (said (notes.Got serial) ∷ w.before) serial (got_now w.before serial))
 
 pub gots_from : (G : ℕ → List Moment → Type 0) (later before : List Moment) → GotsIn G (later ++ before) → GotsIn G before
 gots_from G [] before h = h

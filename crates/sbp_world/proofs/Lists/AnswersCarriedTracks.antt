@@ -36,7 +36,7 @@ use Rattle.sbp_world.specs.Lists.DataWrites.{IsDataWrite}
 use Rattle.sbp_world.proofs.Hosts.Deliveries.{GotsIn, find_got}
 use Rattle.sbp_world.proofs.Hosts.Remaining.{remains}
 use Rattle.sbp_world.proofs.Hosts.SentMoments.{sent_below, serials_from}
-use Rattle.sbp_world.proofs.Lists.AnswersCarriedBefore.{WasSentThen, apart_from, got_low, got_moment, got_on, got_then, gots_from, has_run, into, known_from, next_run, out, run_appended, run_told, stands_at}
+use Rattle.sbp_world.proofs.Lists.AnswersCarriedBefore.{WasSentThen, apart_from, got_low, got_moment, got_then, gots_from, has_run, into, known_from, next_run, out, run_appended, run_told, stands_at}
 use Rattle.sbp_world.proofs.Lists.AnswersCarriedChunks.{IsFront, front_more, front_none}
 use Rattle.sbp_world.proofs.Lists.AnswersCarriedGot as got
 use Rattle.sbp_world.proofs.Lists.AnswersCarriedWrites.{buffer_by, buffer_is, is_buffer, pieces, places, target_by, writes_here}
@@ -53,6 +53,8 @@ use Rattle.sbp_world.proofs.Lists.Slots.{IsFilled}
 use Rattle.sbp_world.proofs.Lists.StatusKnown.{IsKnown}
 use Rattle.sbp_world.proofs.Lists.UnrunLaws.{unrun_law}
 use Rattle.sbp_world.proofs.Common.{moments_split, and_second, and_first}
+use Rattle.sbp_world.proofs.Lists.Brought.{joined}
+use Rattle.sbp_world.proofs.Lists.WasReads.{got_later as got_on}
 
 abbrev pub moved_of : Access → Moved
 moved_of access = record { offset = access.offset; bytes = access.payload }
@@ -63,12 +65,6 @@ take_its [] zero = refl
 take_its [] (suc n) = refl
 take_its (x ∷ xs) zero = refl
 take_its (x ∷ xs) (suc n) = ap (λ ys. x ∷ ys) (take_its xs n)
-
-take_both : (n m : ℕ) (xs : List ℕ) → take n xs ++ take m (drop n xs) ≡ take (n + m) xs
-take_both zero m xs = ap (λ k. take k xs) (let z : m ≡ 0 + m = omega arith in z)
-take_both (suc n) zero [] = ap (λ k. take k []) (let z : suc n ≡ suc n + 0 = omega arith in z)
-take_both (suc n) (suc m) [] = ap (λ k. take k []) (let z : suc (n + suc m) ≡ suc n + suc m = omega arith in z)
-take_both (suc n) m (x ∷ xs) = ap (λ ys. x ∷ ys) (take_both n m xs) ∙ ap (λ k. take k (x ∷ xs)) (let z : suc (n + m) ≡ suc n + m = omega arith in z)
 
 module _ (start : List Disk) (wild : ℕ → Bool) (i : ℕ) (own : wild i ≡ false) (all : List Moment) (sound : IsSound start wild i own all) (known : IsKnown wild all i) (apart : AllApart all i) (gots : GotsIn WasSentThen all) (n k slot : ℕ) (small : slot < 32) (cmd : Cmd) (filled : IsFilled slot cmd) (way : (cmd.to_initiator ≡ true) ⊎ ((serial place : ℕ) (packet : Sending) → IsDataOf start all i n k serial packet place → ⊥)) (command : command_at all i n k ≡ Some cmd) where
   abbrev pub segments : List Segment
@@ -138,7 +134,7 @@ module _ (start : List Disk) (wild : ℕ → Bool) (i : ℕ) (own : wild i ≡ f
       let done = d.was.machine.written in
       let brings : access.payload ≡ take d.was.size (drop done xs) = d.was.bytes ∙ (d.was.piece.bytes ∙ ap (λ ys. take d.was.size (drop done ys)) same) in
       let cut : access.payload ≡ take (length access.payload) (drop done xs) = brings ∙ (take_its (drop done xs) d.was.size ∙ ap (λ ys. take (length ys) (drop done xs)) (sym brings)) in
-      all_more front (moved_of access) ∙ (ap (λ ys. ys ++ access.payload) had ∙ (ap (λ ys. take done xs ++ ys) cut ∙ take_both done (length access.payload) xs))
+      all_more front (moved_of access) ∙ (ap (λ ys. ys ++ access.payload) had ∙ (ap (λ ys. take done xs ++ ys) cut ∙ joined done (length access.payload) xs))
 
   -- ---- a history before, in which the slot has the ORB
   module _ (front past : List Moment) (at : front ++ past ≡ all) where

@@ -29,7 +29,7 @@ carries_by seat (Some response) e f = record { response = response; is = e }
 carries : (seat : Seat) → is_some (carried seat) ≡ true → Carries seat
 carries seat e = carries_by seat (carried seat) refl e
 
-seated : (seat : Seat) → is_seated seat ≡ true → is_some (carried seat) ≡ true
+pub seated : (seat : Seat) → is_seated seat ≡ true → is_some (carried seat) ≡ true
 seated (seats.Live x) e = refl
 seated (seats.Leaving response) e = refl
 seated (seats.Stuck origin) e = stuck origin e

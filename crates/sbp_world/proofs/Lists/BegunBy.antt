@@ -9,10 +9,11 @@ use Rattle.sbp_journal.specs.declared.note.Note.TheVariants as notes
 use Rattle.sbp_laws.specs.Packets.{closed_by}
 use Rattle.sbp_world.proofs.Hosts.Remaining.{remains}
 use Rattle.sbp_world.proofs.Hosts.SentMoments.{sending, sent_below, sent_there, serials_from}
-use Rattle.sbp_world.proofs.Lists.FedHeld.{IsNewer, pays_held, waits_since}
+use Rattle.sbp_world.proofs.Lists.FedHeld.{IsNewer, waits_since}
 use Rattle.sbp_world.proofs.Lists.ManageTerms.{same_some}
 use Rattle.sbp_world.proofs.Lists.StatusKnown.{Where, is_before, is_here, sent_where}
 use Rattle.sbp_world.proofs.Common.{none_is}
+use Rattle.sbp_world.proofs.Hosts.Held.{pays_held}
 
 -- what a label waits for
 pub record IsHeld (held : Held) (own : ℕ) : Type 0 where

@@ -11,7 +11,7 @@ use Rattle.sbp_world.specs.Lists.Placings.{BasedAt}
 use Rattle.sbp_world.proofs.Lists.Calm.{calm_before}
 use Rattle.sbp_world.proofs.Lists.IdsNoted.{more_entries}
 use Rattle.sbp_world.proofs.Lists.OwnFifos.{tame_before}
-use Rattle.sbp_world.proofs.Lists.PlacedOps.{each_from}
+use Rattle.sbp_world.proofs.Lists.StatusKnown.{each_from}
 
 few_back : (later past : List Moment) → FewLogins (later ++ past) → FewLogins past
 few_back later past few = let l = more_entries [] later past in omega (arith, l, few)

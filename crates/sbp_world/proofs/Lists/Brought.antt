@@ -75,7 +75,7 @@ nil_take : (k : ℕ) → ◌≡◌ {A = List ℕ} (take k []) []
 nil_take zero = refl
 nil_take (suc k) = refl
 
-joined : (a c : ℕ) (xs : List ℕ) → take a xs ++ take c (drop a xs) ≡ take (a + c) xs
+pub joined : (a c : ℕ) (xs : List ℕ) → take a xs ++ take c (drop a xs) ≡ take (a + c) xs
 joined zero c xs = ap (λ k. take k xs) (let z : c ≡ 0 + c = omega arith in z)
 joined (suc a) c [] = nil_take c ∙ sym (nil_take (suc a + c))
 joined (suc a) c (x ∷ xs) = ap (λ ys. x ∷ ys) (joined a c xs) ∙ ap (λ k. take k (x ∷ xs)) (let z : suc (a + c) ≡ suc a + c = omega arith in z)

@@ -26,7 +26,6 @@ use Rattle.sbp_world.specs.Lists.Responding.{BufferSo}
 use Rattle.sbp_world.specs.Lists.Shorts.{AreShort}
 use Rattle.sbp_world.proofs.Lists.Courses.{EveryPlace, Keeps, at_between, at_lines}
 use Rattle.sbp_world.proofs.Lists.FifoProved.{IsClosed, buffers_everywhere}
-use Rattle.sbp_world.proofs.Lists.KeptReplies.{payload_is}
 use Rattle.sbp_world.proofs.Lists.KeptTurns.{id_is, operation_is}
 use Rattle.sbp_world.proofs.Lists.LiveGiven.{ShortLaw}
 use Rattle.sbp_world.proofs.Lists.LiveJoined.{AreBuffersAt}
@@ -38,6 +37,7 @@ use Rattle.sbp_world.proofs.Lists.OwnNodes.{AreOwnNodes, nodes_everywhere}
 use Rattle.sbp_world.proofs.Lists.OwnLogins.{AreOwnOpsAt, OwnKnown, ops_everywhere, own_known}
 use Rattle.sbp_world.proofs.Lists.OwnOps.{IsOwnOp, brings_good, short_from}
 use Rattle.sbp_world.proofs.Lists.StatusOffice.{ArePlacedFor}
+use Rattle.sbp_world.proofs.Lists.OpenedReplied.{pays_as as payload_is}
 
 -- ---- such a FIFO is in no response buffer
 none_window : (place : ℕ) → None ≡ Some (windows.Response place) → ⊥

@@ -31,10 +31,9 @@ use Rattle.sbp_world.proofs.Lists.ManageSends.{opened_terms, sent_terms}
 use Rattle.sbp_world.proofs.Lists.ManageTerms.{got_rests, ignored_rests, none_is, same_some, timed_rests, untrue}
 use Rattle.sbp_world.proofs.Lists.ManageWire.{WireMoments}
 use Rattle.sbp_world.proofs.Lists.OpenNews.{all_grow, got_more}
-use Rattle.sbp_world.proofs.Lists.PlacedOps.{each_from}
 use Rattle.sbp_world.proofs.Lists.Rises.{Rises}
 use Rattle.sbp_world.proofs.Lists.OpenedGrown.{not_fallen}
-use Rattle.sbp_world.proofs.Lists.StatusKnown.{writes_no_rom}
+use Rattle.sbp_world.proofs.Lists.StatusKnown.{writes_no_rom, each_from}
 
 -- ---- what stays of a packet that was sent
 

@@ -45,15 +45,16 @@ use Rattle.sbp_world.specs.Agents.Alike.{has_list}
 use Rattle.sbp_world.proofs.Agents.AskedLate.{ahead_of, main_of}
 use Rattle.sbp_target.specs.Nodes.{with_desk}
 use Rattle.sbp_target.specs.Serving.{pointed_by, rcode_of}
-use Rattle.sbp_world.proofs.Lists.Turns.{sent_has}
 use Rattle.sbp_world.proofs.Lists.BusyCuts.{Cutting, First, answers, cuts_one, desk_more, manages, same_desks, sees, starts, ticks}
 use Rattle.sbp_world.proofs.Lists.BusyFollows.{Acts}
 use Rattle.sbp_world.proofs.Lists.BusyTurns.{M, first, late_acts, reply_acts, rung_acts, silent_rests, taken_acts, there}
-use Rattle.sbp_world.proofs.Lists.OpenTurns.{AreSeated, refused, waits_place, ahead_lists}
+use Rattle.sbp_world.proofs.Lists.OpenTurns.{AreSeated, waits_place, ahead_lists}
 use Rattle.sbp_world.proofs.Lists.Busy.{is_busy}
 use Rattle.sbp_target.specs.Serving.{ring}
 use Rattle.sbp_target.specs.Receiving.{seen, ticked}
 use Rattle.sbp_world.proofs.Lists.Full.{IsClosed}
+use Rattle.sbp_world.proofs.Lists.Pointers.{refused}
+use Rattle.sbp_world.proofs.Lists.StatusLosses.{sent_has}
 
 module _ (w : WorldState) (g : Good w.target) (Given : Type 0) (F : ℕ → Machine → Type 0) (closed : IsClosed F) where
   -- what a call does

@@ -29,11 +29,12 @@ use Rattle.sbp_world.proofs.Lists.Closes.{Closes, ClosesLaw, closes_law}
 use Rattle.sbp_world.proofs.Lists.EndedLists.{ended_lists_law, none_ended}
 use Rattle.sbp_world.proofs.Lists.OpenLasting.{lasts}
 use Rattle.sbp_world.proofs.Lists.OpenWires.{wire_after, wire_between}
-use Rattle.sbp_world.proofs.Lists.Runs.{as_front, lines_same, moments_same, next_extends, said_more}
+use Rattle.sbp_world.proofs.Lists.Runs.{as_front, next_extends, said_more}
 use Rattle.sbp_world.specs.Lists.FewLogins.{IsTameOrFew}
 use Rattle.sbp_world.proofs.Lists.Beside.{tame_or_few_before}
 use Rattle.sbp_world.proofs.Lists.RunSites.{more_by}
 use Rattle.sbp_world.proofs.Common.{delivers}
+use Rattle.sbp_world.proofs.Lists.JoinLaws.{moments_same, lines_same}
 
 -- ---- at a place
 module _ (past : List Moment) (w : WorldState) (c : Closes past w) where

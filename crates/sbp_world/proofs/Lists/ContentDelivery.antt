@@ -1,5 +1,5 @@
 -- A packet is delivered to the target, whatever it is found to be: each packet of an operation asks for what the operation asked for.
-use Rattle.std.proofs.Common.{arith, ◌≡◌, ◌≢◌, ◌∙◌, refl, sym, ap, subst, ℕ, ◌^◌, ◌<◌, ◌≤◌, ◌||◌, not, is_some, Bool, true, false, cond, List, [], ◌∷◌, length, Option, Some, None, Ok}
+use Rattle.std.proofs.Common.{◌≡◌, ◌≢◌, refl, sym, ap, subst, ℕ, ◌^◌, ◌<◌, ◌≤◌, is_some, Bool, true, false, cond, List, [], ◌∷◌, length, Option, Some, None, Ok}
 use Rattle.async_packet.specs.Labels.{LabelParts}
 use Rattle.async_packet.specs.Packet.{Packet, header_in}
 use Rattle.async_packet.specs.Reading.{reading}
@@ -9,7 +9,7 @@ use Rattle.label_table.specs.declared.reply.ReplyKind.{ReplyKind}
 use Rattle.label_table.specs.Layer.{Finding, Layer, judging_step, of_again, of_generation, of_grammar, of_label, of_request, of_response}
 use Rattle.label_table.specs.Requests.{reply_kind}
 use Rattle.packet_store.specs.declared.sent.Sent.{Sent}
-use Rattle.packet_store.specs.Kept.{found_sent, is_flying}
+use Rattle.packet_store.specs.Kept.{found_sent}
 use Rattle.rbc_disk.specs.Disk.{Disk}
 use Rattle.rbc_disk.specs.Held.{Held}
 use Rattle.rbc_disk.specs.Runs.{Told}
@@ -29,8 +29,7 @@ use Rattle.sbp_target.specs.Nodes.{NodeState, Scene, scene}
 use Rattle.sbp_target.specs.Receiving.{judged_scene, received, received_as, with_layer}
 use Rattle.sbp_target.specs.Replies.{Whole, whole}
 use Rattle.sbp_target.specs.Serving.{answered, is_barred, request_step, serve}
-use Rattle.sbp_world.specs.Delivering.{marked, whole_of}
-use Rattle.sbp_bus.specs.Generations.{GenerationsState, node_of}
+use Rattle.sbp_world.specs.Delivering.{whole_of}
 use Rattle.sbp_world.specs.Worlds.{WorldState, with_target}
 use Rattle.sbp_world.specs.FitTarget.{FitsManager}
 use Rattle.sbp_target.specs.Histories.Transactions.{TransactionLaw}
@@ -50,23 +49,7 @@ use Rattle.sbp_world.proofs.Lists.ContentLanding.{Ends, calm_request, ignored_en
 use Rattle.sbp_world.proofs.Agents.Management.Managed.{IsReady}
 use Rattle.sbp_world.proofs.Agents.Management.Still.{Clock, clock_still, gets_clock, hist, ignores_still}
 use Rattle.sbp_world.proofs.Agents.Management.Lapsing.{agent_no, unsolicited_no, none_no}
-
--- what is known at a turn's first note is what was known before it
-pub ready_on : (past : List Moment) (w v : WorldState) (source : ℕ) → v.generations ≡ w.generations → Clock (terms (hist past w)) (terms (hist past v)) → IsReady past w source → IsReady past v source
-ready_on past w v source gens c r = record {
-  to = r.to;
-  there = ap (λ (x : GenerationsState). node_of x 0 source) gens ∙ r.there;
-  id_is = ap (λ x. (terms (hist past v)).ids x r.to) c.generation ∙ c.ids r.to ∙ r.id_is;
-  small = r.small;
-  clean = λ s l. c.injected s ∙ r.clean s (let n = c.count in omega arith);
-}
-
-pub marked_generations : (serial : ℕ) (again : Bool) (w : WorldState) → (marked serial again w).generations ≡ w.generations
-marked_generations serial again w = by_test (again || not (is_flying serial w.store.kept)) refl
-  where
-    by_test : (b : Bool) → (again || not (is_flying serial w.store.kept)) ≡ b → (marked serial again w).generations ≡ w.generations
-    by_test true e = rw e refl
-    by_test false e = rw e refl
+use Rattle.sbp_world.proofs.Agents.Management.Delivery.{ready_on, marked_generations}
 
 module _ {past : List Moment} (start : List Disk) (w : WorldState) (h : Stands past w) (g : Good w.target) (law : TransactionLaw w.target) (at : IsManagementAt start (hist past w) w.target) (serial : ℕ) (again : Bool) (sent : Sent) (found : found_sent serial w.store.kept ≡ Some sent) (zero_to : sent.to ≡ 0) (small : AreBytes sent.bytes) (rom : length w.target.rom ≤ 1024) (id_small : w.target.layer.node < 2 ^ 16) {known : ℕ → Type 0} (fits : FitsManager known w.target.manager) (known_source : sent.generation ≡ w.target.layer.generation → (p : Packet) → reading sent.bytes ≡ Ok p → IsReady past w (header_in p).source) (were : AreContents start (hist past w)) where
   abbrev noted : Judged → NodeState → WorldState

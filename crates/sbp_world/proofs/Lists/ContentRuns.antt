@@ -52,13 +52,14 @@ use Rattle.sbp_world.proofs.Agents.Management.Begins.{first_holds, first_past}
 use Rattle.sbp_world.proofs.Agents.Management.Holding.{Holding, good_of, is_of, known_id, law_of, ours, ready_for, target_generation}
 use Rattle.sbp_world.proofs.Agents.Management.Lines.{all_heard as all_hold, line_holds, opens}
 use Rattle.sbp_world.proofs.Agents.Management.Managed.{IsReady}
-use Rattle.sbp_world.proofs.Agents.Management.Runs.{are_told, no_repeats, not_reset}
+use Rattle.sbp_world.proofs.Agents.Management.Runs.{no_repeats, not_reset}
 use Rattle.sbp_world.proofs.Agents.Management.Still.{hist}
 use Rattle.sbp_world.specs.Hosts.Runs.{IsRun}
 use Rattle.sbp_world.specs.Lists.Contents.{AreContents}
 use Rattle.sbp_world.proofs.Lists.ContentDelivery.{delivery_contents}
 use Rattle.sbp_world.proofs.Lists.ContentLanding.{handed_world}
 use Rattle.sbp_world.proofs.Lists.ContentOwn.{acts, hears, injects, keys, lapses, loses, own_lapses, own_sight, refuses, resets, seconds, sights}
+use Rattle.sbp_world.proofs.Hosts.Runs.{are_told}
 
 module _ (units ready : ℕ) (has : 0 < units) (start : List Disk) where
   abbrev pub Are : List Moment → WorldState → Type 0

@@ -18,7 +18,7 @@ use Rattle.sbp_world.specs.Agents.Management.Terms.{DeliversMore}
 use Rattle.sbp_world.proofs.Agents.Management.Begins.{first_holds, first_past}
 use Rattle.sbp_world.proofs.Agents.Management.Holding.{Holding}
 use Rattle.sbp_world.proofs.Agents.Management.Lines.{all_heard, line_holds, opens}
-use Rattle.sbp_world.proofs.Agents.Management.Runs.{are_told, no_repeats, not_reset}
+use Rattle.sbp_world.proofs.Agents.Management.Runs.{no_repeats, not_reset}
 use Rattle.sbp_world.proofs.Agents.Management.Still.{hist}
 use Rattle.sbp_world.specs.Hosts.Runs.{IsRun, more_deliveries}
 use Rattle.sbp_world.specs.Lists.Needs.{OpenAfter, OpenBefore, OpenBetween, OpenIn, OpenLists, OpenWhile}
@@ -27,6 +27,7 @@ use Rattle.sbp_laws.specs.Turns.{event_of}
 use Rattle.sbp_world.proofs.Hosts.Carries.{IsNoAct}
 use Rattle.sbp_world.proofs.Lists.Turned.{IsOne}
 use Rattle.sbp_world.proofs.Lists.JoinLaws.{moments_same, lines_same}
+use Rattle.sbp_world.proofs.Hosts.Runs.{are_told}
 
 -- from a scene with a history behind which its line began, to the next one
 pub data Goes : List Moment → Scene → List Moment → Scene → Type 0 where

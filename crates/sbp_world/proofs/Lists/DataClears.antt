@@ -14,11 +14,11 @@ use Rattle.sbp_world.specs.Lists.Needs.{IsCalm}
 use Rattle.sbp_world.specs.Lists.Placings.{BasedAt}
 use Rattle.sbp_world.specs.Lists.Shorts.{AreShort}
 use Rattle.sbp_world.proofs.Lists.Courses.{EveryPlace, Keeps, at_between, at_lines}
-use Rattle.sbp_world.proofs.Lists.KeptReplies.{payload_is}
 use Rattle.sbp_world.proofs.Lists.BufferClears.{Ground, few_of, ground_everywhere, no_operation, node_is, own_of}
 use Rattle.sbp_world.proofs.Lists.DataDry.{reply_dry}
 use Rattle.sbp_world.proofs.Lists.DataPlaces.{IsOfficeDry}
 use Rattle.sbp_world.proofs.Lists.OwnOps.{brings_good}
+use Rattle.sbp_world.proofs.Lists.OpenedReplied.{pays_as as payload_is}
 
 module _ (units ready : ℕ) (more_units : 0 < units) (start : List Disk) {past : List Moment} {lines : ℕ} (w : WorldState) (h : Holding units ready start past lines w) (g : Ground start (hist past w) w) (i : ℕ) (inside : i < length w.initiators) (calm : IsCalm (hist past w) i) (shorts : AreShort (hist past w)) (based : EachMoment (BasedAt i) (hist past w)) where
   office_dry : IsOfficeDry w i

@@ -62,7 +62,7 @@ use Rattle.sbp_world.specs.Lists.OwnLogins.{IsLoginFifo}
 use Rattle.sbp_world.proofs.Lists.DataCalls.{WroteSo, delivery_wrote, lapse_wrote, manages, steps_so, to_logins, IsFirstRun, RunsFirst}
 use Rattle.sbp_world.proofs.Lists.DataFollows.{AllFifo, AllSo, IsBy, of_step, to_fifo}
 use Rattle.sbp_world.proofs.Lists.DataSteps.{reply_piece, ArePrepared, IsFirstNow, IsTurnNow, answer_kept, answers_now, now_first, now_follows, ran_now, ran_well, reply_turn, reply_slot}
-use Rattle.sbp_world.proofs.Lists.DataTurns.{AllDry, AllDue, AreTold, IsPieceNow, Sends, all_leave, all_same, all_told, IsTurnBy, by_first, by_follows, ran_on}
+use Rattle.sbp_world.proofs.Lists.DataTurns.{AllDry, AllDue, AreTold, IsPieceNow, Sends, all_leave, all_told, IsTurnBy, by_first, by_follows, ran_on}
 use Rattle.sbp_world.proofs.Lists.Deliveries.{waits_has}
 use Rattle.sbp_world.proofs.Lists.OwnFifos.{fifo_low, fifo_no_window}
 use Rattle.sbp_world.proofs.Lists.RunOutcomes.{AreAsked}
@@ -100,6 +100,7 @@ use Rattle.sbp_world.proofs.Lists.DataOpen.{none_ended, told_open}
 use Rattle.sbp_world.proofs.Lists.EndTells.{AreMild, EndedBy, TellsEnd, delivery_ends, of_end, of_mild}
 use Rattle.sbp_world.proofs.Lists.RunTells.{delivery_may, served_there}
 use Rattle.sbp_world.proofs.Lists.StatusSteps.{none_wrote}
+use Rattle.sbp_world.proofs.Lists.StatusOffice.{sides_generations as all_same}
 
 -- each live login for the node of an initiator has the FIFO of a login
 abbrev pub FifoFor : WorldState → ℕ → ℕ → ℕ → Type 0

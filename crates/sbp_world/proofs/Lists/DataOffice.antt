@@ -48,11 +48,12 @@ use Rattle.sbp_world.specs.Lists.Needs.{IsFor}
 use Rattle.sbp_world.proofs.Lists.DataHeard.{AreOwnFor, Due, hands, HaveSlots}
 use Rattle.sbp_world.proofs.Lists.DataWalk.{Given}
 use Rattle.sbp_world.proofs.Lists.RunOutcomes.{AreAsked}
-use Rattle.sbp_world.proofs.Lists.StatusOffice.{Kept, decided_kept, failed_kept, lose_none}
+use Rattle.sbp_world.proofs.Lists.StatusOffice.{Kept, decided_kept, failed_kept}
 use Rattle.sbp_world.proofs.Lists.StatusTurn.{Behind, IsFirst}
 use Rattle.sbp_world.proofs.Lists.Turns.{Ready}
 use Rattle.sbp_world.specs.Telling.{told_all}
 use Rattle.sbp_world.proofs.Lists.StatusSteps.{none_wrote}
+use Rattle.sbp_world.proofs.Lists.StatusCalls.{lose_packets as lose_none}
 
 -- an address is in no buffer
 abbrev pub IsDryAt : ℕ → Type 0

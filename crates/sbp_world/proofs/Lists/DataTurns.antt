@@ -28,6 +28,7 @@ use Rattle.sbp_world.specs.Lists.SlotsStay.{HasSlot}
 use Rattle.orb_layout.specs.declared.status.StatusKind.{StatusKind}
 use Rattle.orb_layout.specs.declared.status.StatusKind.TheVariants as kinds
 use Rattle.sbp_world.proofs.Common.{moments_joined}
+use Rattle.sbp_world.proofs.Lists.StatusOffice.{sides_generations}
 
 -- ---- a history grows
 
@@ -129,11 +130,6 @@ module _ (disks : List Disk) (i : ℕ) (past ms : List Moment) (note : Note) whe
   unfolding told_all
   all_told weight [] w f h = h
   all_told weight (side ∷ later) w f h = all_told weight later (told weight side w) f.1 (told_one weight side w f.0 h)
-
-  pub all_same : (weight : ℕ) (told_sides : List Side) (w : WorldState) → (told_all weight told_sides w).generations ≡ w.generations
-  unfolding told_all
-  all_same weight [] w = refl
-  all_same weight (side ∷ later) w = all_same weight later (told weight side w) ∙ told_same weight side w
 
   -- ---- packets that leave, each write of data among them as it is to be
   abbrev pub IsDue : List Moment → GenerationsState → Outgoing → Type 0

@@ -52,9 +52,10 @@ use Rattle.sbp_world.proofs.Lists.Registers.{point_kept, ring_kept, start_cuttin
 use Rattle.sbp_world.proofs.Agents.Management.Still.{hist}
 use Rattle.sbp_world.specs.Lists.CutLists.{WasHad}
 use Rattle.sbp_world.proofs.Lists.Takings.{Takes}
-use Rattle.sbp_world.proofs.Lists.Turns.{First, Ready, acting, got_it, ignored_it, late_it, late_kept, reply_kept, sent_has, v}
+use Rattle.sbp_world.proofs.Lists.Turns.{First, Ready, acting, got_it, ignored_it, late_it, late_kept, reply_kept, v}
 use Rattle.sbp_world.proofs.Lists.StatusCalls.{none_beyond}
 use Rattle.sbp_world.proofs.Lists.OpenTurns.{ahead_lists}
+use Rattle.sbp_world.proofs.Lists.StatusLosses.{sent_has}
 
 -- the first note of a delivery
 pub first_of : (serial : ℕ) (judged : Judged) → First (judged_note serial judged)

@@ -34,7 +34,7 @@ use Rattle.sbp_world.specs.Worlds.{Scene, WorldState, begun, initiator_at, witho
 use Rattle.sbp_world.specs.Agents.Management.Terms.{DeliversMore}
 use Rattle.sbp_world.proofs.Agents.Management.Holding.{Holding}
 use Rattle.sbp_world.proofs.Agents.Management.Lines.{opens}
-use Rattle.sbp_world.proofs.Agents.Management.Runs.{are_told, no_repeats, not_reset}
+use Rattle.sbp_world.proofs.Agents.Management.Runs.{no_repeats, not_reset}
 use Rattle.sbp_world.proofs.Agents.Management.Still.{hist}
 use Rattle.sbp_world.proofs.Agents.Holders.{are_held, seats_after}
 use Rattle.sbp_world.proofs.Agents.Seating.{all_seats, opened as seats_opened}
@@ -45,7 +45,7 @@ use Rattle.sbp_world.proofs.Agents.UnitsTold.{AreFound, IsFoundBy}
 use Rattle.sbp_world.specs.Hosts.Orbs.{HoldsOrbs}
 use Rattle.sbp_world.specs.Hosts.Runs.{IsRun, more_deliveries}
 use Rattle.sbp_world.proofs.Hosts.Orbs.{orbs_law}
-use Rattle.sbp_world.proofs.Hosts.Runs.{count_after, count_between}
+use Rattle.sbp_world.proofs.Hosts.Runs.{count_after, count_between, are_told}
 use Rattle.sbp_world.specs.Lists.CarriedRuns.{ReadAt, RunsAreRead, RunsReadLaw}
 use Rattle.sbp_world.specs.Lists.EndReads.{EndAt, EndsAreRead, EndsReadLaw}
 use Rattle.sbp_world.specs.Lists.DueRuns.{DueRunsLaw}
@@ -91,11 +91,12 @@ use Rattle.sbp_world.proofs.Lists.OnceLaws.{lists_run_law, runs_run_law}
 use Rattle.sbp_world.proofs.Lists.RunOutcomes.{AreAsked, IsSet, run_so}
 use Rattle.sbp_world.proofs.Lists.RunReads.{read_so}
 use Rattle.sbp_world.proofs.Lists.RunSites.{more_by}
-use Rattle.sbp_world.proofs.Lists.Runs.{At, EarlyAfter, KeptAfter, as_front, at_told, calm_at, calm_back, early_after, facts, facts_at, history_is, holds_at, hosts, is_run, kept_told, lists_at, lists_here, moments_same, next_holds, next_is, next_kept, site, site_at}
+use Rattle.sbp_world.proofs.Lists.Runs.{At, EarlyAfter, KeptAfter, as_front, at_told, calm_at, calm_back, early_after, facts, facts_at, history_is, holds_at, hosts, is_run, kept_told, lists_at, lists_here, next_holds, next_is, next_kept, site, site_at}
 use Rattle.sbp_world.proofs.Lists.Sites.{Site, named_prepared}
 use Rattle.sbp_world.proofs.Lists.Stays.{ready_now}
 use Rattle.sbp_world.proofs.Lists.Turns.{Ready}
 use Rattle.sbp_world.proofs.Common.{said_split}
+use Rattle.sbp_world.proofs.Lists.JoinLaws.{moments_same}
 
 -- ---- the law at a moment
 -- where no initiator injected packets, or few logins were given, so that lists are open as they should be, and were so before

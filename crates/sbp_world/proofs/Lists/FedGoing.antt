@@ -44,7 +44,7 @@ use Rattle.sbp_world.proofs.Lists.OrbNotes.{GotBrings}
 use Rattle.sbp_world.proofs.Lists.OrbSteps.{ReadAheadOf, holds_read}
 use Rattle.sbp_world.proofs.Lists.Quiet.{AllQuiet, IsQuiet}
 use Rattle.sbp_world.proofs.Lists.TurnReads.{Course, as_it_was, by_asked, by_judged, by_noted}
-use Rattle.sbp_world.proofs.Lists.WasReads.{each_at}
+use Rattle.sbp_world.proofs.Lists.StatusLogins.{each_there as each_at}
 
 -- ---- what is known of an agent, otherwise
 module _ (R S : ℕ → CommandOrb → Type 0) (m : Machine) (ahead : (orb : CommandOrb) → m.ahead ≡ aheads.Kept orb → (offset : ℕ) → m.orb.next ≡ At offset → R (aligned offset) orb → S (aligned offset) orb) where

@@ -6,7 +6,7 @@ use Rattle.bus_transactions.specs.Packets.{SerialsCount}
 use Rattle.async_packet.specs.Fields.{rcode_of}
 use Rattle.sbp_journal.specs.Run.{Moment, asked, said}
 use Rattle.sbp_journal.specs.Transactions.{Kind, Part, Sending, Transaction, asked_by, at, begun_by, between, is_same, is_same_kind, is_to, no_packet, part_of, request, response}
-use Rattle.sbp_journal.specs.Wire.{Held, Owed, Terms, arrives, asked_in, begins, begun_in, closes, closes_if, free, gets, gets_as, ignores, ignores_that, is_news, is_served, judges_if, kind_in, noted, pays, puts, rests, sends, terms, times_out, waits}
+use Rattle.sbp_journal.specs.Wire.{Held, Terms, arrives, begins, begun_in, closes, closes_if, free, gets, gets_as, ignores, ignores_that, is_news, is_served, judges_if, kind_in, noted, puts, rests, sends, terms, times_out, waits}
 use Rattle.sbp_journal.specs.declared.cause.Cause.{Cause}
 use Rattle.sbp_journal.specs.declared.cause.Cause.TheVariants as causes
 use Rattle.sbp_journal.specs.declared.event.Event.TheVariants as events
@@ -15,7 +15,7 @@ use Rattle.sbp_journal.specs.declared.note.Note.TheVariants as notes
 use Rattle.sbp_laws.specs.Packets.{closed_by}
 use Rattle.sbp_world.proofs.Hosts.Remaining.{remains}
 use Rattle.sbp_world.proofs.Hosts.SentMoments.{sent_below, serials_from}
-use Rattle.sbp_world.proofs.Hosts.Held.{sends_sent, gives_held}
+use Rattle.sbp_world.proofs.Hosts.Held.{sends_sent, pays_held}
 use Rattle.sbp_world.proofs.Pointers.Ages.{serial_is}
 use Rattle.sbp_world.proofs.Agents.Management.Still.{judges_held}
 use Rattle.sbp_world.proofs.Lists.LastReads.{opened_held}
@@ -45,10 +45,6 @@ module _ (v : Transaction) (k : Kind) (s : ℕ) where
   rests_not e = cc
 
   -- ---- a packet is sent
-
-  pub pays_held : (owed : Option Owed) (sent : ℕ → Option Sending) (serial : ℕ) (q : Sending) (t : Terms) → (pays owed sent serial q t).held ≡ t.held
-  pays_held None sent serial q t = refl
-  pays_held (Some owed) sent serial q t = gives_held (asked_in (sent owed.serial)) (rcode_of q.bytes) t
 
   begins_waits : (u : Option Transaction) (serial : ℕ) (q : Sending) (t : Terms) → (begins u serial q t).held v ≡ waits k s → (t.held v ≡ waits k s) ⊎ (s ≡ serial)
   begins_waits None serial q t e = inl e

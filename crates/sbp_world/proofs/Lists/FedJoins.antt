@@ -33,11 +33,12 @@ use Rattle.sbp_world.specs.Lists.GotOnce.{NoneAgain}
 use Rattle.sbp_world.proofs.Lists.Fair.{Told, told_before, told_everywhere}
 use Rattle.sbp_world.proofs.Lists.Calm.{calm_before}
 use Rattle.sbp_world.proofs.Lists.Executes.{NamedRun, OpensBeside, opens_before, runs_named}
-use Rattle.sbp_world.proofs.Lists.FedOnce.{got_once, judged_before, judged_everywhere}
+use Rattle.sbp_world.proofs.Lists.FedOnce.{got_once, judged_everywhere}
 use Rattle.sbp_world.proofs.Lists.FedSince.{beside_law}
 use Rattle.sbp_world.proofs.Lists.ListsProved.{closing}
 use Rattle.sbp_world.proofs.Lists.ManageTerms.{same_some}
 use Rattle.sbp_world.proofs.Lists.WasReads.{orb_is}
+use Rattle.sbp_world.proofs.Lists.StatusKnown.{judged_less as judged_before}
 
 -- ---- moments in two parts
 none_front : (r : ℕ) (a b : List Moment) → NoneAgain r (a ++ b) → NoneAgain r a

@@ -28,6 +28,7 @@ use Rattle.sbp_world.proofs.Lists.BegunBy.{IsHeld, begun_of, held_by, transactio
 use Rattle.sbp_world.proofs.Lists.Calm.{injects_before}
 use Rattle.sbp_world.proofs.Lists.FedHeld.{IsNewer, got_frees, waits_since}
 use Rattle.sbp_world.proofs.Lists.BufferGets.{fair_back}
+use Rattle.sbp_world.proofs.Lists.StatusKnown.{judged_less}
 
 -- ---- a response that is got is awaited
 row_awaited : (current for_node awaited repeated : Bool) → may_get (row_of (record { is_current = current; is_for_node = for_node; is_response = true; is_awaited = awaited; is_repeated = repeated })) ≡ true → awaited ≡ true
@@ -65,15 +66,6 @@ reply_by t r own (Some q) e f = by (part_of q.bytes) refl f
     by (response label kind) g c = record { packet = q; sent = e; label = label; kind = kind; part = g; closes = c }
     by (request label kind) g c = absurd (let x : None ≡ Some own = c in cc)
     by no_packet g c = absurd (let x : None ≡ Some own = c in cc)
-
-pub judged_before : (m : Moment) (past : List Moment) → AreJudged (m ∷ past) → AreJudged past
-judged_before (asked line event) past j = j
-judged_before (said note) past j = by note j
-  where
-    by : (note : Note) → AreJudged (said note ∷ past) → AreJudged past
-    by (notes.Got s) j = j.1
-    by (notes.Ignored s cause) j = j.1
-    by note j = j
 
 told_from : (later earlier : List Moment) → Told (later ++ earlier) → Told earlier
 told_from [] earlier f = f
@@ -198,9 +190,9 @@ module _ (earlier : List Moment) (r own : ℕ) (asking : Sending) (closed : answ
   none_again : (later : List Moment) → Told (later ++ E) → AreJudged (later ++ E) → AreFair (later ++ E) → NoneAgain r later
   none_again [] f j fair = tt
   none_again (asked line event ∷ later) f j fair =
-      none_again later (told_before (asked line event) (later ++ E) f) (judged_before (asked line event) (later ++ E) j) (are_before (asked line event) (later ++ E) fair)
+      none_again later (told_before (asked line event) (later ++ E) f) (judged_less (asked line event) (later ++ E) j) (are_before (asked line event) (later ++ E) fair)
   none_again (said note ∷ later) f j fair =
-      by note f j fair (none_again later (told_before (said note) (later ++ E) f) (judged_before (said note) (later ++ E) j) (are_before (said note) (later ++ E) fair))
+      by note f j fair (none_again later (told_before (said note) (later ++ E) f) (judged_less (said note) (later ++ E) j) (are_before (said note) (later ++ E) fair))
     where
       by : (note : Note) → Told (said note ∷ (later ++ E)) → AreJudged (said note ∷ (later ++ E)) → AreFair (said note ∷ (later ++ E)) → NoneAgain r later → NoneAgain r (said note ∷ later)
       by (notes.Got serial) f j fair rest = (not_again later serial f j (are_before (said (notes.Got serial)) (later ++ E) fair), rest)

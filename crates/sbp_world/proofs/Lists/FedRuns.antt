@@ -37,7 +37,7 @@ use Rattle.sbp_target.specs.Receiving.{answer_in}
 use Rattle.sbp_world.specs.Telling.{holder}
 use Rattle.sbp_world.specs.Worlds.{Scene, WorldState}
 use Rattle.sbp_world.proofs.Agents.Management.Still.{hist}
-use Rattle.sbp_world.proofs.Agents.UnitsRun.{ahead_none, none_if}
+use Rattle.sbp_world.proofs.Agents.UnitsRun.{ahead_none}
 use Rattle.agent_laws.specs.Along.Steps.{heard_by}
 use Rattle.sbp_laws.specs.Lists.{slot_at}
 use Rattle.sbp_world.specs.Lists.FedRuns.{AreBeside, FedAt, RunIsFed}
@@ -56,6 +56,7 @@ use Rattle.sbp_world.proofs.Lists.Runless.{IsRunBy}
 use Rattle.sbp_world.proofs.Lists.RunOutcomes.{IsSet, asked_so, goes, is_open, list_is, opened, orb_is, request_is, runs, small}
 use Rattle.sbp_world.proofs.Lists.RunReads.{present_is}
 use Rattle.sbp_world.proofs.Common.{and_first}
+use Rattle.sbp_world.proofs.Agents.UnitsKept.{runs_if as none_if}
 
 -- ---- an ORB, its buffer and its data, as reads brought them
 module _ (command : Option Cmd) (request : Option Request) (slot : ℕ) (a : WasAsked command request slot) (orb : CommandOrb) (o : IsOrbOf command slot orb) (segments : List Segment) (laid : IsBufferOf command slot segments) (tables pieces : List Moved) where

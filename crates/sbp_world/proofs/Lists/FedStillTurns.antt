@@ -58,8 +58,8 @@ use Rattle.sbp_world.proofs.Lists.StillTurns as still
 use Rattle.sbp_world.proofs.Lists.StillTurns.{Ground, none_acts, none_prepared, site_at}
 use Rattle.sbp_world.proofs.Lists.TurnReads.{Course, delivery_course, line_course}
 use Rattle.sbp_world.proofs.Lists.Turned.{IsOne}
-use Rattle.sbp_world.proofs.Lists.WasReads.{each_at}
 use Rattle.sbp_world.proofs.Lists.FedStillReads.{AllFedStill, AreFedStill, AreSentAhead, FedStill, IsOwner, KnownHad, KnownStill, fed_before, got_read, read_known, ready_in, turned_known}
+use Rattle.sbp_world.proofs.Lists.StatusLogins.{each_there as each_at}
 
 -- ---- a turn
 module _ (units ready : ℕ) (has : 0 < units) (start : List Disk) (past : List Moment) (s : Scene) (later : List Moment) (t : Scene) {lines more : ℕ} (h : Holding units ready start past lines s.world) (h_now : Holding units ready start later more t.world) (q : Ground start (hist past s.world) s.world) (q_now : Ground start (hist later t.world) t.world) (beside : IsTameOrFew (hist past s.world)) (beside_now : IsTameOrFew (hist later t.world)) (owns : Owns s.world t.world) (count : length t.world.initiators ≡ length s.world.initiators) (have : AreStill start (hist past s.world) s.world) (fed : AreFedStill start (hist past s.world) s.world) (back : List Moment) (behind : back ++ hist past s.world ≡ hist later t.world) where

@@ -1,6 +1,6 @@
 -- A turn of the target's management as a reply takes its operation on: the one packet that it sends is that of the operation; and where it is a block that names a
 -- management ORB, it is the status block with which this operation ends, for the node that it is of.
-use Rattle.std.proofs.Common.{◌≡◌, ◌∙◌, ◌⊎◌, inl, inr, refl, sym, ap, subst, ◌<◌, ◌+◌, ◌^◌, ◌&&◌, not, nat_eq, nat_le, ℕ, suc, Bool, true, false, cond, List, [], ◌∷◌, length, Option, Some, None, Ok}
+use Rattle.std.proofs.Common.{◌≡◌, ◌∙◌, ◌⊎◌, inl, inr, refl, sym, ap, subst, ◌<◌, ◌+◌, ◌^◌, ◌&&◌, not, nat_eq, nat_le, ℕ, suc, Bool, true, false, cond, List, [], length, Option, Some, None, Ok}
 use Rattle.std.proofs.Common.{arith}
 use Rattle.std.proofs.lemmas.Bool.Decides.{nat_tests}
 use Rattle.std.proofs.lemmas.Option.{same_Some}
@@ -24,7 +24,6 @@ use Rattle.orb_layout.specs.StatusBlocks.{read_block}
 use Rattle.rbc_disk.specs.Disk.{Disk}
 use Rattle.sbp_bus.specs.Generations.{GenerationsState, node_of, topology_at}
 use Rattle.sbp_journal.specs.Addresses.{Access}
-use Rattle.sbp_journal.specs.declared.outbox.Outgoing.{Outgoing}
 use Rattle.sbp_journal.specs.Outgoings.{OutboxState}
 use Rattle.sbp_journal.specs.Run.{Moment}
 use Rattle.sbp_journal.specs.Wire.{Terms, terms}
@@ -48,7 +47,7 @@ use Rattle.sbp_world.specs.Agents.Management.Offices.{Office, by_sides}
 use Rattle.sbp_world.proofs.Agents.AskedBytes.{reads_back}
 use Rattle.sbp_world.proofs.Agents.Management.Asking.{Leaves, MayLeave, Turned, leaves, silent}
 use Rattle.sbp_world.proofs.Agents.Management.Idle.{IsIdle}
-use Rattle.sbp_world.proofs.Agents.Management.Managed.{IsReady}
+use Rattle.sbp_world.proofs.Agents.Management.Managed.{IsReady, one_sent}
 use Rattle.sbp_world.proofs.Agents.Management.Outs.{request_office, requested, sides_idle, told_terms}
 use Rattle.sbp_world.proofs.Agents.Management.Requests.{IsRequestFor, asked_labelled, asks_as, body_wants, writes_body}
 use Rattle.sbp_world.proofs.Agents.Management.Still.{hist}
@@ -154,10 +153,6 @@ pub record IsOwn (given : Type 0) (source : ℕ) (first : Office) (op : Operatio
   pub small : op.orb < 2 ^ 48
   pub unread : (op.phase ≡ phases.Status → ⊥) → (at len : ℕ) → first.asks ≡ asks.Write at len → Unread first.manager.outgoing × (is_responding op.phase ≡ true)
   pub clear : given → op.phase ≡ phases.Status → (at len : ℕ) → first.asks ≡ asks.Write at len → IsClearFifo at
-
-pub one_sent : (packet : Outgoing) (v : WorldState) → sent_all 0 (packet ∷ []) v ≡ sent 0 packet v
-unfolding sent_all
-one_sent packet v = refl
 
 none_sent : (v : WorldState) → sent_all 0 [] v ≡ v
 unfolding sent_all

@@ -58,10 +58,10 @@ use Rattle.sbp_world.proofs.Agents.Management.Offices.{over_keeps}
 use Rattle.sbp_world.proofs.Agents.Management.Still.{Clock, gets_clock, hist}
 use Rattle.sbp_world.proofs.Agents.Management.Told.{office_in, term_in}
 use Rattle.sbp_world.specs.Lists.Buffers.{IsClearFifo}
-use Rattle.sbp_world.proofs.Lists.ContentDelivery.{marked_generations, ready_on}
 use Rattle.sbp_world.proofs.Lists.FifoManages.{F, IsOwn, managing_so}
 use Rattle.sbp_world.proofs.Lists.FifoReplies.{IsFifoFrom, fifo_from, reply_unread}
 use Rattle.sbp_world.proofs.Lists.ManageReplies.{reply_goes}
+use Rattle.sbp_world.proofs.Agents.Management.Delivery.{ready_on, marked_generations}
 
 module _ (given : Type 0) {past : List Moment} (start : List Disk) (w : WorldState) (h : Stands past w) (g : Good w.target) (law : TransactionLaw w.target) (at : IsManagementAt start (hist past w) w.target) (serial : ℕ) (again : Bool) (sent : Sent) (found : found_sent serial w.store.kept ≡ Some sent) (zero_to : sent.to ≡ 0) where
   abbrev t : Terms

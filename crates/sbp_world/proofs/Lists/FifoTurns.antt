@@ -65,7 +65,7 @@ use Rattle.sbp_world.specs.Hosts.Handing.{AreOthers}
 use Rattle.sbp_world.specs.Lists.Needs.{IsFor, machine_at}
 use Rattle.sbp_world.proofs.Lists.Adds.{all_stay}
 use Rattle.sbp_world.proofs.Lists.FifoLines.{IsAside, IsWatched, WriteSo, all_aside, is_plain, plain_on, target_hands}
-use Rattle.sbp_world.proofs.Lists.FifoManages.{F, one_sent}
+use Rattle.sbp_world.proofs.Lists.FifoManages.{F}
 use Rattle.sbp_world.proofs.Lists.Passing.{PassLaw}
 use Rattle.sbp_world.proofs.Lists.StatusActs.{M, first}
 use Rattle.sbp_world.proofs.Lists.StatusBytes.{written_at}
@@ -79,6 +79,7 @@ use Rattle.sbp_world.proofs.Lists.StatusTold.{law_before, told_due}
 use Rattle.sbp_world.proofs.Lists.StatusTurn.{Behind, IsFirst, got_first, ignored_first, judged_first, late_first}
 use Rattle.sbp_world.proofs.Lists.Turns.{Ready}
 use Rattle.sbp_world.proofs.Lists.StatusSteps.{none_wrote}
+use Rattle.sbp_world.proofs.Agents.Management.Managed.{one_sent}
 
 none_list : (n : ℕ) → list_in None ≡ Some n → ⊥
 none_list n e = cc

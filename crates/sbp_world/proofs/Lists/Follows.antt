@@ -25,7 +25,6 @@ use Rattle.sbp_journal.specs.Outgoings.{OutboxState}
 use Rattle.sbp_journal.specs.Run.{Moment, said}
 use Rattle.sbp_journal.specs.declared.note.Note.{Note}
 use Rattle.sbp_journal.specs.declared.note.Note.TheVariants as notes
-use Rattle.sbp_journal.specs.declared.side.Side.{Side}
 use Rattle.sbp_journal.specs.declared.side.Side.TheVariants as sides
 use Rattle.sbp_target.specs.declared.desk.Desk.{Desk}
 use Rattle.sbp_target.specs.declared.purpose.Purpose.{Purpose}
@@ -44,6 +43,7 @@ use Rattle.sbp_world.proofs.Lists.Presents.{lost_presents}
 use Rattle.sbp_world.proofs.Lists.Later.{had_next}
 use Rattle.sbp_world.proofs.Lists.Told.{Apart, Behind, Due, Others, behind, dead_fresh, ended_fresh, i, ran_fresh, step_fresh, step_told}
 use Rattle.sbp_world.proofs.Lists.Passing.{PassLaw}
+use Rattle.sbp_world.proofs.Agents.Telling.{told_snoc}
 
 -- ---- the agents of a node
 
@@ -86,10 +86,6 @@ agent_there : (node : NodeState) (k p : ℕ) (m : Machine) → k < length node.d
 agent_there node k p m b f = ap (λ (x : Desk). x.agent) (set_there node k p (record (desk_at node k) { agent = m }) b f)
 
 -- ---- what is told, one after the other
-pub told_last : (side : List Side) (last : Side) (w : WorldState) → told_all 0 (side ++ last ∷ []) w ≡ told 0 last (told_all 0 side w)
-unfolding told_all
-told_last [] last w = refl
-told_last (side ∷ later) last w = told_last later last (told 0 side w)
 
 -- u is the world before anything is told, and v is it behind a pointer that is taken, or u itself.
 module _ (wild : ℕ → Bool) (past : List Moment) (u v : WorldState) (q n : ℕ) (machines : ℕ → Machine) (b : q < 8) (apart : Apart wild past v q n machines) where
@@ -129,7 +125,7 @@ module _ (wild : ℕ → Bool) (past : List Moment) (u v : WorldState) (q n : �
   ran_says None m o fresh e = e
   ran_says (Some outcome) m o fresh e =
       let side = sides.Ran q (orb_of m) m.orb.cdb m.payload outcome in
-      looks_as (told_all 0 (o.sides ++ side ∷ []) u) (told 0 side (told_all 0 o.sides u)) (told 0 side (record v { fresh = fresh })) (told_last o.sides side u)
+      looks_as (told_all 0 (o.sides ++ side ∷ []) u) (told 0 side (told_all 0 o.sides u)) (told 0 side (record v { fresh = fresh })) (told_snoc o.sides side u)
       (ran_looks q (orb_of m) m.orb.cdb m.payload outcome (told_all 0 o.sides u) (record v { fresh = fresh }) e)
 
   dead_says : (x : Option FailCause) (o : OutboxState) (fresh : List Note) → Says o fresh → Says (tell_dead q x o) (dead_fresh wild past v q n machines x fresh)
@@ -137,7 +133,7 @@ module _ (wild : ℕ → Bool) (past : List Moment) (u v : WorldState) (q n : �
   dead_says None o fresh e = e
   dead_says (Some cause) o fresh e =
       let side = sides.Dead q cause in
-      looks_as (told_all 0 (o.sides ++ side ∷ []) u) (told 0 side (told_all 0 o.sides u)) (told 0 side (record v { fresh = fresh })) (told_last o.sides side u)
+      looks_as (told_all 0 (o.sides ++ side ∷ []) u) (told 0 side (told_all 0 o.sides u)) (told 0 side (record v { fresh = fresh })) (told_snoc o.sides side u)
       (dead_looks q cause (told_all 0 o.sides u) (record v { fresh = fresh }) e)
 
   ended_says : (x : Option StatusKind) (m : Machine) (o : OutboxState) (fresh : List Note) → Says o fresh → Says (tell_ended q m x o) (ended_fresh wild past v q n machines x m fresh)
@@ -145,7 +141,7 @@ module _ (wild : ℕ → Bool) (past : List Moment) (u v : WorldState) (q n : �
   ended_says None m o fresh e = e
   ended_says (Some status) m o fresh e =
       let side = sides.Ended q (orb_of m) status in
-      looks_as (told_all 0 (o.sides ++ side ∷ []) u) (told 0 side (told_all 0 o.sides u)) (told 0 side (record v { fresh = fresh })) (told_last o.sides side u)
+      looks_as (told_all 0 (o.sides ++ side ∷ []) u) (told 0 side (told_all 0 o.sides u)) (told 0 side (record v { fresh = fresh })) (told_snoc o.sides side u)
       (ended_looks q (orb_of m) status (told_all 0 o.sides u) (record v { fresh = fresh }) e)
 
   step_says : (step : AgentStep) (m : Machine) (o : OutboxState) (fresh : List Note) → Says o fresh → Says (tell_step q m step o) (step_fresh wild past v q n machines (step, m) fresh)
@@ -304,14 +300,14 @@ module _ (wild : ℕ → Bool) (past : List Moment) (u v : WorldState) (q n : �
   unfolding told
   unsolicited_says place o fresh e =
       let side = sides.Unsolicited place in
-      looks_as (told_all 0 (o.sides ++ side ∷ []) u) (told 0 side (told_all 0 o.sides u)) (told 0 side (record v { fresh = fresh })) (told_last o.sides side u)
+      looks_as (told_all 0 (o.sides ++ side ∷ []) u) (told 0 side (told_all 0 o.sides u)) (told 0 side (record v { fresh = fresh })) (told_snoc o.sides side u)
       (unsolicited_looks place (told_all 0 o.sides u) (record v { fresh = fresh }) e)
 
   unsent_says : (place : ℕ) (o : OutboxState) (fresh : List Note) → Says o fresh → Says (with_side o (sides.Unsent place)) (notes.Unsent (holder v place).initiator ∷ fresh)
   unfolding told
   unsent_says place o fresh e =
       let side = sides.Unsent place in
-      looks_as (told_all 0 (o.sides ++ side ∷ []) u) (told 0 side (told_all 0 o.sides u)) (told 0 side (record v { fresh = fresh })) (told_last o.sides side u)
+      looks_as (told_all 0 (o.sides ++ side ∷ []) u) (told 0 side (told_all 0 o.sides u)) (told 0 side (record v { fresh = fresh })) (told_snoc o.sides side u)
       (unsent_looks place (told_all 0 o.sides u) (record v { fresh = fresh }) e)
 
   -- a note of it

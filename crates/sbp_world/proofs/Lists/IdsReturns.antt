@@ -42,7 +42,6 @@ use Rattle.sbp_world.proofs.Lists.OwnCounts.{FewAt}
 use Rattle.sbp_world.proofs.Lists.OwnLogins.{AreOwnOpsAt, OwnKnown, decided_good, ops_everywhere, own_known}
 use Rattle.sbp_world.proofs.Lists.OwnOps.{AreOwnOps, IsOwnOp, StoodThere, brings_held, short_from}
 use Rattle.sbp_world.proofs.Lists.OwnTables.{owned}
-use Rattle.sbp_world.proofs.Lists.PlacedOps.{each_from}
 use Rattle.sbp_world.specs.Histories.{moments_behind}
 use Rattle.sbp_world.specs.Hosts.Carrying.{NoneInjected}
 use Rattle.sbp_world.specs.Lists.Contents.{AreAsked}
@@ -59,6 +58,7 @@ use Rattle.sbp_world.specs.Runs.{Run, beginning}
 use Rattle.sbp_world.specs.Worlds.{WorldState}
 use Rattle.mgmt_agent.specs.declared.operation.Phase.TheVariants as phases
 use Rattle.sbp_target.specs.declared.purpose.Purpose.TheVariants as purposes
+use Rattle.sbp_world.proofs.Lists.StatusKnown.{each_from}
 
 -- ---- what is known at each place of every run
 record Known (start : List Disk) (past : List Moment) (w : WorldState) : Type 0 where

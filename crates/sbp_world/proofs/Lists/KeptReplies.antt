@@ -17,7 +17,7 @@ use Rattle.orb_layout.specs.declared.ask.FailCause.{FailCause}
 use Rattle.orb_layout.specs.declared.ask.FailCause.TheVariants as causes
 use Rattle.orb_layout.specs.declared.management.ManagementOrb.{ManagementOrb}
 use Rattle.orb_layout.specs.ManagementOrbs.{management_orb}
-use Rattle.orb_layout.specs.Replies.{Answer, Done, Expired, NoLabel, Payload, Refused, payload_of, write_failure}
+use Rattle.orb_layout.specs.Replies.{Answer, Payload, payload_of, write_failure}
 use Rattle.rbc_disk.specs.Disk.{Disk}
 use Rattle.rbc_disk.specs.Runs.{Told}
 use Rattle.sbp_base.specs.Quadlets.{quad}
@@ -33,18 +33,7 @@ use Rattle.sbp_world.specs.Agents.Management.Offices.{Office}
 use Rattle.sbp_world.proofs.Sessions.Decisions.{none_goes}
 use Rattle.sbp_world.proofs.Sessions.Writing.{behind}
 use Rattle.sbp_world.specs.Lists.KeptOrbs.{KeepsIn}
-
--- an answer that brings as many bytes as were asked for has them
-pub payload_is : (answer : Answer) (size : ℕ) (bytes : List ℕ) → payload_of answer size ≡ Ok bytes → answer ≡ Payload bytes
-payload_is (Payload xs) size bytes e = by (length xs == size) e
-  where
-    by : (b : Bool) → cond {A = Result (List ℕ) FailCause} b (Ok xs) (Err causes.Grammar) ≡ Ok bytes → Payload xs ≡ Payload bytes
-    by true f = ap (λ ys. Payload ys) (let same : xs ≡ bytes = cc in same)
-    by false f = absurd (let differ : Err causes.Grammar ≡ Ok bytes = f in cc)
-payload_is Done size bytes e = absurd (let differ : Err causes.Grammar ≡ Ok bytes = e in cc)
-payload_is (Refused rcode) size bytes e = absurd (let differ : Err causes.Refused ≡ Ok bytes = e in cc)
-payload_is Expired size bytes e = absurd (let differ : Err causes.Timeout ≡ Ok bytes = e in cc)
-payload_is NoLabel size bytes e = absurd (let differ : Err causes.Label ≡ Ok bytes = e in cc)
+use Rattle.sbp_world.proofs.Lists.OpenedReplied.{pays_as}
 
 -- of an operation that is under way behind a reply
 pub data HasRead (before : Option Operation) (answer : Answer) (now : Operation) : Type 0 where
@@ -94,7 +83,7 @@ module _ (m : Machine) (answer : Answer) (own : Operation) (is : m.operation ≡
     orb_read (Ok bytes) e p =
         let orb = management_orb bytes in
         pick_step (reads_eui orb) (beside t (eui_step m own (phases.HighEui orb) high_eui_at)) (decide_step m own orb 0 t keys)
-        (reads p bytes (payload_is answer 32 bytes e) (phases.HighEui orb) refl) (decides orb 0)
+        (reads p bytes (pays_as answer 32 bytes e) (phases.HighEui orb) refl) (decides orb 0)
 
     high_read : (bytes : Result (List ℕ) FailCause) (orb : ManagementOrb) → own.phase ≡ phases.HighEui orb → Read (high_got bytes m own orb).1.operation
     high_read (Err cause) orb p = over

@@ -9,7 +9,6 @@ use Rattle.packet_store.specs.declared.sent.Kept.{Kept}
 use Rattle.packet_store.specs.declared.sent.Sent.{Sent}
 use Rattle.packet_store.specs.Kept.{found_sent}
 use Rattle.rbc_disk.specs.Disk.{Disk}
-use Rattle.sbp_base.specs.Update.{upd}
 use Rattle.sbp_journal.specs.Run.{Moment, asked, said}
 use Rattle.sbp_journal.specs.Transactions.{Part, Sending, no_packet, part_of, request, response}
 use Rattle.sbp_journal.specs.Wire.{terms}
@@ -34,6 +33,8 @@ use Rattle.sbp_world.proofs.Lists.ManageSights.{again_calm, sight_calm}
 use Rattle.sbp_world.proofs.Lists.ManageStays.{Calms, calm_rest}
 use Rattle.sbp_world.proofs.Lists.ManageTerms.{got_rests, ignored_rests, same_some, timed_rests}
 use Rattle.sbp_world.proofs.Common.{cond_on}
+use Rattle.sbp_world.proofs.Wire.OnceHere.{other_news}
+use Rattle.sbp_world.proofs.Hosts.Hands.{line_stays}
 
 -- what such moments leave
 pub record Over (start : List Disk) (past now : List Moment) (i : ℕ) : Type 0 where
@@ -107,8 +108,6 @@ module _ (start : List Disk) (past : List Moment) (i serial generation j to : �
   }
 
 -- ---- a note
-upd_apart : (f : ℕ → ℕ) (n m g : ℕ) → nat_eq m n ≡ false → upd f n g m ≡ f m
-upd_apart f n m g e = ap (λ b. cond b g (f m)) e
 
 module _ (start : List Disk) (i own : ℕ) (kept : List Kept) where
   -- what was in the store was sent
@@ -139,7 +138,7 @@ module _ (start : List Disk) (i own : ℕ) (kept : List Kept) where
           (ap (λ b. cond b generation ((terms past).generation (suc i))) (let x : nat_eq (suc i) (suc i) ≡ true = grind (arith, nat_tests) in x) ∙ g) (λ s. refl))
       by false e =
           calm_over start past (said (notes.Seen node generation) ∷ past) i (sight_calm start node generation past i e none) (λ s. refl)
-          (upd_apart (terms past).generation node (suc i) generation (grind (arith, nat_tests))) (λ s. refl)
+          (other_news (terms past).generation node (suc i) generation (grind (arith, nat_tests))) (λ s. refl)
 
   note_over : (note : Note) (past : List Moment) → IsAway i own kept note → (terms past).generation (suc i) ≡ own → WereSent past → MayHand start i (said note) past → Over start past (said note ∷ past) i
   note_over (notes.Begin initiators ready) past a here were h = absurd a
@@ -191,11 +190,6 @@ sent_goes : (serial generation from to : ℕ) (bytes : List ℕ) (past : List Mo
 sent_goes serial generation from to bytes past i (no_act n) = sent_first serial generation from to bytes past i n
 sent_goes serial generation from to bytes past i (begins_none action line none) = acting_first serial generation from to bytes past i action line none
 
--- the line of notes
-pub event_behind : (ns : List Note) (past : List Moment) → event_of (map said ns ++ past) ≡ event_of past
-event_behind [] past = refl
-event_behind (note ∷ ns) past = event_behind ns past
-
 module _ (i own : ℕ) (kept : List Kept) where
   note_host : (note : Note) (past : List Moment) → IsAway i own kept note → Steady i (event_of past) → Goes (host_at past i) (host_at (said note ∷ past) i)
   note_host (notes.Begin initiators ready) past a y = absurd a
@@ -206,4 +200,4 @@ module _ (i own : ℕ) (kept : List Kept) where
   notes_host [] past a y = same_goes (host_at past i) (host_at past i) refl
   notes_host (note ∷ ns) past a y =
       let here : List Moment = map said ns ++ past in
-      goes_then (host_at past i) (host_at here i) (host_at (said note ∷ here) i) (notes_host ns past a.1 y) (note_host note here a.0 (subst (Steady i) (sym (event_behind ns past)) y))
+      goes_then (host_at past i) (host_at here i) (host_at (said note ∷ here) i) (notes_host ns past a.1 y) (note_host note here a.0 (subst (Steady i) (sym (line_stays ns past)) y))

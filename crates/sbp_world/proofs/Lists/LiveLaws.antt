@@ -25,7 +25,7 @@ use Rattle.sbp_world.specs.Worlds.{Scene, WorldState, begun, initiator_at}
 use Rattle.sbp_world.specs.Agents.Management.Terms.{DeliversMore}
 use Rattle.sbp_world.proofs.Agents.Management.Holding.{Holding, known_id}
 use Rattle.sbp_world.proofs.Agents.Management.Lines.{all_heard, opens}
-use Rattle.sbp_world.proofs.Agents.Management.Runs.{are_told, holds_after, no_repeats, not_reset}
+use Rattle.sbp_world.proofs.Agents.Management.Runs.{holds_after, no_repeats, not_reset}
 use Rattle.sbp_world.proofs.Agents.Management.Still.{hist}
 use Rattle.sbp_world.specs.Sessions.Entering.{joined_with}
 use Rattle.sbp_world.proofs.Sessions.Turns.{wire_generation}
@@ -37,6 +37,7 @@ use Rattle.sbp_world.proofs.Lists.LiveOwn.{in_hand}
 use Rattle.sbp_world.proofs.Lists.LiveRuns.{AllLive, GrownBy, HelpedBy, Known, all_after, all_between, known_everywhere}
 use Rattle.sbp_world.proofs.Lists.LiveStandings.{Claims, apart, number_in, stand_of}
 use Rattle.sbp_world.proofs.Lists.LiveSteps.{Alive, ClaimsOf, GaveUpOf, id_in, own_of, zero_of}
+use Rattle.sbp_world.proofs.Hosts.Runs.{are_told}
 
 -- ---- by the session
 seat_apart : (seat : Seat) → is_apart seat ≡ true → stand_of seat ≡ apart

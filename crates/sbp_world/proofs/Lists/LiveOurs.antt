@@ -35,27 +35,26 @@ use Rattle.sbp_world.specs.Lists.Tellings.{IsTaken}
 use Rattle.sbp_world.specs.Lists.Underway.{OperationsLast}
 use Rattle.sbp_world.proofs.Lists.Courses.{Goes, by_delivery, by_end, by_line, by_start}
 use Rattle.sbp_world.proofs.Lists.Judging.{goes_next, grown, turn_fresh}
-use Rattle.sbp_world.proofs.Lists.LiveAway.{Over, Steady, begins_none, event_behind, line_over, no_act, notes_host, notes_over, over_self, over_then}
+use Rattle.sbp_world.proofs.Lists.LiveAway.{Over, Steady, begins_none, line_over, no_act, notes_host, notes_over, over_self, over_then}
 use Rattle.sbp_world.proofs.Lists.LiveRuns.{base_of}
 use Rattle.sbp_world.proofs.Lists.LiveSteps.{CarriedOf}
 use Rattle.sbp_world.proofs.Lists.LiveTold.{AwayFrom, TellsAway}
-use Rattle.sbp_world.proofs.Lists.ManageActs.{act_allowed, same_operation}
+use Rattle.sbp_world.proofs.Lists.ManageActs.{same_operation}
 use Rattle.sbp_world.proofs.Lists.ManageFirsts.{Goes as HostGoes, goes_then, line_first, note_first}
 use Rattle.sbp_world.proofs.Lists.ManageMoments.{Hands}
 use Rattle.sbp_world.proofs.Lists.ManageOwn.{AtHost, at_host}
 use Rattle.sbp_world.proofs.Lists.ManageTerms.{none_is, same_some}
 use Rattle.sbp_world.proofs.Common.{said_split}
 use Rattle.sbp_world.proofs.Lists.LiveCalled.{no_work}
+use Rattle.sbp_world.proofs.Lists.LiveLeads.{hands_before}
+use Rattle.sbp_world.proofs.Pointers.Asks.{act_allowed}
+use Rattle.sbp_world.proofs.Hosts.Hands.{line_stays as event_behind}
 
 -- ---- the notes of a turn
 
 -- what stands behind the notes that there were
 pub away_is : {i own : ℕ} {kept : List Kept} {base fresh : List Note} (a : AwayFrom i own kept base fresh) (later : List Moment) → map said fresh ++ later ≡ map said a.more ++ (map said base ++ later)
 away_is {i} {own} {kept} {base} {fresh} a later = ap (λ (ns : List Note). map said ns ++ later) a.is ∙ said_split a.more base later
-
-pub hands_behind : (start : List Disk) (i : ℕ) (ns : List Note) (base : List Moment) → Hands start i (map said ns ++ base) → Hands start i base
-hands_behind start i [] base h = h
-hands_behind start i (note ∷ ns) base h = hands_behind start i ns base h.1
 
 -- ---- the operation under way at the host, where one is so at the initiator
 
@@ -149,7 +148,7 @@ module _ (units ready : ℕ) (start : List Disk) (past : List Moment) (s : Scene
     hands_there = subst (Hands start i) now_is hands
 
     opens : Over start before B i
-    opens = opened_over start i past s later t g (hands_behind start i a.more B hands_there)
+    opens = opened_over start i past s later t g (hands_before start i a.more B hands_there)
 
     pub over : Over start before now i
     over =

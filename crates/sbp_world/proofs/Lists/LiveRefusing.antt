@@ -58,7 +58,7 @@ use Rattle.sbp_world.proofs.Lists.LiveHears.{IsUndone}
 use Rattle.sbp_world.proofs.Lists.LiveRuns.{base_of}
 use Rattle.sbp_world.proofs.Lists.LiveTogether.{turn_begins}
 use Rattle.sbp_world.proofs.Lists.LiveTold.{HeardFirst}
-use Rattle.sbp_world.proofs.Lists.ManageFinds.{closes_at, read_in, refused_rcode, response_got}
+use Rattle.sbp_world.proofs.Lists.ManageFinds.{closes_at, refused_rcode}
 use Rattle.sbp_world.proofs.Lists.ManageHand.{InHand, Own}
 use Rattle.sbp_world.proofs.Lists.ManageLabels.{AskedFor}
 use Rattle.sbp_world.proofs.Lists.ManageMoments.{Hands, IsAnswer, MayHand, TakeFacts}
@@ -70,6 +70,8 @@ use Rattle.sbp_world.proofs.Lists.ManageTerms.{same_some, untrue}
 use Rattle.sbp_world.proofs.Lists.OpenedNotes.{split}
 use Rattle.sbp_world.proofs.Lists.StatusKnown.{each_from}
 use Rattle.sbp_world.proofs.Lists.BufferGets.{judged_from}
+use Rattle.sbp_world.proofs.Pointers.Ending.{read_in}
+use Rattle.sbp_world.proofs.Pointers.Guarded.{receive_got as response_got}
 
 -- ---- the label that a response closes has the number in its header
 

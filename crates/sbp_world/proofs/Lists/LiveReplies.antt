@@ -18,7 +18,7 @@ use Rattle.sbp_base.specs.Quadlets.{quad}
 use Rattle.sbp_laws.specs.Targets.{Decided, decided_by, decided_in}
 use Rattle.sbp_world.specs.Sessions.Writing.{is_written}
 use Rattle.sbp_world.proofs.Sessions.Decisions.{bytes_are, none_goes}
-use Rattle.sbp_world.proofs.Lists.KeptReplies.{payload_is}
+use Rattle.sbp_world.proofs.Lists.OpenedReplied.{pays_as as payload_is}
 
 -- an operation is decided: nothing was written of it before, and the logins are those of the decision
 pub record IsDecidedOn (m : Machine) (t : Table) (keys : List (List ℕ)) (answer : Answer) (left : Table) : Type 0 where

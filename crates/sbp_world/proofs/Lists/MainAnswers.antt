@@ -26,9 +26,9 @@ use Rattle.sbp_laws.proofs.Going.{going_rests, run_rests}
 use Rattle.sbp_world.specs.Agents.Crews.{agent_in}
 use Rattle.sbp_world.specs.Lists.LetsGo.{IsAnswered, IsClosing, WasClosed}
 use Rattle.sbp_world.proofs.Lists.PointersGot.{requests_got}
-use Rattle.sbp_world.proofs.Lists.ReplyOffices.{serial_there}
 use Rattle.sbp_world.proofs.Common.{untrue}
 use Rattle.sbp_world.proofs.Agents.Asides.{over_none}
+use Rattle.sbp_world.proofs.Agents.Handed.{is_its_serial as serial_there}
 
 -- ---- what is for an agent's main transaction is that
 record IsMainAt (from place serial : ℕ) (agents : List Agent) : Type 0 where

@@ -33,13 +33,8 @@ use Rattle.sbp_session.specs.declared.seat.Seat.TheVariants as seats
 use Rattle.sbp_world.proofs.Hosts.Hosted.{Cored}
 use Rattle.sbp_world.proofs.Hosts.Lives.{At, at_life}
 use Rattle.sbp_world.proofs.Lists.ManageTerms.{none_is, same_some, untrue}
-use Rattle.sbp_world.proofs.Pointers.Asks.{allowed_by}
 
 -- ---- an action that is not refused
-
-pub act_allowed : (action : Action) (s : InitiatorState) → (act_step action empty_outbox s).0 ≡ None → Allowed action s
-unfolding act_step
-act_allowed action s e = allowed_by action s (refusal action (facts_with true s action)) refl e
 
 -- it finds the session not stuck
 fits_stuck : (action : Action) → fits_session action refusals.is_stuck ≡ true → ⊥

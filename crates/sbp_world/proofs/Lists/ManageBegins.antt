@@ -35,7 +35,7 @@ use Rattle.sbp_world.proofs.Hosts.Pointing.{called_of}
 use Rattle.sbp_world.proofs.Hosts.Shown.{IsShown}
 use Rattle.sbp_world.specs.Pointers.Moments.{manages}
 use Rattle.sbp_world.specs.Lists.Managing.{IsAsking, IsBusy, IsFree, IsOwnWrite}
-use Rattle.sbp_world.proofs.Lists.ManageActs.{IsNew, act_allowed, act_operation, demand_manages, earlier, new_by, same_operation, seat_unstuck}
+use Rattle.sbp_world.proofs.Lists.ManageActs.{IsNew, act_operation, demand_manages, earlier, new_by, same_operation, seat_unstuck}
 use Rattle.sbp_world.proofs.Lists.ManageFirsts.{Goes, HasBegun, begun_first, goes_then, kept_first, told_first}
 use Rattle.sbp_world.proofs.Lists.ManageHand.{InHand, Own, busy_on}
 use Rattle.sbp_world.proofs.Lists.ManageLabels.{Asks, asking_asks, asks_to, told_asks}
@@ -45,6 +45,7 @@ use Rattle.sbp_world.proofs.Lists.ManageSent.{begun_busy, sent_busy, sent_free}
 use Rattle.sbp_world.proofs.Lists.ManageSights.{told_busy, told_free}
 use Rattle.sbp_world.proofs.Lists.ManageTerms.{none_is, same_some, untrue}
 use Rattle.sbp_world.proofs.Pointers.GuardDoes.{same_action}
+use Rattle.sbp_world.proofs.Pointers.Asks.{act_allowed}
 
 -- the value at an update
 at_itself : {A : Type 0} (s : ℕ) (x : A) (f : ℕ → A) → upd f s x s ≡ x

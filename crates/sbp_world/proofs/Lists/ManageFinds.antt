@@ -33,10 +33,8 @@ use Rattle.sbp_initiator.proofs.Histories.Purposes.{kind_in}
 use Rattle.sbp_world.proofs.Hosts.Lives.{At, Called, at_life}
 use Rattle.sbp_world.proofs.Lists.ManageHears.{IsStatusFor}
 use Rattle.sbp_world.proofs.Lists.ManageTerms.{untrue}
-use Rattle.sbp_world.proofs.Hosts.Aimed.{none_ended}
-use Rattle.sbp_world.proofs.Pointers.Finds.{same_serial}
-use Rattle.sbp_world.proofs.Pointers.Ending.{judged_read}
-use Rattle.sbp_world.proofs.Pointers.Guarded.{received_got}
+use Rattle.sbp_world.proofs.Pointers.Finds.{same_serial, none_ended}
+use Rattle.sbp_world.proofs.Pointers.Guarded.{receive_got}
 
 -- ---- it was under way
 
@@ -123,10 +121,6 @@ module _ (layer : Layer Purpose) (generation : ℕ) (bytes : List ℕ) (p : Pack
 
 -- ---- what it spells
 
-pub read_in : (layer : Layer Purpose) (generation : ℕ) (bytes : List ℕ) (p : Packet) (label : LabelParts) (purpose : Option Purpose) → (judging_step layer generation bytes).0 ≡ of_response p label purpose → reading bytes ≡ Ok p
-unfolding judging_step
-read_in layer generation bytes p label purpose f = judged_read (row_of (facts_of layer generation bytes)) layer bytes (reading bytes) p label purpose f
-
 no_request : (p q : Packet) (found : Option (LabelParts × Option Purpose) × Layer Purpose) → (responded q found).0 ≡ of_request p → ⊥
 no_request p q (None, layer) f = cc
 no_request p q (Some (l, r), layer) f = cc
@@ -185,10 +179,6 @@ module _ (bytes : List ℕ) (rcode : ℕ) where
   refused_rcode p e = read_refuses (fault_of bytes) (packet_in bytes (tcode_of bytes)) p e (packet_refuses (tcode_of bytes))
 
 -- ---- what is got
-
-pub response_got : (generation : ℕ) (bytes : List ℕ) (p : Packet) (label : LabelParts) (purpose : Option Purpose) (s : InitiatorState) → (judging_step s.layer generation bytes).0 ≡ of_response p label purpose → (receive_step generation bytes empty_outbox s).0 ≡ judgements.Got
-unfolding receive_step
-response_got generation bytes p label purpose s e = received_got (judging_step s.layer generation bytes).0 (judging_step s.layer generation bytes).1 bytes p label purpose s e
 
 module _ (s : InitiatorState) (generation : ℕ) (bytes : List ℕ) (running : Running) (f : IsStatusFor s generation bytes running) (under : s.operation ≡ Some running) where
   abbrev u : Layer Purpose → InitiatorState

@@ -27,6 +27,7 @@ use Rattle.sbp_world.proofs.Lists.ManageSights.{sight_calm}
 use Rattle.sbp_world.proofs.Lists.ManageStays.{calm_busy, calm_free}
 use Rattle.sbp_world.proofs.Lists.ManageTerms.{untrue}
 use Rattle.sbp_world.proofs.Hosts.Cores.{not_so}
+use Rattle.sbp_world.proofs.Wire.Latest.{differ_by}
 
 -- a write of MANAGEMENT_AGENT is that of the operation under way, where it is of its action
 abbrev pub Own : List Moment → ℕ → InitiatorState → (act serial : ℕ) → Type 0
@@ -62,9 +63,6 @@ line_hand start line event past i s f h =
 
 -- ---- a packet is sent
 
-turned : (n m : ℕ) → nat_eq n m ≡ false → n ≡ m → ⊥
-turned n m e f = let x : nat_eq n m ≡ true = grind (arith, nat_tests) in untrue (sym e ∙ x)
-
 from_of : (serial generation from to : ℕ) (bytes : List ℕ) (past : List Moment) (p : Sending) → (terms (said (notes.Sent serial generation from to bytes) ∷ past)).sent serial ≡ Some p → from ≡ p.from
 from_of serial generation from to bytes past p e =
     let t = terms past in
@@ -74,7 +72,7 @@ from_of serial generation from to bytes past p e =
 -- of another node it is none that asks
 pub other_asks_none : (serial generation from to : ℕ) (bytes : List ℕ) (start : List Disk) (past : List Moment) (i : ℕ) → nat_eq from (suc i) ≡ false → SendFacts start past i serial generation from to bytes → (place : ℕ) → IsAsking (said (notes.Sent serial generation from to bytes) ∷ past) i serial place → ⊥
 other_asks_none serial generation from to bytes start past i e f place a =
-    let x = from_of serial generation from to bytes past a.packet a.sent in turned from (suc i) e (x ∙ a.from_is)
+    let x = from_of serial generation from to bytes past a.packet a.sent in differ_by from (suc i) e (x ∙ a.from_is)
 
 -- in a line that is no action of the initiator neither
 module _ (i : ℕ) (past : List Moment) where

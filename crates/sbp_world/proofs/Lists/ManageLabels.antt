@@ -1,11 +1,11 @@
 -- A write of MANAGEMENT_AGENT that is under way at an initiator: the bus knows it under its label, and where its operation is the one under way it is that one's write.
-use Rattle.std.proofs.Common.{arith, ◌≡◌, refl, sym, ◌∙◌, ap, subst, ℕ, suc, ◌+◌, ◌≤◌, ◌==◌, nat_lt, not, Bool, true, false, cond, List, [], ◌∷◌, Option, Some}
+use Rattle.std.proofs.Common.{arith, ◌≡◌, refl, sym, ◌∙◌, ap, subst, ℕ, suc, ◌+◌, ◌≤◌, ◌==◌, nat_lt, not, Bool, true, false, List, [], ◌∷◌, Option, Some}
 use Rattle.bus_transactions.specs.Rows.{awaits, shape, shape_of}
 use Rattle.bus_transactions.specs.Wire.{transaction}
 use Rattle.bus_transactions.proofs.Facts.{asked_begun, request_asked}
 use Rattle.label_table.specs.History.{not_begun, under_way}
 use Rattle.label_table.specs.declared.reply.ReplyKind.{ReplyKind}
-use Rattle.label_table.specs.Layer.{Layer, seen_in_generation, seeing_step}
+use Rattle.label_table.specs.Layer.{Layer, seeing_step}
 use Rattle.label_table.specs.Peers.{state_for}
 use Rattle.sbp_journal.specs.Outgoings.{empty_outbox}
 use Rattle.sbp_journal.specs.Run.{Moment, asked, said}
@@ -22,7 +22,7 @@ use Rattle.sbp_initiator.specs.declared.purpose.Purpose.TheVariants as purposes
 use Rattle.sbp_initiator.specs.declared.state.InitiatorState.{InitiatorState}
 use Rattle.sbp_initiator.specs.Effects.{Turn}
 use Rattle.sbp_initiator.specs.Initiators.{new_state}
-use Rattle.sbp_initiator.specs.Seeing.{see_step, seen_as}
+use Rattle.sbp_initiator.specs.Seeing.{see_step}
 use Rattle.sbp_initiator.specs.States.{wanted_body}
 use Rattle.sbp_world.specs.Hosts.Calls.{behind}
 use Rattle.sbp_world.proofs.Hosts.ActLeft.{ActLeft, HasAsked}
@@ -34,14 +34,9 @@ use Rattle.sbp_world.proofs.Hosts.Lives.{At, AskedAt, Called, ask_at, asked_now,
 use Rattle.sbp_world.proofs.Hosts.PointerNotes.{Fit, Told, opens, tame_told}
 use Rattle.sbp_world.proofs.Hosts.Pointing.{asked_generation, at_same, sent_waits}
 use Rattle.sbp_world.proofs.Hosts.Shown.{IsShown}
-use Rattle.sbp_world.proofs.Pointers.WaitActs.{none_seen}
+use Rattle.sbp_world.proofs.Pointers.WaitActs.{none_seen, see_old}
 
 -- ---- a later generation
-
--- an older one leaves all
-pub see_old : (generation id target : ℕ) (s : InitiatorState) → nat_lt s.layer.generation generation ≡ false → see_step generation id target empty_outbox s ≡ (empty_outbox, s)
-unfolding see_step seeing_step
-see_old generation id target s e = ap (λ b. seen_as (cond b (true, seen_in_generation s.layer generation id) (false, s.layer)) target empty_outbox s) e
 
 pub record AskedFor (past : List Moment) (i generation number act : ℕ) (Own : (act serial : ℕ) → Type 0) : Type 0 where
   pub kind : Kind

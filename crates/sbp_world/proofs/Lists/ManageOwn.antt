@@ -45,7 +45,7 @@ use Rattle.sbp_world.proofs.Hosts.Pointed.{judged_called}
 use Rattle.sbp_world.proofs.Hosts.Pointing.{called_of, under_way_now}
 use Rattle.sbp_world.proofs.Hosts.Shown.{IsHeard, IsShown}
 use Rattle.sbp_world.specs.Lists.Managing.{IsBusy, IsFree, IsRest, IsServed, IsTelling}
-use Rattle.sbp_world.proofs.Lists.ManageFinds.{block_is_got, closed_over, closes_at, read_in, read_request, refused_rcode, response_got}
+use Rattle.sbp_world.proofs.Lists.ManageFinds.{block_is_got, closed_over, closes_at, read_request, refused_rcode}
 use Rattle.sbp_world.proofs.Lists.ManageFirsts.{Goes, goes_then, note_first, told_first}
 use Rattle.sbp_world.proofs.Lists.ManageGot.{gets_other, got_busy, got_free}
 use Rattle.sbp_world.proofs.Lists.ManageHand.{InHand, Own, busy_on}
@@ -57,6 +57,8 @@ use Rattle.sbp_world.proofs.Lists.ManageNotes.{none_taken}
 use Rattle.sbp_world.proofs.Lists.ManageSights.{told_busy, told_free, told_hands}
 use Rattle.sbp_world.proofs.Lists.ManageStays.{Calms, calm_busy, calm_free, zero_or}
 use Rattle.sbp_world.proofs.Lists.ManageTerms.{got_more, none_is, same_some, untrue}
+use Rattle.sbp_world.proofs.Pointers.Ending.{read_in}
+use Rattle.sbp_world.proofs.Pointers.Guarded.{receive_got as response_got}
 
 -- ---- the operation under way, at the host and at the initiator
 

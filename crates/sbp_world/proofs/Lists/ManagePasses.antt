@@ -49,13 +49,14 @@ use Rattle.sbp_world.specs.Agents.Management.Terms.{DeliversMore}
 use Rattle.sbp_world.proofs.Agents.Management.Holding.{Holding, marked_hist, was_sent}
 use Rattle.sbp_world.proofs.Agents.Management.Lines.{all_heard, opens}
 use Rattle.sbp_world.proofs.Agents.Management.Outs.{told_terms}
-use Rattle.sbp_world.proofs.Agents.Management.Runs.{are_told, holds_after, no_repeats, not_reset}
+use Rattle.sbp_world.proofs.Agents.Management.Runs.{holds_after, no_repeats, not_reset}
 use Rattle.sbp_world.proofs.Agents.Management.Sides.{AllBehind}
 use Rattle.sbp_world.proofs.Agents.Management.Still.{hist}
 use Rattle.sbp_world.proofs.Lists.ManageAnswers.{IsFound, elsewhere_found, ignored_found, refusing}
 use Rattle.sbp_world.proofs.Lists.ManageCalls.{Handed, delivery_handed, elsewhere, ignored, others, refuses}
 use Rattle.sbp_world.proofs.Lists.ManageTells.{AreFound, B, acts, first_hands, judged_on, notes_on, own_hands, plain_on, seconds, sights, target_hands, times_out}
 use Rattle.sbp_world.proofs.Lists.OpenedWorlds.{wired}
+use Rattle.sbp_world.proofs.Hosts.Runs.{are_told}
 
 others_behind : (told : List Side) → AreOthers told → AllBehind told
 others_behind [] h = tt

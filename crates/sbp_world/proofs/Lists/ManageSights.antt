@@ -20,11 +20,9 @@ use Rattle.sbp_world.proofs.Lists.ManageOffices.{Settles, none_left, office_at, 
 use Rattle.sbp_world.proofs.Lists.ManageStays.{Calms, Had, calm_busy, calm_free}
 use Rattle.sbp_world.proofs.Lists.ManageTerms.{none_is, untrue}
 use Rattle.sbp_world.proofs.Common.{turned}
+use Rattle.sbp_world.proofs.Wire.OnceHere.{other_news}
 
 -- ---- another node sees a generation
-
-upd_other : (f : ℕ → ℕ) (n m g : ℕ) → nat_eq m n ≡ false → upd f n g m ≡ f m
-upd_other f n m g e = ap (λ b. cond b g (f m)) e
 
 upd_same : (f : ℕ → ℕ) (n m g : ℕ) → nat_eq m n ≡ true → g ≡ f n → upd f n g m ≡ f m
 upd_same f n m g e h = let x : m ≡ n = grind (arith, nat_tests) in ap (λ b. cond b g (f m)) e ∙ h ∙ ap f (sym x)
@@ -55,7 +53,7 @@ module _ (start : List Disk) (node generation : ℕ) (past : List Moment) (i : �
   handling place op h = by (nat_eq 0 node) (nat_eq generation (t.generation 0)) refl refl
     where
       by : (b c : Bool) → nat_eq 0 node ≡ b → nat_eq generation (t.generation 0) ≡ c → Had start past now i place op
-      by false c e g = settled (upd_other t.generation node 0 generation e) place op h (sight_settles start node generation past)
+      by false c e g = settled (other_news t.generation node 0 generation e) place op h (sight_settles start node generation past)
       by true true e g =
           let is : node ≡ 0 = grind (arith, nat_tests) in
           let same : generation ≡ t.generation 0 = grind (arith, nat_tests) in
@@ -112,7 +110,7 @@ module _ (start : List Disk) (node generation : ℕ) (past : List Moment) (i : �
   }
 
 pub sight_calm : (start : List Disk) (node generation : ℕ) (past : List Moment) (i : ℕ) → nat_eq node (suc i) ≡ false → (terms past).owes ≡ None → Calms start past (said (notes.Seen node generation) ∷ past) i
-sight_calm start node generation past i other none = seen_calm start node generation past i (upd_other (terms past).generation node (suc i) generation (turned node (suc i) other)) none
+sight_calm start node generation past i other none = seen_calm start node generation past i (other_news (terms past).generation node (suc i) generation (turned node (suc i) other)) none
 
 -- the initiator itself, the same one
 pub again_calm : (start : List Disk) (generation : ℕ) (past : List Moment) (i : ℕ) → nat_eq generation ((terms past).generation (suc i)) ≡ true → (terms past).owes ≡ None → Calms start past (said (notes.Seen (suc i) generation) ∷ past) i

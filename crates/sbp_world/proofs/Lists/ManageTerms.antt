@@ -131,7 +131,7 @@ timed_rests serial past = late_rests (begun_in ((terms past).sent serial)) seria
 
 -- ---- a packet that is got is taken as new once more
 
-judges_news : (v : Option Transaction) (cause : Option Cause) (s : ℕ) (q : Sending) (t : Terms) → (judges v cause s q t).news ≡ t.news
+pub judges_news : (v : Option Transaction) (cause : Option Cause) (s : ℕ) (q : Sending) (t : Terms) → (judges v cause s q t).news ≡ t.news
 judges_news None cause s q t = refl
 judges_news (Some v) cause s q t = refl
 
@@ -144,7 +144,7 @@ closes_news (waits k own) v kind rcode t = closes_if_news (is_same_kind k kind) 
 closes_news free v kind rcode t = refl
 closes_news rests v kind rcode t = refl
 
-part_news : (part : Part) (s : ℕ) (q : Sending) (t : Terms) → (gets_as part s q t).news ≡ t.news
+pub part_news : (part : Part) (s : ℕ) (q : Sending) (t : Terms) → (gets_as part s q t).news ≡ t.news
 part_news (request label kind) s q t = judges_news (asked_by q) None s q t
 part_news (response label kind) s q t = closes_news (t.held (between q q.to q.from label)) (between q q.to q.from label) kind (rcode_of q.bytes) t
 part_news no_packet s q t = refl

@@ -18,12 +18,13 @@ use Rattle.sbp_world.proofs.Lists.Calm.{calm_before}
 use Rattle.sbp_world.proofs.Lists.BegunLists.{latest_then, order_from}
 use Rattle.sbp_world.specs.Lists.OrbNames.{IsNamedBrought}
 use Rattle.sbp_world.specs.Lists.OrbReads.{AnswersAt, IsBrought, SentAsGot}
-use Rattle.sbp_world.proofs.Lists.WasReads.{SpellsOrb, each_at, it_answers, was_appended, was_read, was_read_by}
+use Rattle.sbp_world.proofs.Lists.WasReads.{SpellsOrb, it_answers, was_appended, was_read, was_read_by}
 use Rattle.sbp_world.specs.Agents.AskedRuns.{read_access}
 use Rattle.sbp_journal.specs.Addresses.{Access}
 use Rattle.sbp_world.proofs.Lists.AsGot.{AsGot}
 use Rattle.sbp_world.proofs.Lists.OpenGots.{OpenAsGot}
 use Rattle.sbp_world.proofs.Lists.OpenSends.{AreOpenReads}
+use Rattle.sbp_world.proofs.Lists.StatusLogins.{each_there as each_at}
 
 -- the ORB has this name
 pub record IsOfName (start : List Disk) (past : List Moment) (place address : ℕ) (orb : CommandOrb) (i n k : ℕ) (x : IsNamedBrought start past place address orb) : Type 0 where

@@ -14,9 +14,9 @@ use Rattle.sbp_world.specs.Lists.NobodyGots.{AllNobodyElsewhere, IsNobodyElsewhe
 use Rattle.sbp_world.specs.Lists.OrbNames.{RunIsNamed}
 use Rattle.sbp_world.proofs.Lists.DataSlots.{appends_grow, prepared_below}
 use Rattle.sbp_world.proofs.Lists.Passing.{PassAt, PassLaw}
-use Rattle.sbp_world.proofs.Lists.PlacedOps.{each_from}
 use Rattle.sbp_world.proofs.Lists.SlotsCut.{WasPut, was_put}
 use Rattle.sbp_world.proofs.Lists.UnrunTerms.{cut_stays, lists_grow}
+use Rattle.sbp_world.proofs.Lists.StatusKnown.{each_from}
 
 -- the list of an ORB is open, and the slot has it
 pub record IsThere (past : List Moment) (i n k slot : ℕ) : Type 0 where

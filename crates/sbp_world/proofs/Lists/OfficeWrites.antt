@@ -33,7 +33,6 @@ use Rattle.sbp_world.proofs.Lists.BufferClears.{Ground, few_of, ground_everywher
 use Rattle.sbp_world.proofs.Lists.BegunBy.{IsHeld, held_by}
 use Rattle.sbp_world.proofs.Lists.FedOnce.{IsReply, reply_by}
 use Rattle.sbp_world.proofs.Lists.Heard.{awaited_to}
-use Rattle.sbp_world.proofs.Lists.KeptReplies.{payload_is}
 use Rattle.sbp_world.proofs.Lists.ManageTerms.{none_is, same_some}
 use Rattle.sbp_world.proofs.Lists.OfficeAsks.{GotGood, HasOpOf, OfficeSo, asked_so, front_so, got_so, note_so}
 use Rattle.sbp_world.proofs.Lists.OwnFifos.{fifo_no_window}
@@ -65,9 +64,10 @@ use Rattle.sbp_world.proofs.Lists.LiveTurns.{TurnOf, by_clearing, by_own, by_sig
 use Rattle.sbp_world.specs.Lists.Needs.{IsCalm}
 use Rattle.sbp_world.proofs.Lists.ManageSends.{opened_terms}
 use Rattle.sbp_world.proofs.Lists.OwnGots.{answered_same}
-use Rattle.sbp_world.proofs.Lists.PlacedOps.{each_from}
 use Rattle.sbp_world.proofs.Lists.Quiet.{AllQuiet}
-use Rattle.sbp_world.proofs.Lists.WasReads.{each_at}
+use Rattle.sbp_world.proofs.Lists.StatusLogins.{each_there as each_at}
+use Rattle.sbp_world.proofs.Lists.OpenedReplied.{pays_as as payload_is}
+use Rattle.sbp_world.proofs.Lists.StatusKnown.{each_from}
 
 -- an address stands in no page table
 abbrev pub IsOffTables : ℕ → Type 0

@@ -34,7 +34,7 @@ use Rattle.sbp_world.specs.Telling.{told, told_all}
 use Rattle.sbp_world.specs.Worlds.{WorldState}
 use Rattle.sbp_world.proofs.Agents.Granting.{IsBack}
 use Rattle.sbp_world.proofs.Agents.Sparing.{IsOld}
-use Rattle.sbp_world.proofs.Lists.Follows.{told_last, set_here}
+use Rattle.sbp_world.proofs.Lists.Follows.{set_here}
 use Rattle.sbp_world.proofs.Lists.Frees.{Frees, HasHeld, HasId}
 use Rattle.sbp_world.proofs.Lists.OpenPlaces.{Has, decided_keeps, left_keeps}
 use Rattle.sbp_world.proofs.Lists.OpenSpares.{SameCuts, cut_noted}
@@ -43,6 +43,7 @@ use Rattle.sbp_journal.specs.declared.note.Note.{Note}
 use Rattle.sbp_journal.specs.Run.{Moment, said}
 use Rattle.sbp_laws.specs.OrderLaw.{is_cut as was_cut}
 use Rattle.sbp_world.proofs.Agents.Managed.{in_place}
+use Rattle.sbp_world.proofs.Agents.Telling.{told_snoc as told_last}
 
 abbrev pub Here : NodeState → ℕ → Machine
 Here node p = (desk_at node p).agent

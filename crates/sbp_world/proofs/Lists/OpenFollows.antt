@@ -33,7 +33,8 @@ use Rattle.sbp_world.specs.Worlds.{WorldState}
 use Rattle.sbp_journal.specs.Run.{said}
 use Rattle.sbp_laws.specs.OrderLaw.{is_cut}
 use Rattle.sbp_world.proofs.Lists.OpenSpares.{SameCuts}
-use Rattle.sbp_world.proofs.Lists.Follows.{AreSame, are_self, are_then, set_there, told_last, with_same}
+use Rattle.sbp_world.proofs.Lists.Follows.{AreSame, are_self, are_then, set_there, with_same}
+use Rattle.sbp_world.proofs.Agents.Telling.{told_snoc as told_last}
 
 -- of all but the agent of a place
 module _ (u : WorldState) (places : List (Option Holder)) (q : ℕ) (machines : ℕ → Machine) (b : q < 8) where

@@ -2,14 +2,14 @@
 use Rattle.std.proofs.Common.{arith, ◌≡◌, ◌∙◌, ◌<◌, ◌≤◌, ◌+◌, ℕ, nat_eq, refl, sym, ap, subst, Bool, true, false, cond, List, [], ◌∷◌, ◌++◌, Option, Some, None}
 use Rattle.std.proofs.lemmas.Bool.Decides.{nat_tests}
 use Rattle.sbp_journal.specs.Run.{Moment, asked, said}
-use Rattle.sbp_journal.specs.Transactions.{Part, Sending, Transaction, asked_by, begun_by, no_packet, part_of, request, response}
-use Rattle.sbp_journal.specs.Wire.{Owed, Terms, arrives, begins, gets, gets_as, gives, ignores, ignores_that, is_news, is_served, judges, judges_if, opened, pays, puts, sends, terms, times_out}
+use Rattle.sbp_journal.specs.Transactions.{Sending, Transaction, asked_by, begun_by, part_of}
+use Rattle.sbp_journal.specs.Wire.{Owed, Terms, arrives, begins, gets, gives, ignores, ignores_that, is_news, is_served, judges_if, opened, pays, puts, sends, terms, times_out}
 use Rattle.sbp_journal.specs.declared.cause.Cause.{Cause}
 use Rattle.sbp_journal.specs.declared.cause.Cause.TheVariants as causes
 use Rattle.sbp_journal.specs.declared.event.Event.{Event}
 use Rattle.sbp_journal.specs.declared.event.Event.TheVariants as events
 use Rattle.sbp_journal.specs.declared.note.Note.TheVariants as notes
-use Rattle.sbp_world.proofs.Lists.ManageTerms.{closes_if_news, closes_news}
+use Rattle.sbp_world.proofs.Lists.ManageTerms.{closes_if_news, judges_news, part_news}
 
 module _ (r : ℕ) where
   abbrev Grows : Terms → Terms → Type 0
@@ -25,25 +25,16 @@ module _ (r : ℕ) where
       by true e = let x : r ≡ s = grind (arith, nat_tests) in let y = ap t.news x in omega (arith, y)
       by false e = omega arith
 
-  pub judges_same : (u : Option Transaction) (cause : Option Cause) (s : ℕ) (packet : Sending) (t : Terms) → (judges u cause s packet t).news ≡ t.news
-  judges_same None cause s packet t = refl
-  judges_same (Some u) cause s packet t = refl
-
   pub judges_if_same : (b : Bool) (u : Option Transaction) (s : ℕ) (packet : Sending) (t : Terms) → (judges_if b u s packet t).news ≡ t.news
-  judges_if_same true u s packet t = judges_same u (Some causes.Grammar) s packet t
+  judges_if_same true u s packet t = judges_news u (Some causes.Grammar) s packet t
   judges_if_same false u s packet t = refl
-
-  pub gets_as_same : (part : Part) (s : ℕ) (packet : Sending) (t : Terms) → (gets_as part s packet t).news ≡ t.news
-  gets_as_same (request label kind) s packet t = judges_same (asked_by packet) None s packet t
-  gets_as_same (response label kind) s packet t = closes_news _ _ kind _ t
-  gets_as_same no_packet s packet t = refl
 
   -- ---- one moment
   gets_grows : (found : Option Sending) (s : ℕ) (t : Terms) → Grows t (gets found s t)
   gets_grows None s t = same t t refl
   gets_grows (Some packet) s t =
       let u = is_served s (is_news s (arrives s t)) in
-      let e = same u (gets (Some packet) s t) (gets_as_same (part_of packet.bytes) s packet u) in
+      let e = same u (gets (Some packet) s t) (part_news (part_of packet.bytes) s packet u) in
       let n = news_grows s (arrives s t) in
       let a = arrives_same s t in
       omega (arith, e, n, a)
@@ -59,21 +50,21 @@ module _ (r : ℕ) where
       let e = same u (ignores causes.Grammar s packet t) (judges_if_same _ (asked_by packet) s packet u) in
       omega (arith, n, e)
   ignores_grows causes.Label s packet t = news_grows s t
-  ignores_grows causes.Again s packet t = same t (ignores causes.Again s packet t) (judges_same (asked_by packet) (Some causes.Again) s packet t)
+  ignores_grows causes.Again s packet t = same t (ignores causes.Again s packet t) (judges_news (asked_by packet) (Some causes.Again) s packet t)
   ignores_grows causes.Source s packet t =
       let u = is_news s t in
       let n = news_grows s t in
-      let e = same u (ignores causes.Source s packet t) (judges_same (asked_by packet) (Some causes.Source) s packet u) in
+      let e = same u (ignores causes.Source s packet t) (judges_news (asked_by packet) (Some causes.Source) s packet u) in
       omega (arith, n, e)
   ignores_grows causes.Login s packet t =
       let u = is_news s t in
       let n = news_grows s t in
-      let e = same u (ignores causes.Login s packet t) (judges_same (asked_by packet) (Some causes.Login) s packet u) in
+      let e = same u (ignores causes.Login s packet t) (judges_news (asked_by packet) (Some causes.Login) s packet u) in
       omega (arith, n, e)
   ignores_grows causes.Slot s packet t =
       let u = is_served s (is_news s t) in
       let n = news_grows s t in
-      let e = same u (ignores causes.Slot s packet t) (judges_same (asked_by packet) (Some causes.Slot) s packet u) in
+      let e = same u (ignores causes.Slot s packet t) (judges_news (asked_by packet) (Some causes.Slot) s packet u) in
       omega (arith, n, e)
 
   ignores_that_grows : (found : Option Sending) (cause : Cause) (s : ℕ) (t : Terms) → Grows t (ignores_that found cause s t)
@@ -123,7 +114,7 @@ module _ (r : ℕ) where
   got_one past packet e =
       let t = terms past in
       let u = is_served r (is_news r (arrives r t)) in
-      let x = same u (gets (Some packet) r t) (gets_as_same (part_of packet.bytes) r packet u) in
+      let x = same u (gets (Some packet) r t) (part_news (part_of packet.bytes) r packet u) in
       let y : t.news r < u.news r = by (nat_eq r r) (grind (arith, nat_tests)) t in
       subst (λ found. t.news r < (gets found r t).news r) (sym e) (omega (arith, x, y))
     where

@@ -26,7 +26,7 @@ use Rattle.sbp_world.specs.Agents.Management.Terms.{DeliversMore}
 use Rattle.sbp_world.proofs.Agents.Management.Begins.{first_holds, first_past}
 use Rattle.sbp_world.proofs.Agents.Management.Holding.{Holding}
 use Rattle.sbp_world.proofs.Agents.Management.Lines.{all_heard as all_hold, line_holds, opens}
-use Rattle.sbp_world.proofs.Agents.Management.Runs.{are_told, no_repeats, not_reset}
+use Rattle.sbp_world.proofs.Agents.Management.Runs.{no_repeats, not_reset}
 use Rattle.sbp_world.proofs.Agents.Management.Still.{hist}
 use Rattle.rbc_disk.specs.Disk.{Disk}
 use Rattle.sbp_world.specs.Agents.Agents.{AreAgentsAt}
@@ -38,7 +38,7 @@ use Rattle.sbp_world.proofs.Agents.Seats.{Seats}
 use Rattle.sbp_world.specs.Hosts.Fits.{AreRows}
 use Rattle.sbp_world.specs.Hosts.Runs.{IsRun, more_deliveries}
 use Rattle.sbp_world.specs.Hosts.Worlds.{IsHost}
-use Rattle.sbp_world.proofs.Hosts.Runs.{count_after, count_between, run_law}
+use Rattle.sbp_world.proofs.Hosts.Runs.{count_after, count_between, run_law, are_told}
 use Rattle.sbp_world.proofs.Hosts.StepLaws.{step_law}
 use Rattle.sbp_world.specs.Lists.Needs.{IsCalm, OpenBefore}
 use Rattle.sbp_world.proofs.Lists.OpenCuts.{is_up}

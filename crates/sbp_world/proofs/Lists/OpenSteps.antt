@@ -45,7 +45,8 @@ use Rattle.sbp_world.proofs.Lists.OpenFollows.{Beside, alike, announce_from_besi
 use Rattle.sbp_world.proofs.Lists.OpenManages.{answers}
 use Rattle.sbp_world.proofs.Lists.OpenPlaces.{Has, opened_here, opened_there}
 use Rattle.sbp_world.proofs.Lists.OpenSpares.{SameCuts}
-use Rattle.sbp_world.proofs.Lists.OpenTurns.{AreSeated, Before, HasSeat, K, Q, begins, changed_same, first_beside, here, inside, listing_seat, node, of_beside, refused, served_seat, silent_by, sound}
+use Rattle.sbp_world.proofs.Lists.OpenTurns.{AreSeated, Before, HasSeat, K, Q, begins, changed_same, first_beside, here, inside, listing_seat, node, of_beside, served_seat, silent_by, sound}
+use Rattle.sbp_world.proofs.Lists.Pointers.{refused}
 
 module _ (w : WorldState) (g : Good w.target) (seats : AreSeated w) (u : WorldState) (same : u.places ≡ w.places) (layer : Layer Purpose) where
   abbrev Now : Scene → Type 0

@@ -1,6 +1,6 @@
 -- What a turn of the target leaves of the places whose lists are open: each was open before, and who has it is the same; or the turn is that of a
 -- write of ORB_POINTER, which opens the list of one place.
-use Rattle.std.proofs.Common.{◌≡◌, inl, ◌∙◌, refl, sym, ap, subst, ◌<◌, ◌≤◌, ℕ, nat_eq, nat_lt, not, Bool, true, false, List, length, Option, Some, None, Err, arith}
+use Rattle.std.proofs.Common.{◌≡◌, inl, ◌∙◌, refl, sym, ap, subst, ◌<◌, ◌≤◌, ℕ, nat_eq, nat_lt, not, Bool, true, false, List, length, Option, Some, None, arith}
 use Rattle.std.proofs.lemmas.Bool.Decides.{nat_tests}
 use Rattle.std.proofs.Math.ListN.{length-set}
 use Rattle.std.proofs.lemmas.Bool.{false≢true}
@@ -10,15 +10,13 @@ use Rattle.login_table.specs.declared.login.Login.{Login}
 use Rattle.login_table.specs.Sound.{IsSound}
 use Rattle.login_table.specs.Table.{is_live, place_at}
 use Rattle.orb_layout.specs.declared.ask.Ask.TheVariants.{Nothing}
-use Rattle.orb_layout.specs.declared.pointer.OrbPointer.{OrbPointer}
 use Rattle.command_agent.specs.declared.phase.Phase.{Phase}
 use Rattle.command_agent.specs.declared.phase.Phase.TheVariants as phases
 use Rattle.command_agent.specs.declared.step.AgentState.TheVariants as states
-use Rattle.command_agent.specs.declared.step.PointRefusal.{PointRefusal}
 use Rattle.command_agent.specs.declared.step.Which.{Which}
 use Rattle.command_agent.specs.declared.step.Which.TheVariants.{Ahead, Main}
 use Rattle.command_agent.specs.Machine.{Machine, is_ahead, is_sent, state_in}
-use Rattle.command_agent.specs.Steps.{doorbell_step, is_reset, point_step}
+use Rattle.command_agent.specs.Steps.{doorbell_step, is_reset}
 use Rattle.sbp_bus.specs.declared.places.Holder.{Holder}
 use Rattle.sbp_bus.specs.Places.{or_nobody}
 use Rattle.sbp_journal.specs.Outgoings.{empty_outbox}
@@ -38,9 +36,8 @@ use Rattle.sbp_world.proofs.Lists.Follows.{AreSame, are_self, set_there}
 use Rattle.sbp_world.proofs.Lists.OpenCuts.{Here, Listing, is_up, Open, OwnsLogin}
 use Rattle.sbp_world.proofs.Lists.OpenFollows.{Beside}
 use Rattle.sbp_world.proofs.Lists.OpenPlaces.{Has}
-use Rattle.sbp_world.proofs.Lists.Turns.{sent_has}
 use Rattle.sbp_world.proofs.Lists.StatusCalls.{none_beyond}
-use Rattle.sbp_world.proofs.Lists.Pointers.{refused_in}
+use Rattle.sbp_world.proofs.Lists.StatusLosses.{sent_has}
 
 -- ---- an agent that has a list open is not in RESET
 pub listing_up : (phase : Phase) → has_list phase ≡ true → not (is_reset (state_in phase)) ≡ true
@@ -78,10 +75,6 @@ silent_by phases.WritingStatus m e = absurd (false≢true (sym e))
 silent_by phases.WritingLastStatus m e = absurd (false≢true (sym e))
 silent_by phases.ReadingNext m e = absurd (false≢true (sym e))
 silent_by phases.Suspended m e = absurd (false≢true (sym e))
-
-pub refused : (m : Machine) (pointer : OrbPointer) (refusal : PointRefusal) → (point_step m pointer).0 ≡ Err refusal → (point_step m pointer).1 ≡ m
-unfolding point_step
-refused m pointer refusal e = refused_in (state_in m.phase) m pointer refusal e
 
 -- ---- who has a place with a live login
 -- who has the place of a login has its ID

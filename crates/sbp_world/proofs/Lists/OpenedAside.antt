@@ -25,6 +25,7 @@ use Rattle.sbp_world.proofs.Lists.OpenedHears.{IsAside, Keeps}
 use Rattle.sbp_world.proofs.Lists.OpenedMoments.{Same, all_same, all_weaker, is_leaving, moment_sent, of_others, others_rest, others_sent}
 use Rattle.sbp_world.proofs.Lists.OpenedTurns.{Grown, Known, NoneUp, WasUp}
 use Rattle.sbp_world.proofs.Lists.Rises.{Rises}
+use Rattle.sbp_world.proofs.Wire.Latest.{other_by}
 
 -- ---- how often a packet was taken, and served, but for the one that comes
 pub record Kept (s : ℕ) (t u : Terms) : Type 0 where
@@ -133,18 +134,10 @@ module _ (H : List Moment) where
   leaves_none _ (late_first serial) = refl
   leaves_none _ (saw_first j generation) = refl
 
-  -- a packet that is none of those that came to other nodes
-  apart_from : (s serial : ℕ) → (s ≡ serial → ⊥) → nat_eq s serial ≡ false
-  apart_from s serial f = by (nat_eq s serial) refl
-    where
-      by : (b : Bool) → nat_eq s serial ≡ b → b ≡ false
-      by true e = absurd (f (grind (arith, nat_tests)))
-      by false e = refl
-
   kept_first : (m : Moment) → IsOthers H m → (s : ℕ) → ((serial j : ℕ) (packet : Sending) → (terms H).sent serial ≡ Some packet → packet.to ≡ suc j → s ≡ serial → ⊥) → Kept s (terms H) (terms (m ∷ H))
   kept_first _ (asked_first line event) s f = opened_kept s event (terms H)
-  kept_first _ (got_first serial j packet e to) s f = got s serial (apart_from s serial (f serial j packet e to)) ((terms H).sent serial) (terms H)
-  kept_first _ (ignored_first serial cause j packet e to) s f = ignored_that s serial (apart_from s serial (f serial j packet e to)) ((terms H).sent serial) cause (terms H)
+  kept_first _ (got_first serial j packet e to) s f = got s serial (other_by s serial (f serial j packet e to)) ((terms H).sent serial) (terms H)
+  kept_first _ (ignored_first serial cause j packet e to) s f = ignored_that s serial (other_by s serial (f serial j packet e to)) ((terms H).sent serial) cause (terms H)
   kept_first _ (late_first serial) s f = late_kept s _ (terms H)
   kept_first _ (saw_first j generation) s f = record { served = refl; news = refl }
 

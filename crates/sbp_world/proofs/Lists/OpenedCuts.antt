@@ -31,6 +31,7 @@ use Rattle.sbp_target.specs.Units.{clear_from, clear_unit, cut_all, cut_at, cut_
 use Rattle.sbp_world.proofs.Lists.Follows.{set_here}
 use Rattle.sbp_world.proofs.Lists.OpenCuts.{Listing, is_up, set_less}
 use Rattle.sbp_world.proofs.Lists.ManageTerms.{none_is, untrue}
+use Rattle.sbp_world.proofs.Agents.Managed.{clears_desks}
 
 up_reset : {A : Type 0} (d : Desk) → is_up (reset_desk d).agent ≡ true → A
 unfolding reset_step
@@ -61,11 +62,6 @@ ask_desks source ask s = asked_desks (manager_body ask s.node.manager.outgoing) 
 clear_desks : (unit : ℕ) (s : Scene) → (clear_unit unit s).node.desks ≡ s.node.desks
 unfolding clear_unit
 clear_desks unit s = refl
-
-clears_desks : (left unit : ℕ) (s : Scene) → (clear_from left unit s).node.desks ≡ s.node.desks
-unfolding clear_from
-clears_desks zero unit s = refl
-clears_desks (suc left) unit s = clears_desks left (unit + 1) (clear_unit unit s) ∙ clear_desks unit s
 
 -- ---- the agent of a place
 module _ (p : ℕ) (b : p < 8) where

@@ -13,15 +13,13 @@ use Rattle.sbp_laws.specs.Hosts.{host_at}
 use Rattle.sbp_laws.specs.Lists.{present_list}
 use Rattle.sbp_laws.specs.Terms.{lists}
 use Rattle.sbp_world.specs.Pointers.Pointers.{pointed_list}
-use Rattle.sbp_base.specs.Update.{upd}
 use Rattle.sbp_world.proofs.Hosts.Remaining.{gets_same, ignores_that_same, opened_same, remains, serials_behind, times_out_same}
 use Rattle.sbp_world.specs.Pointers.Moments.{state_list}
 use Rattle.sbp_world.specs.Lists.Opened.{AllOf, of_rest}
 use Rattle.sbp_world.proofs.Lists.OpenedHosts.{Goes, IsLaterAt, goes_then, like, one}
-use Rattle.sbp_world.proofs.Hosts.Remaining.{other_serial}
 use Rattle.sbp_world.proofs.Common.{cond_off}
-use Rattle.sbp_world.proofs.Sessions.BlockNotes.{begins_sent}
-use Rattle.sbp_world.proofs.Hosts.Held.{pays_sent}
+use Rattle.sbp_world.proofs.Hosts.Held.{sends_sent}
+use Rattle.sbp_world.proofs.Hosts.PointerNotes.{older as other_serial}
 
 -- ---- which notes stand behind the first moment of a turn of the target, and of another turn
 abbrev pub of_target : Note → Bool
@@ -100,11 +98,6 @@ sends_same s packet t =
     let b = begins (begun_by packet) s packet put in
     let first : Same t put = record { generation = refl; news = refl; served = refl; closed = refl } in
     same_then t b (sends s packet t) (same_then t put b first (begins_same (begun_by packet) s packet put)) (pays_same t.owes t.sent s packet b)
-
-pub sends_sent : (s : ℕ) (packet : Sending) (t : Terms) → (sends s packet t).sent ≡ upd t.sent s (Some packet)
-sends_sent s packet t =
-    let put = puts (begun_by packet) s packet t in
-    pays_sent t.owes t.sent s packet (begins (begun_by packet) s packet put) ∙ begins_sent (begun_by packet) s packet put
 
 pub rest_same : (note : Note) (past : List Moment) → of_rest note ≡ true → Same (terms past) (terms (said note ∷ past))
 rest_same (notes.Begin initiators ready) past e = absurd (false≢true e)
@@ -199,10 +192,6 @@ moment_sent (said (notes.Got s)) past e = (gets_same ((terms past).sent s) s (te
 moment_sent (said (notes.Ignored s cause)) past e = (ignores_that_same ((terms past).sent s) cause s (terms past)).sent
 moment_sent (said (notes.TimedOut s)) past e = (times_out_same _ (terms past)).sent
 moment_sent (said note) past e = refl
-
--- the generation that a node sees
-pub seen_now : (node generation : ℕ) (past : List Moment) → (terms (said (notes.Seen node generation) ∷ past)).generation node ≡ generation
-seen_now node generation past = let f : nat_eq node node ≡ true = grind (arith, nat_tests) in ap (λ b. cond b generation ((terms past).generation node)) f
 
 -- ---- what the others send
 -- a packet of the target was sent before

@@ -49,9 +49,7 @@ use Rattle.sbp_world.proofs.Lists.OpenedNever.{never}
 use Rattle.sbp_world.proofs.Lists.OpenedNotes.{all_new, own_handed, own_places}
 use Rattle.sbp_world.proofs.Lists.OpenedTurns.{NoneUp, WasUp}
 use Rattle.sbp_world.proofs.Lists.OpenedWorlds.{Here, Then, Wired, alike_up, aside_turn, saw_never, turn_is, wired}
-
-not_zero : (j : ℕ) → nat_eq (suc j) 0 ≡ false
-not_zero j = grind (arith, nat_tests)
+use Rattle.sbp_world.proofs.Wire.See.{not_zero}
 
 -- where the target and who has its places stay, and the terms
 pub alike_open : (x : View) (w v : WorldState) (i : ℕ) → ((p : ℕ) → IsUp v i p → WasUp w v i p) → AreOpenFor x w i → AreOpenFor x v i

@@ -37,9 +37,10 @@ use Rattle.sbp_world.proofs.Lists.OpenedBeside.{beside_line, beside_next}
 use Rattle.sbp_world.proofs.Lists.Beside.{tame_or_few_before}
 use Rattle.sbp_world.proofs.Lists.OpenedTargets.{Telling}
 use Rattle.sbp_world.proofs.Lists.OpenedTurns.{none_open}
-use Rattle.sbp_world.proofs.Lists.Runs.{as_front, lines_same, moments_same}
+use Rattle.sbp_world.proofs.Lists.Runs.{as_front}
 use Rattle.sbp_world.proofs.Lists.OpenedWorlds.{alike_up, wired}
 use Rattle.sbp_world.proofs.Common.{delivers}
+use Rattle.sbp_world.proofs.Lists.JoinLaws.{moments_same, lines_same}
 
 module _ (telling : (units logins : ℕ) (has : 0 < units) (start : List Disk) → Telling units logins has start) (laws : Laws) (management : ManagementLaw) (line : ℕ) (run : Run) (few : run.initiators ≤ 4) (has : 0 < run.units) (small : run.units ≤ 4) (size : length run.start.disks ≡ run.units) where
   abbrev n : ℕ

@@ -42,7 +42,7 @@ pub data Wrote (m : Machine) (t : Table) (keys : List (List ℕ)) (answer : Answ
   responded : (was : Operation) → m.operation ≡ Some was → (fifo : ℕ) → was.phase ≡ phases.Response fifo → was.source ≡ op.source → was.orb ≡ op.orb → op.phase ≡ phases.Status → Wrote m t keys answer r op
   resolved : IsResolved m t keys answer r op → Wrote m t keys answer r op
 
-pays_as : (answer : Answer) (size : ℕ) (bytes : List ℕ) → payload_of answer size ≡ Ok bytes → answer ≡ Payload bytes
+pub pays_as : (answer : Answer) (size : ℕ) (bytes : List ℕ) → payload_of answer size ≡ Ok bytes → answer ≡ Payload bytes
 pays_as (Payload xs) size bytes e = by (length xs == size) e
   where
     by : (b : Bool) → cond {A = Result (List ℕ) FailCause} b (Ok xs) (Err causes.Grammar) ≡ Ok bytes → Payload xs ≡ Payload bytes

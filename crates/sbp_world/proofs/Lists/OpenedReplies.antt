@@ -21,8 +21,8 @@ use Rattle.sbp_world.specs.Telling.{told, told_all}
 use Rattle.sbp_world.specs.Worlds.{WorldState}
 use Rattle.sbp_world.specs.Hosts.Handing.{AreOthers, IsOther}
 use Rattle.sbp_world.proofs.Agents.Management.Still.{hist}
-use Rattle.sbp_world.proofs.Lists.OpenedMoments.{sends_sent}
 use Rattle.sbp_world.proofs.Lists.OpenedStates.{IsIn}
+use Rattle.sbp_world.proofs.Hosts.Held.{sends_sent}
 
 -- ---- behind the packet that comes, its answer is owed, or none
 pub record Owes (serial : ℕ) (t u : Terms) : Type 0 where

@@ -36,10 +36,7 @@ use Rattle.sbp_target.specs.Serving.{answered, is_barred, request_step, serve, s
 use Rattle.sbp_world.proofs.Lists.Follows.{set_here}
 use Rattle.sbp_world.proofs.Lists.OpenCuts.{Here, Listing, is_up}
 use Rattle.sbp_world.proofs.Lists.OpenedAddresses.{IsBase, IsNear, block_base, demand_served, near_register}
-
-and_false : (b : Bool) → (b && false) ≡ false
-and_false true = refl
-and_false false = refl
+use Rattle.sbp_world.proofs.Wire.Kept.{and_false}
 
 -- ---- what a packet asks for
 pub asks_for : (bytes : List ℕ) (q : Packet) (a : Access) → reading bytes ≡ Ok q → access_in_bytes bytes ≡ Some a → access_of q ≡ Some a

@@ -48,10 +48,7 @@ use Rattle.sbp_world.specs.Pointers.Bases.{register_read}
 use Rattle.sbp_world.proofs.Lists.OpenCuts.{Listing, is_up}
 use Rattle.sbp_world.proofs.Lists.OpenedAddresses.{IsBase, demand_served, near_register}
 use Rattle.sbp_world.proofs.Lists.OpenedResets.{asks_for, near}
-
-and_false : (b : Bool) → (b && false) ≡ false
-and_false true = refl
-and_false false = refl
+use Rattle.sbp_world.proofs.Wire.Kept.{and_false}
 
 -- ---- a read of a quadlet
 pub record IsReading (q : Packet) (at : ℕ) : Type 0 where

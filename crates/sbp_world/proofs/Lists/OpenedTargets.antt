@@ -58,7 +58,7 @@ use Rattle.sbp_world.proofs.Lists.OpenManages as manages
 use Rattle.sbp_world.proofs.Lists.OpenTurns.{Before, begins, sound, up_state}
 use Rattle.sbp_world.proofs.Lists.OpenedDelivers.{delivery_up, end, good, kept_up, marks, seats, told, turn}
 use Rattle.sbp_world.proofs.Lists.OpenedFirst.{generation_same, is_first}
-use Rattle.sbp_world.proofs.Lists.OpenedMoments.{all_same, all_weaker, of_target, seen_now, target_rest}
+use Rattle.sbp_world.proofs.Lists.OpenedMoments.{all_same, all_weaker, of_target, target_rest}
 use Rattle.sbp_world.proofs.Lists.OpenedNotes.{target_handed}
 use Rattle.sbp_world.proofs.Lists.OpenedOffices.{sight_quiet, tick_quiet, timed_quiet}
 use Rattle.sbp_world.proofs.Lists.OpenedOthers.{alike_open}
@@ -66,6 +66,7 @@ use Rattle.sbp_world.proofs.Lists.OpenedSends.{Tells, written}
 use Rattle.sbp_world.proofs.Lists.OpenedTarget.{none_answered, target_turn}
 use Rattle.sbp_world.proofs.Lists.OpenedTurns.{IsNews, IsTelling, NoneUp, Opens, WasUp}
 use Rattle.sbp_world.proofs.Lists.OpenedWorlds.{Here, Then, alike_up, grown_turn, turn_is, wired}
+use Rattle.sbp_world.proofs.Pointers.Ages.{seen_now}
 
 -- ---- the first moment of a turn of the target
 -- at which no packet comes

@@ -35,12 +35,13 @@ use Rattle.sbp_world.proofs.Lists.OpenFresh.{Writes}
 use Rattle.sbp_world.proofs.Lists.OpenedAside.{IsOthers, aside}
 use Rattle.sbp_world.proofs.Lists.OpenedGrown.{grown}
 use Rattle.sbp_world.proofs.Lists.OpenedHears.{aside_keeps}
-use Rattle.sbp_world.proofs.Lists.OpenedMoments.{of_others, seen_now}
+use Rattle.sbp_world.proofs.Lists.OpenedMoments.{of_others}
 use Rattle.sbp_world.proofs.Lists.OpenedNever.{ResetsWrite}
 use Rattle.sbp_world.proofs.Lists.OpenedNotes.{split}
 use Rattle.sbp_world.proofs.Lists.OpenedTurns.{Grown, Known, NoneUp, WasUp}
 use Rattle.sbp_world.proofs.Lists.Rises.{Rises}
 use Rattle.sbp_world.proofs.Common.{moment_joined}
+use Rattle.sbp_world.proofs.Pointers.Ages.{seen_now}
 
 -- ---- what is known between two turns, of an initiator
 pub record Here (H : List Moment) (w : WorldState) (i : ℕ) : Type 0 where

@@ -26,7 +26,8 @@ use Rattle.sbp_world.proofs.Agents.Management.Still.{hist}
 use Rattle.async_packet.specs.Labels.{LabelParts}
 use Rattle.sbp_world.proofs.Hosts.Remaining.{gets_same as got_same, ignores_that_same, opened_same as opens_same, times_out_same as late_same}
 use Rattle.sbp_world.proofs.Hosts.SentMoments.{count_now, sent_now}
-use Rattle.sbp_world.proofs.Lists.OpenNews.{gets_as_same, judges_if_same, judges_same, opened_same, sends_same, times_out_same}
+use Rattle.sbp_world.proofs.Lists.OpenNews.{judges_if_same, opened_same, sends_same, times_out_same}
+use Rattle.sbp_world.proofs.Lists.ManageTerms.{judges_news as judges_same, part_news as gets_as_same}
 
 module _ (r : ℕ) where
   some_none : (packet : Sending) → Some packet ≡ None → ⊥

@@ -27,7 +27,7 @@ use Rattle.sbp_world.specs.Worlds.{WorldState, begun}
 use Rattle.sbp_world.specs.Agents.Management.Terms.{Awaits, HasRequest}
 use Rattle.sbp_world.proofs.Agents.Management.Holding.{Holding, past_terms}
 use Rattle.sbp_world.proofs.Agents.Management.Lines.{all_heard as all_hold, opens}
-use Rattle.sbp_world.proofs.Agents.Management.Runs.{are_told, holds_after, no_repeats, not_reset}
+use Rattle.sbp_world.proofs.Agents.Management.Runs.{holds_after, no_repeats, not_reset}
 use Rattle.sbp_world.proofs.Agents.Management.Still.{hist}
 use Rattle.sbp_world.specs.Hosts.Runs.{IsRun, more_deliveries}
 use Rattle.sbp_world.proofs.Hosts.Between.{of_wire_there}
@@ -44,9 +44,10 @@ use Rattle.sbp_world.proofs.Lists.OrbsBegan.{BeganBy, began, line_kept, not_befo
 use Rattle.sbp_world.proofs.Lists.OrbsRead.{delivers, read_orbs_law}
 use Rattle.sbp_world.proofs.Lists.Runs.{as_front}
 use Rattle.sbp_world.proofs.Lists.UnderwayRuns.{delivering, underway_law}
-use Rattle.sbp_world.proofs.Agents.CrewRuns.{lines_same, moments_same}
 use Rattle.sbp_world.proofs.Lists.Courses.{more_no_act}
 use Rattle.sbp_world.proofs.Lists.FifoManages.{orb_status}
+use Rattle.sbp_world.proofs.Lists.JoinLaws.{moments_same, lines_same}
+use Rattle.sbp_world.proofs.Hosts.Runs.{are_told}
 
 -- ---- the request of the operation, by the wire
 

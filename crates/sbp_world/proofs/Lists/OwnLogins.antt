@@ -62,9 +62,9 @@ use Rattle.sbp_world.proofs.Lists.OwnFifos.{tame_before}
 use Rattle.sbp_world.proofs.Lists.OwnOps.{AreOwnOps, IsOwnOp, brings_good, own_turn, short_from}
 use Rattle.sbp_world.proofs.Lists.OwnTables.{Owns, decide_owns, owned}
 use Rattle.sbp_world.proofs.Lists.PlaceBrings.{place_reads_law}
-use Rattle.sbp_world.proofs.Lists.PlacedOps.{each_from}
 use Rattle.sbp_world.proofs.Lists.PlacedRuns.{WroteAll, wrote_everywhere}
 use Rattle.sbp_world.proofs.Lists.UnderwayRuns.{delivering}
+use Rattle.sbp_world.proofs.Lists.StatusKnown.{each_from}
 
 -- ---- what is known of every run
 pub record OwnKnown (start : List Disk) (past : List Moment) (w : WorldState) : Type 0 where

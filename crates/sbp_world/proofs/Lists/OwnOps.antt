@@ -59,7 +59,8 @@ use Rattle.sbp_world.proofs.Lists.OwnCounts.{FewAt}
 use Rattle.sbp_world.proofs.Lists.OwnPlaces.{IfGood, held_good, none_before}
 use Rattle.sbp_world.specs.Lists.ReadOrbs.{IsAnswered}
 use Rattle.sbp_world.proofs.Lists.OwnReplies.{delivery_good}
-use Rattle.sbp_world.proofs.Lists.PlacedOps.{IsHeldOp, Written, asked_held, each_from}
+use Rattle.sbp_world.proofs.Lists.PlacedOps.{IsHeldOp, Written, asked_held}
+use Rattle.sbp_world.proofs.Lists.StatusKnown.{each_from}
 
 -- ---- a place that is written stays so: from the packet on that wrote it
 abbrev pub IsHeldFrom : List Moment → (i place written : ℕ) → Type 0

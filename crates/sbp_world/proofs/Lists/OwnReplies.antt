@@ -32,7 +32,7 @@ use Rattle.sbp_world.specs.Agents.Management.Offices.{Office}
 use Rattle.sbp_world.proofs.Sessions.Decisions.{none_goes}
 use Rattle.sbp_world.proofs.Sessions.Writing.{behind}
 use Rattle.sbp_world.specs.Lists.OwnLogins.{GoodIn, IsGoodOrb}
-use Rattle.sbp_world.proofs.Lists.KeptReplies.{payload_is}
+use Rattle.sbp_world.proofs.Lists.OpenedReplied.{pays_as as payload_is}
 
 module _ (answer : Answer) (own : Operation) (good : GoodIn own.phase) (brings : own.phase ≡ phases.Orb → (bytes : List ℕ) → answer ≡ Payload bytes → IsGoodOrb (management_orb bytes)) where
   abbrev Leaves : Option Operation → Type 0

@@ -1,13 +1,12 @@
 -- An operation of the target of an initiator that injected no packets has its ORB in one of the initiator's places of management, where each login that the initiator
 -- was done with was granted an agent of a place.
-use Rattle.std.proofs.Common.{arith, ◌≡◌, ◌∙◌, inl, inr, ◌⊎◌, refl, sym, ap, subst, ℕ, suc, ◌%◌, ◌^◌, ◌<◌, ◌==◌, ◌&&◌, nat_eq, Bool, true, false, cond, List, [], ◌∷◌, ◌++◌, length, Option, Some, None}
+use Rattle.std.proofs.Common.{arith, ◌≡◌, ◌∙◌, inl, inr, ◌⊎◌, refl, sym, ap, subst, ℕ, suc, ◌%◌, ◌<◌, ◌==◌, ◌&&◌, nat_eq, Bool, true, false, cond, List, [], ◌∷◌, length, Option, Some, None}
 use Rattle.std.proofs.lemmas.Bool.Decides.{nat_tests}
 use Rattle.async_packet.specs.declared.packet.Header.{Header}
 use Rattle.async_packet.specs.Packet.{Packet, lock, lock_response, read_block, read_block_response, read_quadlet, read_quadlet_response, write_block, write_quadlet, write_response}
 use Rattle.bus_memory.specs.declared.window.Window.TheVariants as windows
 use Rattle.bus_memory.specs.Windows.{start as start_of}
 use Rattle.bus_transactions.specs.Wire.{Node, as_sending}
-use Rattle.byteorder.specs.Endian.{big_bytes}
 use Rattle.sbp_world.specs.Hosts.Carrying.{NoneInjected}
 use Rattle.sbp_world.proofs.Hosts.SentMoments.{WasSent, sent_moment}
 use Rattle.initiator_base.specs.Places.{behind_by}
@@ -53,6 +52,8 @@ use Rattle.sbp_world.proofs.Lists.HostLogins.{GrantsAt, login_good}
 use Rattle.sbp_world.proofs.Lists.LiveSteps.{id_in}
 use Rattle.sbp_world.proofs.Lists.ManageTerms.{none_is, same_some, untrue}
 use Rattle.sbp_world.proofs.Lists.ManageWrites.{WroteAt}
+use Rattle.sbp_world.proofs.Lists.ManageLines.{eight_at}
+use Rattle.sbp_world.proofs.Lists.StatusKnown.{each_from}
 
 -- ---- a write of MANAGEMENT_AGENT, by what it asks of the target
 pub record IsManageWrite (p : Packet) (orb : ℕ) : Type 0 where
@@ -134,9 +135,6 @@ login_clear past i small h = login_good IsClear past i (λ e. ready_clear i smal
     ready_clear i small e = absurd (omega (arith, small, e))
 
 -- ---- each block write of an initiator to MANAGEMENT_AGENT names a place
-pub each_from : (At : Moment → List Moment → Type 0) (later before : List Moment) → EachMoment At (later ++ before) → EachMoment At before
-each_from At [] before h = h
-each_from At (m ∷ later) before h = each_from At later before h.1
 
 pub record NamesPlace (payload : List ℕ) : Type 0 where
   pub place : ℕ
@@ -176,12 +174,6 @@ pub record Written (past : List Moment) (i : ℕ) : Type 0 where
   pub rings : EachMoment (RingsAt i) past
   pub wrote : EachMoment (WroteAt i) past
   pub based : EachMoment (BasedAt i) past
-
-eight_at : (x : ℕ) → x < 2 ^ 32 → offset_at (big_bytes 8 x) 0 ≡ x
-eight_at x small =
-    let bytes = big_bytes 8 x in
-    let place : offset_at bytes 0 ≡ x = omega arith in
-    place
 
 module _ (past : List Moment) (i : ℕ) (few : i < 8) (known : Written past i) (serial : ℕ) (packet : Sending) (sent : (terms past).sent serial ≡ Some packet) (own : packet.from ≡ suc i) (honest : packet.injected ≡ false) (access : Access) (spelled : access_in_bytes packet.bytes ≡ Some access) (writes : access.is_write ≡ true) (block : access.is_block ≡ true) (at : access.offset ≡ management_start) where
   places_by : (before : List Moment) (named : Option ℕ) → (terms before).injected serial ≡ false → EachMoment (BasedAt i) before → RingsAt i (said (notes.Sent serial packet.generation packet.from packet.to packet.bytes)) before → WroteAt i (said (notes.Sent serial packet.generation packet.from packet.to packet.bytes)) before → (action : Action) → event_of before ≡ Some (events.Act i action) → MayWrite before i named serial action access → NamesHeld i (said (notes.Sent serial packet.generation packet.from packet.to packet.bytes) ∷ before) access.payload

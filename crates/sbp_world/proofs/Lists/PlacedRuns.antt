@@ -40,9 +40,10 @@ use Rattle.sbp_world.proofs.Lists.LiveTurns.{TargetCall, TurnOf, by_clearing, by
 use Rattle.sbp_world.proofs.Lists.ManageLines.{first_wrote}
 use Rattle.sbp_world.proofs.Lists.ManageTerms.{none_is}
 use Rattle.sbp_world.proofs.Lists.ManageWrites.{Wrote, WroteAt, spells_known, wrote_carried}
-use Rattle.sbp_world.proofs.Lists.PlacedOps.{Written, asked_placed, each_from}
+use Rattle.sbp_world.proofs.Lists.PlacedOps.{Written, asked_placed}
 use Rattle.sbp_world.proofs.Lists.RingWrites.{rings_law}
 use Rattle.sbp_world.proofs.Lists.UnderwayRuns.{delivering}
+use Rattle.sbp_world.proofs.Lists.StatusKnown.{each_from}
 
 -- ---- what the initiators of every run wrote
 pub record WroteAll (start : List Disk) (past : List Moment) (w : WorldState) : Type 0 where

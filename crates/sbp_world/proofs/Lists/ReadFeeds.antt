@@ -42,7 +42,7 @@ use Rattle.sbp_world.proofs.Lists.DataSlots.{appends_grow}
 use Rattle.sbp_world.proofs.Lists.Executes.{NamedRun, OpensBeside, opens_before, runs_named}
 use Rattle.sbp_world.proofs.Lists.Fair.{Told, told_before, told_everywhere}
 use Rattle.sbp_world.proofs.Lists.FedJoins.{fed_asked, run_since, since_fed}
-use Rattle.sbp_world.proofs.Lists.FedOnce.{judged_before, judged_everywhere}
+use Rattle.sbp_world.proofs.Lists.FedOnce.{judged_everywhere}
 use Rattle.sbp_world.proofs.Lists.Histories as histories
 use Rattle.sbp_world.proofs.Lists.ListsProved.{closing}
 use Rattle.sbp_world.proofs.Lists.NobodyGots.{but_nobody}
@@ -51,10 +51,10 @@ use Rattle.sbp_world.proofs.Lists.OpenGots.{OpenAsGot, open_as_got}
 use Rattle.sbp_world.proofs.Lists.OwnGots.{own_as_got}
 use Rattle.sbp_world.proofs.Lists.OwnSince.{each_awaited, own_since_law}
 use Rattle.sbp_world.proofs.Lists.Passing.{PassAt, PassLaw}
-use Rattle.sbp_world.proofs.Lists.PlacedOps.{each_from}
 use Rattle.sbp_world.proofs.Lists.RunLaws.{order_run_law}
 use Rattle.sbp_world.proofs.Lists.SentGots.{sent_as_got}
 use Rattle.sbp_world.proofs.Lists.UnrunTerms.{lists_grow}
+use Rattle.sbp_world.proofs.Lists.StatusKnown.{judged_less as judged_before, each_from}
 
 module _ (wild : ℕ → Bool) (start : List Disk) where
   -- what was got as an ORB was read ahead; what answers the management operation; and what answers nobody

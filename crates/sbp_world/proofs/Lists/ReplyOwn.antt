@@ -34,7 +34,7 @@ use Rattle.sbp_world.proofs.Lists.Courses.{Goes, by_delivery, by_end, by_line, b
 use Rattle.sbp_world.proofs.Lists.Judging.{counts_at}
 use Rattle.sbp_world.proofs.Lists.LiveActs.{Acted, act_acts, begins, idle, moves}
 use Rattle.sbp_world.proofs.Lists.LiveAway.{Over}
-use Rattle.sbp_world.proofs.Lists.LiveOurs.{away_is, hands_behind, opened_over, over as turn_over, own_carried}
+use Rattle.sbp_world.proofs.Lists.LiveOurs.{away_is, opened_over, over as turn_over, own_carried}
 use Rattle.sbp_world.proofs.Lists.LiveOwn.{GaveUp, in_hand, not_up, up_like}
 use Rattle.sbp_world.proofs.Lists.LivePends.{pends_now}
 use Rattle.sbp_world.proofs.Lists.LiveRefusing.{IsManagedBy, refused}
@@ -55,6 +55,7 @@ use Rattle.sbp_world.proofs.Lists.ReplyOffices.{Stays, gone, same as stays_same,
 use Rattle.sbp_world.proofs.Lists.ReplyTurns.{SameNode, begins_replying, begins_stays}
 use Rattle.sbp_world.proofs.Lists.LiveDecides.{equals}
 use Rattle.sbp_world.proofs.Lists.LiveCalled.{no_work}
+use Rattle.sbp_world.proofs.Lists.LiveLeads.{hands_before as hands_behind}
 
 -- ---- the nodes are as they were
 pub same_node : (units ready : ℕ) (start : List Disk) (past : List Moment) (s : Scene) (later : List Moment) (t : Scene) {lines more : ℕ} → Holding units ready start past lines s.world → Holding units ready start later more t.world → (i : ℕ) → i < length s.world.initiators → i < length t.world.initiators → SameBus i s.world t.world → SameNode (hist past s.world) (hist later t.world) i

@@ -40,10 +40,10 @@ use Rattle.sbp_world.proofs.Lists.ManageLaws.{known_of}
 use Rattle.sbp_world.proofs.Lists.ManageMoments.{Hands}
 use Rattle.sbp_world.proofs.Lists.ManageTerms.{none_is}
 use Rattle.sbp_world.proofs.Lists.ManageYoung.{young}
-use Rattle.sbp_world.proofs.Lists.PlacedOps.{each_from}
 use Rattle.sbp_world.proofs.Lists.PlacedRuns.{ArePlacedAt, placed_everywhere}
 use Rattle.sbp_world.proofs.Lists.ReplyOwn.{own_on, own_up, same_node, sighted_on}
 use Rattle.sbp_world.proofs.Lists.ReplyTurns.{SameNode, replied_there}
+use Rattle.sbp_world.proofs.Lists.StatusKnown.{each_from}
 
 -- ---- what laws give at each place
 pub record Kit (start : List Disk) (past : List Moment) (w : WorldState) : Type 0 where

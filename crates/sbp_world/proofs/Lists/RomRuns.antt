@@ -43,12 +43,13 @@ use Rattle.target_base.specs.Beginning.{target_eui}
 use Rattle.sbp_world.specs.Agents.Management.Terms.{DeliversMore}
 use Rattle.sbp_world.proofs.Agents.Management.Holding.{Holding}
 use Rattle.sbp_world.proofs.Agents.Management.Lines.{all_heard, opens}
-use Rattle.sbp_world.proofs.Agents.Management.Runs.{are_told, holds_after, no_repeats, not_reset}
+use Rattle.sbp_world.proofs.Agents.Management.Runs.{holds_after, no_repeats, not_reset}
 use Rattle.sbp_world.proofs.Lists.RomBytes.{IsRom, is_rom}
 use Rattle.sbp_world.proofs.Lists.RomCalls.{delivery_fair}
 use Rattle.sbp_world.proofs.Lists.RomLines.{B, acts, notes_on, own_hands, seconds, sights, target_hands, times_out}
 use Rattle.sbp_world.proofs.Lists.RomNotes.{SentFair, judged_on, plain_on}
 use Rattle.sbp_world.proofs.Lists.RomStays.{rom_stays}
+use Rattle.sbp_world.proofs.Hosts.Runs.{are_told}
 
 -- ---- a delivery
 

@@ -55,7 +55,8 @@ use Rattle.sbp_world.proofs.Lists.RunFits.{WasAsked, runs_on}
 use Rattle.sbp_world.proofs.Lists.RunTells.{served_there}
 use Rattle.sbp_world.proofs.Lists.Runless.{IsRunBy}
 use Rattle.sbp_world.proofs.Lists.Turns.{Ready, heard_ended}
-use Rattle.sbp_world.proofs.Agents.UnitsRun.{ahead_none, none_if}
+use Rattle.sbp_world.proofs.Agents.UnitsRun.{ahead_none}
+use Rattle.sbp_world.proofs.Agents.UnitsKept.{runs_if as none_if}
 
 -- ---- what is known as a turn begins
 -- an ORB that has not ended, of a list that is open, was appended with a request

@@ -25,7 +25,7 @@ use Rattle.sbp_world.specs.Agents.Management.Terms.{DeliversMore}
 use Rattle.sbp_world.proofs.Agents.Management.Begins.{first_holds, first_past}
 use Rattle.sbp_world.proofs.Agents.Management.Holding.{Holding, good_of}
 use Rattle.sbp_world.proofs.Agents.Management.Lines.{all_heard as all_hold, line_holds, opens}
-use Rattle.sbp_world.proofs.Agents.Management.Runs.{are_told, no_repeats, not_reset}
+use Rattle.sbp_world.proofs.Agents.Management.Runs.{no_repeats, not_reset}
 use Rattle.sbp_world.proofs.Agents.Management.Still.{hist}
 use Rattle.sbp_world.proofs.Agents.Holders.{are_held, seats_after}
 use Rattle.sbp_world.proofs.Agents.Seating.{opened as seats_opened}
@@ -33,7 +33,7 @@ use Rattle.sbp_world.specs.Hosts.Lasting.{Lasts}
 use Rattle.sbp_world.specs.Hosts.Runs.{IsRun, more_deliveries}
 use Rattle.sbp_world.specs.Hosts.Worlds.{IsHost}
 use Rattle.sbp_world.proofs.Hosts.Lasting.{lasting_law}
-use Rattle.sbp_world.proofs.Hosts.Runs.{count_after, count_between, run_law}
+use Rattle.sbp_world.proofs.Hosts.Runs.{count_after, count_between, run_law, are_told}
 use Rattle.sbp_world.proofs.Hosts.StepLaws.{step_law}
 use Rattle.sbp_world.specs.Agents.Alike.{has_list}
 use Rattle.sbp_world.specs.Lists.Needs.{IsCalm, OpenAfter, OpenBefore, OpenBehind, OpenIn, OpenLists, OpenWhile, machine_at}
@@ -58,6 +58,7 @@ use Rattle.sbp_world.proofs.Lists.Stays.{ready_now}
 use Rattle.sbp_world.proofs.Lists.Named.{no}
 use Rattle.sbp_world.proofs.Lists.Turned.{IsOne, Turned, line_turned}
 use Rattle.sbp_world.proofs.Lists.Turns.{Ready}
+use Rattle.sbp_world.proofs.Lists.JoinLaws.{moments_same, lines_same}
 
 -- ---- a history that goes on
 pub said_more : (old new : List Note) (past : List Moment) (e : Extends old new) → map said new ++ past ≡ map said e.more ++ (map said old ++ past)
@@ -92,9 +93,6 @@ open_had ms w opens q b h n list =
     record { place = q; opened = subst (λ l. WasOpened ms (holder w q).initiator q l) list (opens q b (up_state _ (listing_up (machine_at w q).phase h))).opened }
 
 -- ---- runs
-pub moments_same : (line : ℕ) (run : Run) (all entries : List Entry) → moments_behind line (record run { entries = all }) entries ≡ moments_behind line run entries
-moments_same line run all [] = refl
-moments_same line run all (e ∷ before) = ap (λ ms. map said e.notes ++ asked e.line e.event ∷ ms) (moments_same line run all before)
 
 -- a run of some lines more has the same places before
 pub as_front : (line : ℕ) (run : Run) (all entries : List Entry) → OpenBefore line run entries → OpenBefore line (record run { entries = all }) entries
@@ -107,10 +105,6 @@ as_front line run all (e ∷ before) b =
       },
       as_front line run all before b.1,
     )
-
-pub lines_same : (run : Run) (all entries : List Entry) → AreLines run entries → AreLines (record run { entries = all }) entries
-lines_same run all [] l = tt
-lines_same run all (e ∷ before) l = (l.0, lines_same run all before l.1)
 
 module _ (wild : ℕ → Bool) (opened : (i : ℕ) → wild i ≡ false → OpensLaw) (line : ℕ) (run : Run) (few : run.initiators ≤ 4) (has : 0 < run.units) (small : run.units ≤ 4) (size : length run.start.disks ≡ run.units) where
   abbrev pub logins : ℕ

@@ -10,9 +10,10 @@ use Rattle.sbp_journal.specs.declared.event.Event.{Event}
 use Rattle.sbp_journal.specs.declared.event.Event.TheVariants as events
 use Rattle.sbp_journal.specs.declared.note.Note.{Note}
 use Rattle.sbp_journal.specs.declared.note.Note.TheVariants as notes
-use Rattle.sbp_world.proofs.Lists.OpenNews.{gets_as_same, judges_if_same, judges_same, opened_same, sends_same, times_out_same}
+use Rattle.sbp_world.proofs.Lists.OpenNews.{judges_if_same, opened_same, sends_same, times_out_same}
 use Rattle.sbp_world.proofs.Lists.OpenedMoments.{rest_same}
 use Rattle.sbp_world.proofs.Lists.Quiet.{IsQuiet}
+use Rattle.sbp_world.proofs.Lists.ManageTerms.{judges_news as judges_same, part_news as gets_as_same}
 
 judges_served : (u : Option Transaction) (cause : Option Cause) (s : ℕ) (packet : Sending) (t : Terms) → (judges u cause s packet t).served ≡ t.served
 judges_served None cause s packet t = refl

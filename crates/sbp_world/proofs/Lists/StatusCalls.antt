@@ -117,7 +117,7 @@ lost_packets source s (step, r) = by step.failed
     by None = refl
     by (Some cause) = refl
 
-lose_packets : (s : Scene) → (lose_operation s).outbox.packets ≡ s.outbox.packets
+pub lose_packets : (s : Scene) → (lose_operation s).outbox.packets ≡ s.outbox.packets
 unfolding lose_operation
 lose_packets s = by (management.source_in s.node.manager.operation)
   where

@@ -47,7 +47,7 @@ pub record IsKnown (wild : ℕ → Bool) (ms : List Moment) (i : ℕ) : Type 0 w
   pub judged : AreJudged ms
   pub serials : SerialsCount ms
 
-judged_less : (m : Moment) (ms : List Moment) → AreJudged (m ∷ ms) → AreJudged ms
+pub judged_less : (m : Moment) (ms : List Moment) → AreJudged (m ∷ ms) → AreJudged ms
 judged_less (said (notes.Got serial)) ms h = h.1
 judged_less (said (notes.Ignored serial cause)) ms h = h.1
 judged_less (asked line event) ms h = h

@@ -17,7 +17,7 @@ use Rattle.sbp_world.specs.Lists.Statuses.{IsStatusWrite, IsTakenSo, SentSo, Tak
 use Rattle.sbp_world.specs.Lists.StatusRuns.{AtLogin}
 use Rattle.sbp_world.proofs.Common.{itself}
 
-each_there : (P : Moment → List Moment → Type 0) (later : List Moment) (m : Moment) (past : List Moment) → EachMoment P (later ++ m ∷ past) → P m past
+pub each_there : (P : Moment → List Moment → Type 0) (later : List Moment) (m : Moment) (past : List Moment) → EachMoment P (later ++ m ∷ past) → P m past
 each_there P [] m past h = h.0
 each_there P (one ∷ later) m past h = each_there P later m past h.1
 

@@ -20,7 +20,7 @@ use Rattle.mgmt_agent.specs.Machine as management
 use Rattle.orb_layout.specs.declared.ask.Ask.{Ask}
 use Rattle.orb_layout.specs.declared.ask.Ask.TheVariants as asks
 use Rattle.orb_layout.specs.declared.ask.FailCause.{FailCause}
-use Rattle.orb_layout.specs.Replies.{Answer, NoLabel}
+use Rattle.orb_layout.specs.Replies.{Answer}
 use Rattle.orb_layout.specs.StatusBlocks.{read_block}
 use Rattle.sbp_bus.specs.Generations.{GenerationsState, id_of, node_of, topology_at}
 use Rattle.sbp_journal.specs.declared.cause.CutCause.{CutCause}
@@ -36,7 +36,7 @@ use Rattle.sbp_laws.specs.Turns.{EachMoment}
 use Rattle.sbp_target.specs.declared.purpose.Purpose.{Purpose}
 use Rattle.sbp_target.specs.declared.purpose.Purpose.TheVariants as purposes
 use Rattle.sbp_target.specs.Agents.{cut, cut_node, told_cut}
-use Rattle.sbp_target.specs.Management.{ask_manager, cut_placed, decided_by, effect_by, failed_by, fresh_desk, lose_operation, lost_in, manage, managed_in, managed_with, manager_asked, manager_body, manager_lost, manager_sent, place_in, tell_failed, tell_left, with_manager}
+use Rattle.sbp_target.specs.Management.{ask_manager, cut_placed, decided_by, effect_by, failed_by, fresh_desk, manage, managed_in, managed_with, manager_asked, manager_body, manager_lost, manager_sent, place_in, tell_failed, tell_left, with_manager}
 use Rattle.sbp_target.specs.Nodes.{Scene, desk_at, login_at, scene}
 use Rattle.sbp_target.specs.Sending.{request_step, sent_by}
 use Rattle.sbp_target.specs.Units.{clear_from, clear_unit, cut_all, cut_at, cut_from, is_cut}
@@ -58,6 +58,7 @@ use Rattle.sbp_world.proofs.Lists.StatusPackets.{IsPlain, Spelled, read_plain, s
 use Rattle.sbp_world.proofs.Lists.StatusReads.{IsOfBody, IsRead, asked_body, body_reads}
 use Rattle.sbp_world.proofs.Lists.StatusSends.{AllOut, all_send}
 use Rattle.sbp_world.proofs.Lists.StatusTurn.{Behind, IsFirst, got_first, ignored_first, late_first}
+use Rattle.sbp_world.proofs.Lists.StatusCalls.{lose_packets}
 
 -- ---- what its decision leaves: no packet, and the management as it is
 module _ (m : management.Machine) where
@@ -135,14 +136,6 @@ lost_none source s (step, r) = by step.failed
     by None = refl
     by (Some cause) = refl
 
-pub lose_none : (s : Scene) → (lose_operation s).outbox.packets ≡ s.outbox.packets
-unfolding lose_operation
-lose_none s = by (management.source_in s.node.manager.operation)
-  where
-    by : (source : Option ℕ) → (lost_in source s).outbox.packets ≡ s.outbox.packets
-    by None = refl
-    by (Some source) = lost_none source s (management.reply_step s.node.manager s.node.logins s.node.keys NoLabel)
-
 -- ---- what leaves: nothing, or one packet to the node of the operation, which is plain where this is known of what is written
 module _ (source : ℕ) (Ours : Type 0) where
   pub data Leaves : List Outgoing → Type 0 where
@@ -165,7 +158,7 @@ module _ (source : ℕ) (Ours : Type 0) where
   plain_of layer (block_read at count) f asked of ours slot block w = read_plain (record { to = source; label = Some asked.label; bytes = asked.bytes }) (subst IsRead (sym of) (body_reads asked.label.number layer.node source (block_read at count) refl)) slot block w
 
   sent_leaves : (body : Body) → Fine body → (s : Scene) → s.outbox.packets ≡ [] → (r : Option Asked × Layer Purpose) → IsOfBody s.node.layer source body r.0 → Leaves (manager_sent s.node (sent_by r s.outbox source)).outbox.packets
-  sent_leaves body f s none (None, layer) of = let t = scene (record s.node { layer = layer }) s.outbox in leaves_none _ (lose_none t ∙ none)
+  sent_leaves body f s none (None, layer) of = let t = scene (record s.node { layer = layer }) s.outbox in leaves_none _ (lose_packets t ∙ none)
   sent_leaves body f s none (Some asked, layer) of =
       let packet : Outgoing = record { to = source; label = Some asked.label; bytes = asked.bytes } in
       leaves_one _ packet (ap (λ ps. ps ++ packet ∷ []) none) refl (plain_of s.node.layer body f asked of)

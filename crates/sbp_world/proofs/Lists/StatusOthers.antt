@@ -1,7 +1,6 @@
 -- Each turn of an initiator, and each line in which no packet is delivered, keeps that the last ORB of a list stands in its slot while its agent is at the end of the list.
-use Rattle.std.proofs.Common.{arith, ◌≡◌, ◌∙◌, refl, sym, ap, subst, ◌-◌, ℕ, suc, nat_eq, nat_lt, Bool, true, false, cond, List, [], ◌∷◌, ◌++◌, map, length, None}
+use Rattle.std.proofs.Common.{◌≡◌, ◌∙◌, refl, sym, ap, subst, ◌-◌, ℕ, suc, nat_eq, nat_lt, Bool, true, false, cond, List, [], ◌∷◌, ◌++◌, map, length, None}
 use Rattle.std.specs.Prelude.{slice_index_or, slice_set}
-use Rattle.std.proofs.lemmas.Bool.Decides.{nat_tests}
 use Rattle.std.proofs.lemmas.Bool.{false≢true}
 use Rattle.packet_store.specs.declared.sent.Sent.{Sent}
 use Rattle.sbp_bus.specs.Packets.{judged_note, no_packet}
@@ -43,9 +42,7 @@ use Rattle.sbp_world.proofs.Lists.OpenedMoments.{all_weaker, of_others, others_r
 use Rattle.sbp_world.proofs.Lists.OpenedNotes.{own_handed}
 use Rattle.sbp_world.proofs.Lists.OpenedOthers.{OthersDo, refused_does}
 use Rattle.sbp_world.proofs.Lists.StatusTargets.{judged_due, judged_first, late_first}
-
-not_zero : (j : ℕ) → nat_eq (suc j) 0 ≡ false
-not_zero j = grind (arith, nat_tests)
+use Rattle.sbp_world.proofs.Wire.See.{not_zero}
 
 -- ---- first moments of other turns
 asked_first : (i line : ℕ) (event : Event) (H : List Moment) → IsFirst i (asked line event) H

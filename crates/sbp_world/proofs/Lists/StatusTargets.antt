@@ -71,7 +71,6 @@ use Rattle.sbp_world.specs.Nodes.{see_line, target_sees, target_ticks, tick_line
 use Rattle.sbp_world.specs.Nodes as nodes
 use Rattle.sbp_world.proofs.Hosts.Hands.{hand_law}
 use Rattle.sbp_world.proofs.Lists.OpenManages as manages
-use Rattle.sbp_world.proofs.Lists.OpenedMoments.{seen_now}
 use Rattle.sbp_world.proofs.Lists.OpenedNotes.{target_handed}
 use Rattle.sbp_world.proofs.Lists.OpenedWorlds.{turn_is}
 use Rattle.sbp_world.proofs.Lists.Rises.{Rises, RisesAt}
@@ -79,6 +78,7 @@ use Rattle.sbp_world.proofs.Lists.StatusKnown.{each_from}
 use Rattle.sbp_world.proofs.Lists.StatusBehind.{At, Then, after_of, inside_then, low_at}
 use Rattle.sbp_world.proofs.Lists.StatusRests.{Resting, sees as rest_sees, ticks as rest_ticks}
 use Rattle.sbp_world.proofs.Lists.StatusSteps.{none_wrote}
+use Rattle.sbp_world.proofs.Pointers.Ages.{seen_now}
 
 -- ---- the first notes of turns of the target
 pub judged_first : (i serial : ℕ) (j : Judged) (H : List Moment) → IsFirst i (said (judged_note serial j)) H

@@ -57,7 +57,6 @@ use Rattle.sbp_bus.specs.Packets.{end_note}
 use Rattle.sbp_world.proofs.Lists.LedRuns.{got_just}
 use Rattle.sbp_world.proofs.Lists.LinedAppends.{AllLined, LinedAt}
 use Rattle.sbp_world.proofs.Lists.Lines.{acts}
-use Rattle.sbp_world.proofs.Lists.LiveAway.{event_behind}
 use Rattle.sbp_world.proofs.Lists.ManageSends.{opened_terms}
 use Rattle.sbp_world.proofs.Lists.ManageTerms.{none_is, untrue}
 use Rattle.sbp_world.proofs.Lists.OpenTurns.{listing_up}
@@ -71,6 +70,7 @@ use Rattle.sbp_world.proofs.Lists.PlaceOwners.{Owns, turn_owns}
 use Rattle.sbp_world.proofs.Lists.Sites.{Site, waiting}
 use Rattle.sbp_world.proofs.Lists.StillReads.{AreStill, IsHad, ahead_name, had_still, main_name, named_over, o, still_had}
 use Rattle.sbp_world.proofs.Lists.TurnReads.{Course, Gets, delivery_course, line_course, turn_over}
+use Rattle.sbp_world.proofs.Hosts.Hands.{line_stays as event_behind}
 
 -- ---- what is known of a place
 pub record Ground (start : List Disk) (ms : List Moment) (w : WorldState) : Type 0 where

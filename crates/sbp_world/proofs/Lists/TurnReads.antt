@@ -29,8 +29,8 @@ use Rattle.sbp_world.proofs.Lists.OrbNotes.{GotBrings, IfGot, note_reads}
 use Rattle.sbp_world.proofs.Lists.OrbWaits.{over_twice}
 use Rattle.sbp_world.proofs.Lists.Quiet.{AllQuiet, Comes, Hears, IsQuiet, Quietly, acts, comes, delivery_hears, hears, injects, keys, late, loses, nothing, one_comes, quiet_none, resets, sights, ticks, unheard}
 use Rattle.sbp_world.proofs.Lists.Turned.{IsOne}
-use Rattle.sbp_world.proofs.Lists.WasReads.{each_at}
 use Rattle.sbp_world.proofs.Common.{said_split}
+use Rattle.sbp_world.proofs.Lists.StatusLogins.{each_there as each_at}
 
 -- ---- a turn, by its first moments
 pub data Course (before now : List Moment) : Type 0 where

@@ -15,7 +15,7 @@ use Rattle.command_agent.specs.declared.phase.Phase.TheVariants as phases
 use Rattle.command_agent.specs.declared.step.AgentStep.{AgentStep}
 use Rattle.command_agent.specs.declared.step.Which.{Which}
 use Rattle.command_agent.specs.declared.step.Which.TheVariants.{Main, Ahead}
-use Rattle.command_agent.specs.Machine.{Machine, is_sent}
+use Rattle.command_agent.specs.Machine.{Machine}
 use Rattle.command_agent.specs.Steps.{answer_chunk, lost_step, reply_step}
 use Rattle.agent_laws.specs.Along.Along.{Along, Progress}
 use Rattle.agent_laws.specs.Along.Requests.{ahead_beside, main_beside}
@@ -156,11 +156,6 @@ heard_outcome Main m answer p = main_outcome m.phase m answer p
 heard_outcome Ahead m answer p = refl
 
 -- ---- an agent that waits for something has a list open
-pub sent_has : (phase : Phase) → is_sent phase ≡ true → has_list phase ≡ true
-sent_has phases.Reset e = absurd (no e)
-sent_has phases.Dead e = absurd (no e)
-sent_has phases.Suspended e = absurd (no e)
-sent_has _ e = refl
 
 -- the lists that are open were so from a write of ORB_POINTER on
 abbrev pub AllHad : (ℕ → Bool) → List Moment → WorldState → Type 0

@@ -1,6 +1,6 @@
 -- A statement that each turn of a run keeps holds at every place of the run between two turns, where lists were open as they should be before this place. A turn
 -- is a line that delivers one packet at most, the beginning of one that delivers more, a delivery of it, and the end of one that settles.
-use Rattle.sbp_world.proofs.Agents.Management.Runs.{are_told, no_repeats, not_reset}
+use Rattle.sbp_world.proofs.Agents.Management.Runs.{no_repeats, not_reset}
 use Rattle.sbp_world.proofs.Agents.Holders.{seats_after}
 use Rattle.sbp_world.proofs.Agents.Management.Lines.{opens}
 use Rattle.sbp_world.proofs.Agents.Seats.{Seats}
@@ -26,7 +26,7 @@ use Rattle.sbp_world.specs.Agents.Management.Terms.{DeliversMore}
 use Rattle.sbp_world.proofs.Agents.Management.Holding.{Holding}
 use Rattle.sbp_world.proofs.Agents.Management.Still.{hist}
 use Rattle.sbp_world.specs.Hosts.Runs.{IsRun, more_deliveries}
-use Rattle.sbp_world.proofs.Hosts.Runs.{count_after, count_between}
+use Rattle.sbp_world.proofs.Hosts.Runs.{count_after, count_between, are_told}
 use Rattle.sbp_world.specs.Lists.Closes.{Always, Under}
 use Rattle.sbp_world.specs.Lists.Needs.{IsCalm, OpenAfter, OpenBefore, OpenBehind, OpenBetween, OpenIn, OpenLists, OpenWhile, machine_at}
 use Rattle.sbp_world.proofs.Lists.Courses.{EveryPlace}
@@ -35,11 +35,12 @@ use Rattle.sbp_world.proofs.Lists.Kept.{Kept}
 use Rattle.sbp_world.proofs.Lists.Passes.{ready}
 use Rattle.sbp_world.specs.Lists.Opens.{OpensLaw}
 use Rattle.sbp_world.proofs.Lists.OpenProved.{opens_law}
-use Rattle.sbp_world.proofs.Lists.Runs.{EarlyAfter, KeptAfter, as_front, at_told, calm_at, calm_back, early_after, facts, facts_at, history_is, holds_at, is_run, kept_told, lists_at, lists_here, moments_same, next_holds, next_is, next_kept, site, site_at}
+use Rattle.sbp_world.proofs.Lists.Runs.{EarlyAfter, KeptAfter, as_front, at_told, calm_at, calm_back, early_after, facts, facts_at, history_is, holds_at, is_run, kept_told, lists_at, lists_here, next_holds, next_is, next_kept, site, site_at}
 use Rattle.sbp_world.proofs.Lists.RunSites.{more_by}
 use Rattle.sbp_world.proofs.Lists.Sites.{Site}
 use Rattle.sbp_world.proofs.Lists.Turned.{IsOne}
 use Rattle.sbp_world.proofs.Lists.Turns.{Ready}
+use Rattle.sbp_world.proofs.Lists.JoinLaws.{moments_same}
 
 -- ---- the turns of a run
 -- from a scene with a history behind which its line began, to the next one

@@ -33,6 +33,7 @@ use Rattle.sbp_world.proofs.Lists.Calm.{injects_before}
 use Rattle.sbp_world.proofs.Lists.Slots.{orb_slot}
 use Rattle.sbp_world.proofs.Lists.ManageTerms.{same_some, untrue}
 use Rattle.sbp_world.proofs.Lists.BufferGets.{fair_back}
+use Rattle.sbp_world.proofs.Lists.StatusLogins.{each_there}
 
 -- ---- a packet that was got was got
 got_on : (note : Note) (past : List Moment) (r : ℕ) → was_got past r ≡ true → was_got (said note ∷ past) r ≡ true
@@ -43,7 +44,7 @@ got_on (notes.Got other) past r e = by (other == r)
     by false = e
 got_on note past r e = e
 
-got_later : (later past : List Moment) (r : ℕ) → was_got past r ≡ true → was_got (later ++ past) r ≡ true
+pub got_later : (later past : List Moment) (r : ℕ) → was_got past r ≡ true → was_got (later ++ past) r ≡ true
 got_later [] past r e = e
 got_later (asked line event ∷ later) past r e = got_later later past r e
 got_later (said note ∷ later) past r e = got_on note (later ++ past) r (got_later later past r e)
@@ -85,10 +86,6 @@ sender_sent (Some packet) node e = (packet, refl)
 pub record SpellsOrb (start : List Disk) (past : List Moment) (i n k : ℕ) (orb : CommandOrb) : Type 0 where
   pub read : WasRead start past i n k
   pub spells : orb_read past read.response ≡ orb
-
-pub each_at : (P : Moment → List Moment → Type 0) (later : List Moment) (m : Moment) (earlier : List Moment) → EachMoment P (later ++ m ∷ earlier) → P m earlier
-each_at P [] m earlier e = e.0
-each_at P (x ∷ later) m earlier e = each_at P later m earlier e.1
 
 module _ (start : List Disk) (past : List Moment) (place address : ℕ) (orb : CommandOrb) (b : IsBrought start past place address orb) (counts : SerialsCount past) where
   abbrev then : List Moment
@@ -141,13 +138,13 @@ module _ (start : List Disk) (past : List Moment) (place address : ℕ) (orb : C
     it_answers answers fair =
         let from : read.0.from ≡ 0 = same_some read.0.from 0 (sym (ap sender_in read.1) ∙ b.asked.from) in
         let to : read.0.to ≡ suc i = same_some read.0.to (suc i) (sym (ap receiver_in read.1) ∙ to_initiator) in
-        each_at AnswersAt b.later (said (notes.Got b.response)) b.earlier (subst (EachMoment AnswersAt) (sym b.is) answers) b.request b.closed read.0 read.1
+        each_there AnswersAt b.later (said (notes.Got b.response)) b.earlier (subst (EachMoment AnswersAt) (sym b.is) answers) b.request b.closed read.0 read.1
         (ap (terms b.earlier).injects from ∙ injects_then 0 fair) (ap (terms b.earlier).injects to ∙ injects_then (suc i) calm)
 
     -- and the read was sent when the ORB that the slot had then had been appended
     pub was_appended : EachMoment (SentAsGot start) past → place < 8 → (slot n k : ℕ) → slot < 32 → address ≡ start_of (windows.Orb slot) → prepared_in b.earlier i slot ≡ Some (named_orb n k) → k < appends (before_sent b.earlier b.request) i n
     was_appended sent small slot n k inside stands there =
-        let a : AreSentBehind start b.earlier = each_at (SentAsGot start) b.later (said (notes.Got b.response)) b.earlier (subst (EachMoment (SentAsGot start)) (sym b.is) sent) in
+        let a : AreSentBehind start b.earlier = each_there (SentAsGot start) b.later (said (notes.Got b.response)) b.earlier (subst (EachMoment (SentAsGot start)) (sym b.is) sent) in
         a place small b.which b.request i slot n k (record {
           waits = b.waited;
           to = to_initiator;

@@ -8,7 +8,7 @@ use Rattle.bus_transactions.proofs.Reaches.{goes_on}
 use Rattle.orb_layout.specs.Replies.{Done, Refused}
 use Rattle.sbp_journal.specs.Addresses.{Access}
 use Rattle.sbp_journal.specs.Run.{Moment}
-use Rattle.sbp_journal.specs.Transactions.{Kind, Sending, Transaction, between, is_same_kind, locking, part_by, part_in, part_of, reading_block, reading_quadlet, request, response, writing}
+use Rattle.sbp_journal.specs.Transactions.{Kind, Sending, Transaction, between, is_same_kind, part_by, part_in, part_of, reading_block, reading_quadlet, request, response, writing}
 use Rattle.sbp_journal.specs.Wire.{Held, Terms, terms, waits}
 use Rattle.sbp_laws.specs.CarriedBytes.{bytes_in, payload_at}
 use Rattle.sbp_laws.specs.Packets.{access_at, access_in, answer_in, answer_of, answered_at, closed_by, packet_in, spelled_by}
@@ -19,7 +19,8 @@ use Rattle.sbp_world.proofs.Agents.Management.Still.{hist}
 use Rattle.sbp_world.proofs.Lists.BegunBy.{IsHeld, held_by}
 use Rattle.sbp_world.proofs.Lists.FedOnce.{IsReply, reply_by}
 use Rattle.sbp_world.proofs.Lists.ManageGot.{IsWriting, writing_in}
-use Rattle.sbp_world.proofs.Lists.ManageTerms.{none_is, untrue}
+use Rattle.sbp_world.proofs.Lists.ManageTerms.{none_is}
+use Rattle.sbp_world.proofs.Wire.OnceHere.{same_writing}
 
 abbrev none : List ℕ
 none = []
@@ -49,14 +50,6 @@ unfolding part_of
 empty_bytes bytes label e = empty_by (reading bytes) label e
 
 -- ---- kinds
-same_writing : (kind other : Kind) → kind ≡ writing → is_same_kind kind other ≡ true → other ≡ writing
-same_writing writing writing e s = refl
-same_writing writing reading_quadlet e s = untrue s
-same_writing writing reading_block e s = untrue s
-same_writing writing locking e s = untrue s
-same_writing reading_quadlet other e s = absurd (let no : reading_quadlet ≡ writing = e in cc)
-same_writing reading_block other e s = absurd (let no : reading_block ≡ writing = e in cc)
-same_writing locking other e s = absurd (let no : locking ≡ writing = e in cc)
 
 request_kind : (l m : ℕ) (kind other : Kind) → request l kind ≡ request m other → kind ≡ other
 request_kind l m kind other e = cc

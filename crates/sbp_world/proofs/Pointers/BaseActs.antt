@@ -60,7 +60,7 @@ use Rattle.sbp_world.specs.Pointers.Pointers.{list_if, pointed_list}
 use Rattle.sbp_world.proofs.Pointers.ActShows.{act_showing}
 use Rattle.sbp_world.proofs.Pointers.Ages.{untrue}
 use Rattle.sbp_world.proofs.Pointers.Asks.{act_allowed, act_bytes, asks_for, live_session, ring_list, ring_wanted, ringing}
-use Rattle.sbp_world.proofs.Pointers.BaseSeats.{live_carried, live_seated, seated_carried, seated_live}
+use Rattle.sbp_world.proofs.Pointers.BaseSeats.{live_seated, seated_live}
 use Rattle.sbp_world.proofs.Pointers.BaseSteps.{act_carried, is_behind}
 use Rattle.sbp_world.proofs.Pointers.BaseTold.{pointed_told, unrefused_told, if_so}
 use Rattle.sbp_world.proofs.Pointers.Basing.{AtAgent, Based, PointsAt, Requested, others_based, requested_on}
@@ -75,6 +75,8 @@ use Rattle.sbp_world.proofs.Common.{itself, cond_off, cond_on}
 use Rattle.sbp_world.proofs.Pointers.Naming.{none_some}
 use Rattle.sbp_world.proofs.Pointers.Writing.{absurd_below}
 use Rattle.sbp_world.proofs.Hosts.PointActs.{has_list}
+use Rattle.sbp_world.proofs.Lists.Bases.{seated as seated_carried}
+use Rattle.sbp_world.proofs.Sessions.PlaceNotes.{live_carried}
 
 -- ---- sessions
 

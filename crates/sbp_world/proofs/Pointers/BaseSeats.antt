@@ -1,6 +1,6 @@
 -- What moves a session that has a list: the moves that end no operation by a status leave it so, and the response that it carries; and so does the end of an
 -- operation, but for a logout.
-use Rattle.std.proofs.Common.{◌≡◌, refl, sym, ◌∙◌, is_some, Bool, true, false, cond, Some}
+use Rattle.std.proofs.Common.{◌≡◌, refl, sym, ◌∙◌, Bool, true, false, cond, Some}
 use Rattle.sbp_journal.specs.declared.event.Action.{Action}
 use Rattle.sbp_journal.specs.declared.event.Action.TheVariants as actions
 use Rattle.sbp_journal.specs.declared.operation.Operation.{Operation}
@@ -11,7 +11,6 @@ use Rattle.sbp_initiator.specs.States.{session_of}
 use Rattle.sbp_session.proofs.Rows.{response_by_moves}
 use Rattle.sbp_session.specs.Laws.{carried, carried_on}
 use Rattle.sbp_session.specs.Moves.{Event, bad, conflict, entered, failed, goes, good, pointed, pointing, reset, sent}
-use Rattle.sbp_session.specs.Seats.{response_in}
 use Rattle.sbp_session.specs.declared.seat.Origin.{Origin}
 use Rattle.sbp_session.specs.declared.seat.Origin.TheVariants as origins
 use Rattle.sbp_session.specs.declared.seat.Seat.{Seat}
@@ -21,6 +20,7 @@ use Rattle.sbp_world.proofs.Hosts.Knowing.{Sits}
 use Rattle.sbp_world.specs.Pointers.Bases.{is_seated}
 use Rattle.sbp_world.proofs.Pointers.Ages.{untrue}
 use Rattle.sbp_world.proofs.Pointers.Walks.{is_kept}
+use Rattle.sbp_world.proofs.Lists.Bases.{seated}
 
 -- ---- the response stays
 
@@ -193,30 +193,3 @@ live_seated (seats.Held response) e = untrue e
 live_seated (seats.Returning response) e = untrue e
 live_seated (seats.Leaving response) e = untrue e
 live_seated (seats.Stuck origin) e = untrue e
-
--- and carries its response
-pub live_carried : (seat : Seat) → is_in_live (session_of seat) ≡ true → carried seat ≡ Some (response_in seat)
-live_carried (seats.Live x) e = refl
-live_carried (seats.Out out) e = untrue e
-live_carried (seats.Entering entering) e = untrue e
-live_carried (seats.Held response) e = untrue e
-live_carried (seats.Returning response) e = untrue e
-live_carried (seats.Leaving response) e = untrue e
-live_carried (seats.Stuck origin) e = untrue e
-
-pub seated_carried : (seat : Seat) → is_seated seat ≡ true → is_some (carried seat) ≡ true
-seated_carried (seats.Live x) e = refl
-seated_carried (seats.Leaving response) e = refl
-seated_carried (seats.Stuck origin) e = stuck_carried origin e
-  where
-    stuck_carried : (origin : Origin) → is_seated (seats.Stuck origin) ≡ true → is_some (carried (seats.Stuck origin)) ≡ true
-    stuck_carried (origins.Live x) e = refl
-    stuck_carried (origins.Leaving response) e = refl
-    stuck_carried (origins.Out out) e = untrue e
-    stuck_carried (origins.Entering entering) e = untrue e
-    stuck_carried (origins.Held response) e = untrue e
-    stuck_carried (origins.Returning response) e = untrue e
-seated_carried (seats.Out out) e = untrue e
-seated_carried (seats.Entering entering) e = untrue e
-seated_carried (seats.Held response) e = untrue e
-seated_carried (seats.Returning response) e = untrue e

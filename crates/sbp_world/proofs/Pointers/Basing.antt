@@ -40,7 +40,6 @@ use Rattle.sbp_world.specs.Pointers.Pointers.{pointed_list}
 use Rattle.sbp_world.proofs.Pointers.Ages.{untrue}
 use Rattle.sbp_world.proofs.Pointers.BaseTold.{apart_pointed, closes_of, judged_pointed, judged_unrefused, pointed_told, refuses_of, sent_pointed, sent_state, unclosed_told, unrefused_told, so_none}
 use Rattle.sbp_world.proofs.Pointers.BaseWalks.{Keeps, expire_sits, expire_steady, receive_sits, receive_steady}
-use Rattle.sbp_world.proofs.Pointers.GuardHears.{flag_is}
 use Rattle.sbp_world.proofs.Pointers.Guarded.{Guarded}
 use Rattle.sbp_world.proofs.Pointers.Guarding.{guarded_carried}
 use Rattle.sbp_world.proofs.Pointers.Passing.{judged_goes, timed_goes}
@@ -50,6 +49,7 @@ use Rattle.sbp_world.proofs.Pointers.WaitActs.{see_old}
 use Rattle.sbp_world.proofs.Pointers.Waits.{judged_count, judged_state, state_apart, state_told, timed_count}
 use Rattle.sbp_world.proofs.Pointers.Sending.{not_new}
 use Rattle.sbp_world.proofs.Hosts.Pointed.{judged_fit}
+use Rattle.sbp_world.proofs.Hosts.Knows.{seen_flag as flag_is}
 
 -- ---- what is carried on
 

@@ -51,8 +51,7 @@ use Rattle.sbp_world.specs.Hosts.Calls.{behind}
 use Rattle.sbp_world.specs.Hosts.Handing.{AreNotes, AreOthers, IsOther, history}
 use Rattle.sbp_world.proofs.Hosts.ActLeft.{act_left}
 use Rattle.sbp_world.proofs.Hosts.Carries.{IsNoAct}
-use Rattle.sbp_world.proofs.Hosts.Hands.{all_own, second_tells, sight_tells, target_tells}
-use Rattle.sbp_world.proofs.Hosts.Hosting.{line_same}
+use Rattle.sbp_world.proofs.Hosts.Hands.{all_own, second_tells, sight_tells, target_tells, line_stays as line_same}
 use Rattle.sbp_world.proofs.Hosts.Layered.{AreTame, expire_left, is_tame, receive_left}
 use Rattle.sbp_world.proofs.Hosts.Liners.{own_notes}
 use Rattle.sbp_world.proofs.Hosts.PointSees.{see_left}

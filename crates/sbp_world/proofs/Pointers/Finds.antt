@@ -61,7 +61,7 @@ closes_at layer generation bytes p label purpose c f =
     subst (λ (l : Layer Purpose). At l (header_in p).source label.number purpose) c.is
     (at_layer c.node c.calls (header_in p).source label purpose (told_kind (reply_kind p) p label purpose (wire.history c.node c.calls) (kind_in old generation bytes p label purpose g) u))
 
-none_ended : (x : Life Purpose) (kind : ReplyKind) (purpose : Option Purpose) → ended x ≡ under_way kind purpose → ⊥
+pub none_ended : (x : Life Purpose) (kind : ReplyKind) (purpose : Option Purpose) → ended x ≡ under_way kind purpose → ⊥
 none_ended not_begun kind purpose e = cc
 none_ended (under_way that q) kind purpose e = cc
 none_ended over kind purpose e = cc

@@ -76,7 +76,7 @@ pub some_of : (present : Option PresentList) → is_some present ≡ true → (l
 some_of None e = untrue e
 some_of (Some list) e = (list, refl)
 
-ok_of : (r : Result ℕ ListFault) → is_ok r ≡ true → (slot : ℕ) × (r ≡ Ok slot)
+pub ok_of : (r : Result ℕ ListFault) → is_ok r ≡ true → (slot : ℕ) × (r ≡ Ok slot)
 ok_of (Ok slot) e = (slot, refl)
 ok_of (Err fault) e = untrue e
 

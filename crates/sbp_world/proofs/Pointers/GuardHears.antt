@@ -44,6 +44,7 @@ use Rattle.sbp_world.proofs.Pointers.Waits.{Asks, ended_asks, ended_held, judged
 use Rattle.sbp_world.proofs.Pointers.PendHears.{expire_pends, receive_pends}
 use Rattle.sbp_world.proofs.Pointers.Resetting.{ended_resets, judged_fades, note_fades, told_fades}
 use Rattle.sbp_world.proofs.Pointers.Showing.{expire_lasts, judged_present, lasts_showing, receive_lasts}
+use Rattle.sbp_world.proofs.Hosts.Knows.{seen_flag}
 
 -- ---- what counts as answered behind a call
 
@@ -197,11 +198,3 @@ saw_by false generation id target s e = as_before e refl refl refl
 pub saw : (generation id target : ℕ) (s : InitiatorState) → SawAs s generation (see_step generation id target empty_outbox s)
 unfolding see_step seeing_step
 saw generation id target s = saw_by (nat_lt s.layer.generation generation) generation id target s refl
-
-pub flag_is : (layer : Layer Purpose) (generation id : ℕ) → (seeing_step layer generation id).0 ≡ nat_lt layer.generation generation
-unfolding seeing_step
-flag_is layer generation id = by (nat_lt layer.generation generation) refl
-  where
-    by : (c : Bool) → nat_lt layer.generation generation ≡ c → (cond {A = Bool × Layer Purpose} c (true, seen_in_generation layer generation id) (false, layer)).0 ≡ c
-    by true e = refl
-    by false e = refl

@@ -73,10 +73,10 @@ not_closed (Some rcode) new f e = untrue (sym (ap is_some e) ∙ f refl)
 between : (packet old new : ℕ) → packet ≡ new → packet ≤ old → old ≤ new → packet ≡ old
 between packet old new e l h = omega arith
 
-at_most : (a b c : ℕ) → a ≤ b → b ≤ c → a ≤ c
+pub at_most : (a b c : ℕ) → a ≤ b → b ≤ c → a ≤ c
 at_most a b c h g = omega arith
 
-still_below : (k a b : ℕ) → k < a → a ≤ b → k < b
+pub still_below : (k a b : ℕ) → k < a → a ≤ b → k < b
 still_below k a b h g = omega arith
 
 not_less : (a b : ℕ) → nat_lt a b ≡ false → a ≤ b → a ≡ b

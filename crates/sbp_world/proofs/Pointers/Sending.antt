@@ -17,13 +17,13 @@ use Rattle.sbp_laws.specs.Turns.{EachMoment, event_of}
 use Rattle.sbp_world.proofs.Hosts.Cores.{wire_is}
 use Rattle.sbp_world.proofs.Hosts.Held.{sent_count, sent_new}
 use Rattle.sbp_world.proofs.Hosts.PointerNotes.{pointer}
-use Rattle.sbp_world.proofs.Hosts.Remaining.{serials_behind}
+use Rattle.sbp_world.proofs.Hosts.Remaining.{serials_behind, step as one_later}
 use Rattle.sbp_world.specs.Pointers.Moments.{MayPoint, MayStand, pointer_write}
 use Rattle.sbp_world.specs.Pointers.Pointers.{IsNamed, list_if, pointed_list}
 use Rattle.sbp_world.proofs.Pointers.Ages.{moment_closes, untrue}
 use Rattle.sbp_world.proofs.Pointers.Names.{pointer_same}
 use Rattle.sbp_world.proofs.Pointers.Naming.{Follows, Naming, Plain, Points, asked_plain, link_plain, none_some, not_anew, other_append, other_drop, plain, points_on}
-use Rattle.sbp_world.proofs.Pointers.Writing.{append_here, apart, ends, itself, one_later, plain_step, rises_by, same_or_less, some_is, stays_in}
+use Rattle.sbp_world.proofs.Pointers.Writing.{append_here, apart, ends, itself, plain_step, rises_by, same_or_less, some_is, stays_in}
 
 -- ---- what a packet leaves of the name
 

@@ -29,7 +29,7 @@ same_access node peer n (quadlet_read offset) = refl
 same_access node peer n (block_read offset asked) = refl
 
 -- a label that serves is one of the table
-below_by : (b : Bool) (number count n : ℕ) (rest : Option ℕ) → cond b (Some number) rest ≡ Some n → (rest ≡ Some n → n < number + 1 + count) → n < number + suc count
+pub below_by : (b : Bool) (number count n : ℕ) (rest : Option ℕ) → cond b (Some number) rest ≡ Some n → (rest ≡ Some n → n < number + 1 + count) → n < number + suc count
 below_by true number count n rest e h = let f : number ≡ n = cc in omega arith
 below_by false number count n rest e h = let f = h e in omega arith
 

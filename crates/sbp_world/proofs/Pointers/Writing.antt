@@ -1,5 +1,5 @@
 -- For which list each ORB_POINTER was written, moment by moment.
-use Rattle.std.proofs.Common.{arith, ◌≡◌, refl, sym, ◌∙◌, ap, subst, ℕ, zero, suc, ◌<◌, ◌≤◌, ◌==◌, nat_eq, is_some, Bool, true, false, cond, List, [], ◌∷◌, Some, None}
+use Rattle.std.proofs.Common.{arith, ◌≡◌, refl, sym, ◌∙◌, ap, subst, ℕ, zero, suc, ◌<◌, ◌≤◌, ◌==◌, nat_eq, is_some, Bool, true, false, cond, List, ◌∷◌, Some, None}
 use Rattle.std.proofs.lemmas.Bool.Decides.{nat_tests}
 use Rattle.bus_transactions.specs.Packets.{SerialsCount}
 use Rattle.sbp_journal.specs.Run.{Moment, said}
@@ -9,9 +9,8 @@ use Rattle.sbp_journal.specs.declared.note.NoteBuffer.{NoteBuffer}
 use Rattle.sbp_laws.specs.Hosts.{Host, host_at, list_begins}
 use Rattle.sbp_laws.specs.Lists.{linked, lowest_vacant, present_list, slot_at, slots}
 use Rattle.sbp_laws.specs.Terms.{lists}
-use Rattle.sbp_world.specs.Hosts.Remaining.{Remains}
 use Rattle.sbp_world.proofs.Hosts.PointerNotes.{pointer}
-use Rattle.sbp_world.proofs.Hosts.Remaining.{remains}
+use Rattle.sbp_world.proofs.Hosts.Remaining.{remains, step}
 use Rattle.sbp_world.specs.Pointers.Moments.{MayAppend, MayDrop, MayStand}
 use Rattle.sbp_world.proofs.Pointers.Ages.{is_sight, moment_closes, moment_generation, seen_now, untrue}
 use Rattle.sbp_world.proofs.Pointers.Names.{append_none, drop_none}
@@ -21,14 +20,11 @@ use Rattle.sbp_world.proofs.Common.{cond_on}
 
 -- ---- a moment that leaves lists and writes
 
-pub one_later : (m : Moment) (past : List Moment) → SerialsCount (m ∷ past) → Remains past (m ∷ past)
-one_later m past c = remains (m ∷ []) past c
-
 pub same_or_less : (a b : ℕ) → b ≡ a → a ≤ b
 same_or_less a b e = omega arith
 
 pub plain_step : (m : Moment) (past : List Moment) (i : ℕ) → SerialsCount (m ∷ past) → Plain past (m ∷ past) i → pointer (m ∷ past) i ≡ pointer past i → (terms past).generation (suc i) ≤ (terms (m ∷ past)).generation (suc i) → Naming past i → Naming (m ∷ past) i
-plain_step m past i c p e g k = plain_names p e (plain_follows p e (one_later m past c) g (moment_closes m past)) k
+plain_step m past i c p e g k = plain_names p e (plain_follows p e (step m past c) g (moment_closes m past)) k
 
 pub stays_in : (m : Moment) (past : List Moment) (i : ℕ) → is_sight (suc i) m ≡ false → (terms past).generation (suc i) ≤ (terms (m ∷ past)).generation (suc i)
 stays_in m past i e = same_or_less _ _ (moment_generation (suc i) m past e)
@@ -97,7 +93,7 @@ module _ (i n : ℕ) (cdb : List ℕ) (buffer : NoteBuffer) (past : List Moment)
 
   first_follows : Follows past first i
   first_follows = record {
-    remains = one_later (said (notes.Append i n zero cdb buffer)) past c;
+    remains = step (said (notes.Append i n zero cdb buffer)) past c;
     rises = same_or_less _ _ refl;
     closed = λ m e. e;
     more = (let e = first_lists in omega arith);
@@ -177,7 +173,7 @@ module _ (i n : ℕ) (past : List Moment) (c : SerialsCount past) (d : MayDrop p
 
   drop_follows : Follows past dropped i
   drop_follows = record {
-    remains = one_later (said (notes.Drop i n)) past c;
+    remains = step (said (notes.Drop i n)) past c;
     rises = same_or_less _ _ refl;
     closed = λ m e. e;
     more = same_or_less _ _ refl;

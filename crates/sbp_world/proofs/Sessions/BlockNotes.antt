@@ -39,7 +39,7 @@ part_sent (request label kind) s packet t = judges_sent _ None s packet t
 part_sent (response label kind) s packet t = closes_sent _ _ kind _ t
 part_sent no_packet s packet t = refl
 
-gets_sent : (found : Option Sending) (s : ℕ) (t : Terms) → (gets found s t).sent ≡ t.sent
+pub gets_sent : (found : Option Sending) (s : ℕ) (t : Terms) → (gets found s t).sent ≡ t.sent
 gets_sent None s t = refl
 gets_sent (Some packet) s t = part_sent (part_of packet.bytes) s packet (is_served s (is_news s (arrives s t)))
 

@@ -1,6 +1,6 @@
 -- A target begins no packet with a tcode of 0 (IEEE 1394-1995, transaction codes): no request of it writes a quadlet, and a response has a tcode of its own. Where
 -- the tcode is another, what the packet writes is a block.
-use Rattle.std.proofs.Common.{arith, ◌≡◌, ◌∙◌, refl, ap, ℕ, ◌+◌, ◌*◌, ◌/◌, ◌%◌, ◌^◌, ◌<◌, nat_eq, Bool, true, false, cond, List, ◌++◌, Option, Some, None}
+use Rattle.std.proofs.Common.{arith, ◌≡◌, ◌∙◌, refl, ap, ℕ, ◌+◌, ◌*◌, ◌^◌, ◌<◌, nat_eq, Bool, true, false, cond, List, ◌++◌, Option, Some, None}
 use Rattle.async_packet.specs.declared.fault.PacketFault.{PacketFault}
 use Rattle.async_packet.specs.Canon.{canon, four, three}
 use Rattle.async_packet.specs.Fields.{tcode_of}
@@ -21,15 +21,12 @@ use Rattle.sbp_target.specs.declared.purpose.Purpose.{Purpose}
 use Rattle.sbp_target.specs.Agents.{agent_body}
 use Rattle.sbp_target.specs.Management.{manager_body}
 use Rattle.sbp_world.specs.Sessions.Blocks.{IsBlockWrite}
-use Rattle.sbp_world.proofs.Hosts.Mild.{quad_tcode, tcode_same}
+use Rattle.sbp_world.proofs.Hosts.Mild.{quad_tcode, tcode_same, first_tcode}
 
 abbrev pub HasCode : List ℕ → Type 0
 HasCode bytes = nat_eq (tcode_of bytes) 0 ≡ false
 
 -- ---- the tcode stands in the first quadlet
-
-pub first_code : (peer label tcode : ℕ) → tcode < 16 → (peer * 2 ^ 16 + label * 2 ^ 10 + 1 * 2 ^ 8 + tcode * 2 ^ 4 + 0) % 256 ^ 4 / 2 ^ 4 % 2 ^ 4 ≡ tcode
-first_code peer label tcode small = omega arith
 
 coded : (peer label tcode : ℕ) (bytes rest : List ℕ) → tcode < 16 → nat_eq tcode 0 ≡ false → bytes ≡ big_bytes 4 (peer * 2 ^ 16 + label * 2 ^ 10 + 1 * 2 ^ 8 + tcode * 2 ^ 4 + 0) ++ rest → HasCode bytes
 coded peer label tcode bytes rest small apart e = ap (λ n. nat_eq n 0) (quad_tcode peer label tcode bytes rest small e) ∙ apart

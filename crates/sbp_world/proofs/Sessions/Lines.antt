@@ -49,13 +49,10 @@ use Rattle.sbp_world.proofs.Sessions.Sessions.{acts as session_acts, expires as 
 use Rattle.sbp_world.proofs.Sessions.Turns.{delivery_met, key_met, lapse_met, own_delivery_met, own_sight_met, sight_met, tick_met}
 use Rattle.sbp_world.proofs.Common.{untrue}
 use Rattle.sbp_world.proofs.Lists.Joins.{prepared}
+use Rattle.sbp_world.proofs.Wire.Sound.{first_fits}
 
 copied : (w : WorldState) (line number : ℕ) → Met w → Met (refused line number w)
 copied w line number m = record { up = m.up; sits = m.sits }
-
-first_bytes : (told : List (Option Told)) → AreTold told → BytesTold (first_told told)
-first_bytes [] t = tt
-first_bytes (told ∷ before) t = t.0
 
 -- an ORB is prepared in a live session alone
 in_by : (seat : Seat) → is_in_live (session_of seat) ≡ true → is_in seat ≡ true
@@ -179,7 +176,7 @@ module _ (units ready : ℕ) (has : 0 < units) (start : List Disk) where
     heard = heard_by (found_sent serial s.world.store.kept) refl
 
   delivers_if : {past : List Moment} {lines : ℕ} (b : Bool) (line serial : ℕ) (again : Bool) (told : List (Option Told)) (s : Scene) → AreTold told → Holding units ready start past lines s.world → Met s.world → Met (delivered_if b line serial again told s).world
-  delivers_if true line serial again told s t h m = heard s h m serial again (first_told told) (first_bytes told t)
+  delivers_if true line serial again told s t h m = heard s h m serial again (first_told told) (first_fits told t)
   delivers_if false line serial again told s t h m = copied s.world line no_packet m
 
   next_heard : {past : List Moment} {lines : ℕ} (told : Option Told) → BytesTold told → (s : Scene) → Holding units ready start past lines s.world → Met s.world → (o : Option ℕ) → Met (delivered_at o told s).world

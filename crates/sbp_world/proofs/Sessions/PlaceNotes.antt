@@ -125,7 +125,7 @@ pub record Hosted (past : List Moment) (i : ℕ) (s : InitiatorState) : Type 0 w
   pub login : (response : LoginResponse) → carried s.seat ≡ Some response → (host_at past i).login ≡ response
   pub rows : AreRows past i s.lists.slots
 
-live_carried : (seat : Seat) → is_in_live (session_of seat) ≡ true → carried seat ≡ Some (response_in seat)
+pub live_carried : (seat : Seat) → is_in_live (session_of seat) ≡ true → carried seat ≡ Some (response_in seat)
 live_carried (seats.Live live) e = refl
 live_carried (seats.Out out) e = untrue e
 live_carried (seats.Entering entering) e = untrue e

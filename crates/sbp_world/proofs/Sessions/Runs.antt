@@ -16,7 +16,7 @@ use Rattle.sbp_world.specs.Hosts.Core.{Core, session_in}
 use Rattle.sbp_world.specs.Hosts.Runs.{IsRun}
 use Rattle.sbp_world.proofs.Hosts.Hosted.{host_law}
 use Rattle.sbp_world.proofs.Hosts.Readings.{read_law}
-use Rattle.sbp_world.proofs.Hosts.Runs.{count_after, count_between, run_law}
+use Rattle.sbp_world.proofs.Hosts.Runs.{count_after, count_between, run_law, are_told}
 use Rattle.sbp_world.specs.Hosts.Reading.{ReadAs}
 use Rattle.sbp_world.specs.Hosts.Worlds.{IsHost}
 use Rattle.login_table.specs.declared.login.Login.{Login}
@@ -56,7 +56,7 @@ use Rattle.sbp_world.specs.Agents.Management.Terms.{DeliversMore}
 use Rattle.sbp_world.proofs.Agents.Management.Begins.{first_holds}
 use Rattle.sbp_world.proofs.Agents.Management.Holding.{Holding, good_of, known_id}
 use Rattle.sbp_world.proofs.Agents.Management.Lines.{all_heard, opens}
-use Rattle.sbp_world.proofs.Agents.Management.Runs.{are_told, holds_after, no_repeats, not_reset}
+use Rattle.sbp_world.proofs.Agents.Management.Runs.{holds_after, no_repeats, not_reset}
 use Rattle.sbp_world.proofs.Agents.Management.Still.{hist}
 use Rattle.sbp_world.specs.Sessions.Caught.{CaughtBetweenLaw, CaughtLaw, HasCaught, HaveCaught}
 use Rattle.sbp_world.specs.Sessions.Joined.{IsJoined, JoinedBetweenLaw, JoinedLaw, is_joined}

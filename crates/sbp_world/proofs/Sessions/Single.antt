@@ -12,9 +12,10 @@ use Rattle.sbp_world.specs.Settling.{after_all}
 use Rattle.sbp_world.specs.Worlds.{WorldState, begun}
 use Rattle.sbp_world.proofs.Agents.Management.Holding.{Holding, good_of}
 use Rattle.sbp_world.proofs.Agents.Management.Lines.{all_heard, opens}
-use Rattle.sbp_world.proofs.Agents.Management.Runs.{are_told, holds_after, no_repeats, not_reset}
+use Rattle.sbp_world.proofs.Agents.Management.Runs.{holds_after, no_repeats, not_reset}
 use Rattle.sbp_world.proofs.Agents.Management.Still.{hist}
 use Rattle.sbp_world.specs.Sessions.Single.{AreSingle, AreSingleIn, SingleLaw}
+use Rattle.sbp_world.proofs.Hosts.Runs.{are_told}
 
 module _ (places : List (Option Login)) (sound : IsSound places) where
   same_place : (i j : ℕ) → ((i ≡ j → ⊥) → ⊥) → i ≡ j

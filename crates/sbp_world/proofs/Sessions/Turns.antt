@@ -1,6 +1,6 @@
 -- After each turn of a world the target knows caught up nodes alone, and live sessions are of generations that it has seen.
 use Rattle.std.proofs.Common.{arith, ◌≡◌, ◌∙◌, refl, sym, ap, subst, ℕ, suc, ◌-◌, ◌^◌, ◌<◌, ◌≤◌, nat_eq, nat_lt, Bool, true, false, cond, List, length, Option, Some, None, Result, Ok, Err}
-use Rattle.std.specs.Prelude.{position, slice_index_or, slice_set}
+use Rattle.std.specs.Prelude.{position, slice_set}
 use Rattle.std.proofs.lemmas.Bool.Decides.{nat_tests}
 use Rattle.std.proofs.lemmas.Grind.{get_or-set_at}
 use Rattle.std.proofs.lemmas.List.{get_or-set_other}
@@ -48,7 +48,7 @@ use Rattle.sbp_world.specs.Worlds.{Scene, WorldState, initiator_at, with_initiat
 use Rattle.sbp_world.specs.Wire.Wires.{Stands}
 use Rattle.sbp_world.proofs.FitTarget.Law.{fitting_law}
 use Rattle.sbp_world.proofs.Wire.Bus.{aged, holds}
-use Rattle.sbp_world.proofs.Wire.Found.{IsIdOf, has_id, has_known, known_has, node_found}
+use Rattle.sbp_world.proofs.Wire.Found.{IsIdOf, has_id, has_known, known_has, node_found, at_node, has_node, five}
 use Rattle.sbp_world.proofs.Wire.Holding.{known_small, latest_small, to_target}
 use Rattle.sbp_world.proofs.Wire.Nodes.{handed_alike, marked_alike}
 use Rattle.sbp_world.proofs.Agents.Management.Holding.{Holding, is_of, known_id, ours, past_terms, target_generation, was_sent}
@@ -70,18 +70,6 @@ node_found_in g id u = by (node_of g 0 id) refl
     by (Some node) e = record { node = node; there = e }
 
 -- ---- the first node that has an ID
-at_node : (topology : Topology) (id node : ℕ) → id_of topology node ≡ id → is_at id (slice_index_or topology.ids node 0) ≡ true
-at_node topology id node e = grind arith
-
-has_node : (topology : Topology) (id node : ℕ) → is_at id (slice_index_or topology.ids node 0) ≡ true → id_of topology node ≡ id
-has_node topology id node e = grind arith
-
-five : (node : ℕ) → node < 5 → one_of_five (Some node) ≡ Some node
-five node l = by_test (nat_lt node 5) refl
-  where
-    by_test : (b : Bool) → nat_lt node 5 ≡ b → cond b (Some node) None ≡ Some node
-    by_test true e = refl
-    by_test false e = let x : nat_lt node 5 ≡ true = grind arith in cc
 
 found_in : (topology : Topology) (nodes id : ℕ) → nodes ≤ 4 → length topology.ids ≡ suc nodes → ((i j : ℕ) → i ≤ nodes → j ≤ nodes → id_of topology i ≡ id_of topology j → i ≡ j) → (k : IsIdOf topology nodes id) → node_in topology id ≡ Some k.node
 found_in topology nodes id few size apart k = by (position (is_at id) topology.ids) refl

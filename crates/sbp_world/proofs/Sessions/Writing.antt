@@ -40,7 +40,7 @@ use Rattle.sbp_world.specs.Agents.Management.Offices.{Agrees, Office, by_note, b
 use Rattle.sbp_world.proofs.Agents.Management.Calls.{management_law}
 use Rattle.sbp_world.proofs.Agents.Management.Holding.{Holding}
 use Rattle.sbp_world.proofs.Agents.Management.Lines.{all_heard, opens}
-use Rattle.sbp_world.proofs.Agents.Management.Runs.{are_told, holds_after, no_repeats, not_reset}
+use Rattle.sbp_world.proofs.Agents.Management.Runs.{holds_after, no_repeats, not_reset}
 use Rattle.sbp_world.proofs.Agents.Management.Still.{hist}
 use Rattle.sbp_world.specs.Sessions.Standing.{AreSame, LoginsStand}
 use Rattle.sbp_world.specs.Sessions.Writing.{GoesOnIn, IsDecidedBy, IsDecidedIn, IsWritten, IsWrittenBy, OperationsWrite, Writes, WritesOn, WrittenBetweenLaw, WrittenLaw, WrittenRunLaw, WritingLaw, is_written}
@@ -50,6 +50,7 @@ use Rattle.sbp_world.proofs.Sessions.Standing.{stands}
 use Rattle.sbp_world.proofs.Sessions.Starting.{managing}
 use Rattle.sbp_world.proofs.Sessions.Tables.{delivery_tabled, lapse_tabled, lapsed_table, tabled}
 use Rattle.sbp_world.proofs.Common.{untrue, none_is}
+use Rattle.sbp_world.proofs.Hosts.Runs.{are_told}
 
 -- ---- what is told behind the first note leaves an operation that is under way still as it was
 abbrev Stays : Office → Office → Type 0

@@ -117,15 +117,15 @@ resets past w line physical ids h =
     })
 
 -- ---- bytes are injected
-gives_ids : (begun : Option Transaction) (rcode : ℕ) (t : Terms) → (gives begun rcode t).ids ≡ t.ids
+pub gives_ids : (begun : Option Transaction) (rcode : ℕ) (t : Terms) → (gives begun rcode t).ids ≡ t.ids
 gives_ids None rcode t = refl
 gives_ids (Some u) rcode t = refl
 
-pays_ids : (owed : Option Owed) (sent : ℕ → Option Sending) (s : ℕ) (q : Sending) (t : Terms) → (pays owed sent s q t).ids ≡ t.ids
+pub pays_ids : (owed : Option Owed) (sent : ℕ → Option Sending) (s : ℕ) (q : Sending) (t : Terms) → (pays owed sent s q t).ids ≡ t.ids
 pays_ids None sent s q t = refl
 pays_ids (Some owed) sent s q t = gives_ids (asked_in (sent owed.serial)) _ t
 
-begins_ids : (begun : Option Transaction) (s : ℕ) (q : Sending) (t : Terms) → (begins begun s q t).ids ≡ t.ids
+pub begins_ids : (begun : Option Transaction) (s : ℕ) (q : Sending) (t : Terms) → (begins begun s q t).ids ≡ t.ids
 begins_ids None s q t = refl
 begins_ids (Some u) s q t = refl
 

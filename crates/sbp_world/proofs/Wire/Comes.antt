@@ -19,7 +19,7 @@ received_is told serial s sent e = ap (λ o. received_by told o s) e
 pub to_zero : (n : ℕ) → n ≡ 0 → nat_eq n 0 ≡ true
 to_zero n e = grind arith
 
-to_suc : (n i : ℕ) → n ≡ suc i → nat_eq n 0 ≡ false
+pub to_suc : (n i : ℕ) → n ≡ suc i → nat_eq n 0 ≡ false
 to_suc n i e = grind arith
 
 is_outside : (m n : ℕ) → n ≤ m → nat_lt m n ≡ false

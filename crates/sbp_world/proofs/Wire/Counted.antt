@@ -25,6 +25,7 @@ use Rattle.sbp_world.proofs.Wire.Loaded.{capped_is, cut_none, cut_sum, load_sum,
 use Rattle.sbp_world.proofs.Wire.Paid.{IsNew, Paid, cut_paid, drops, same_paid, takes as takes_paid}
 use Rattle.sbp_world.proofs.Wire.Shares.{Share, appended, cuts, is_appended, is_of, is_one, kept, ledger_of, share, sums, takes, total, total_more, without}
 use Rattle.sbp_world.proofs.Common.{itself, equal_numbers, is_inside}
+use Rattle.sbp_world.proofs.Wire.Latest.{differ_by}
 
 -- ---- sums over a ledger
 abbrev pub AreWithin : ℕ → List Share → Type 0
@@ -71,9 +72,6 @@ sum_few i (one ∷ all) = by (sum_few i all) (nat_eq one.initiator i)
 abbrev pub row_at : List ListLoad → ℕ → ListLoad
 row_at loads i = slice_index_or loads i new_load
 
-differ : (m n : ℕ) → nat_eq m n ≡ false → m ≡ n → ⊥
-differ m n e f = let g : nat_eq m n ≡ true = grind (arith, nat_tests) in cc
-
 set_is : (i : ℕ) (step : ListLoad → ListLoad) (loads : List ListLoad) → i < length loads → of_initiator i step loads ≡ slice_set loads i (step (row_at loads i))
 set_is i step loads l = ap (λ b. cond b (slice_set loads i (step (row_at loads i))) loads) (is_inside i (length loads) l)
 
@@ -82,7 +80,7 @@ row_here i j step loads e l = ap (λ xs. row_at xs j) (set_is i step loads l) �
 
 row_there : (i j : ℕ) (step : ListLoad → ListLoad) (loads : List ListLoad) → nat_eq j i ≡ false → i < length loads → row_at (of_initiator i step loads) j ≡ row_at loads j
 row_there i j step loads e l =
-    ap (λ xs. row_at xs j) (set_is i step loads l) ∙ get_or-set_other loads i j (step (row_at loads i)) new_load (λ f. differ j i e f)
+    ap (λ xs. row_at xs j) (set_is i step loads l) ∙ get_or-set_other loads i j (step (row_at loads i)) new_load (λ f. differ_by j i e f)
 
 size_same : (i : ℕ) (step : ListLoad → ListLoad) (loads : List ListLoad) → i < length loads → length (of_initiator i step loads) ≡ length loads
 size_same i step loads l = ap length (set_is i step loads l) ∙ length-set loads i (step (row_at loads i))

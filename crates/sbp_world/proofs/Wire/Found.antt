@@ -22,10 +22,10 @@ pub record IsIdOf (topology : Topology) (nodes id : ℕ) : Type 0 where
 abbrev pub IsKnown : WorldState → (from id : ℕ) → Type 0
 IsKnown w from id = IsIdOf (topology_at w.generations from) (length w.initiators) id
 
-at_node : (topology : Topology) (id node : ℕ) → id_of topology node ≡ id → is_at id (slice_index_or topology.ids node 0) ≡ true
+pub at_node : (topology : Topology) (id node : ℕ) → id_of topology node ≡ id → is_at id (slice_index_or topology.ids node 0) ≡ true
 at_node topology id node e = grind arith
 
-has_node : (topology : Topology) (id node : ℕ) → is_at id (slice_index_or topology.ids node 0) ≡ true → id_of topology node ≡ id
+pub has_node : (topology : Topology) (id node : ℕ) → is_at id (slice_index_or topology.ids node 0) ≡ true → id_of topology node ≡ id
 has_node topology id node e = grind arith
 
 -- the same by a test
@@ -63,7 +63,7 @@ known_by topology nodes id (Some node) size k e = refl
 pub known_has : (topology : Topology) (nodes id : ℕ) → length topology.ids ≡ suc nodes → IsIdOf topology nodes id → has_id topology id ≡ true
 known_has topology nodes id size k = known_by topology nodes id (position (is_at id) topology.ids) size k refl
 
-five : (node : ℕ) → node < 5 → one_of_five (Some node) ≡ Some node
+pub five : (node : ℕ) → node < 5 → one_of_five (Some node) ≡ Some node
 five node l = by_test (nat_lt node 5) refl
   where
     by_test : (b : Bool) → nat_lt node 5 ≡ b → (if b then Some node else None) ≡ Some node

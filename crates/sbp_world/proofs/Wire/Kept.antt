@@ -98,11 +98,11 @@ shown_flies aged s lost None l = refl
 shown_flies aged s withdrawn (Some q) l = refl
 shown_flies aged s withdrawn None l = refl
 
-and_false : (b : Bool) → (b && false) ≡ false
+pub and_false : (b : Bool) → (b && false) ≡ false
 and_false true = refl
 and_false false = refl
 
-and_true : (b : Bool) → (b && true) ≡ b
+pub and_true : (b : Bool) → (b && true) ≡ b
 and_true true = refl
 and_true false = refl
 

@@ -19,13 +19,13 @@ use Rattle.sbp_world.proofs.Common.{equal_numbers, is_inside}
 
 -- ---- numbers
 
-same_by : (a b : ℕ) → a ≡ b → nat_eq a b ≡ true
+pub same_by : (a b : ℕ) → a ≡ b → nat_eq a b ≡ true
 same_by a b e = grind arith
 
-differ_by : (a b : ℕ) → nat_eq a b ≡ false → a ≡ b → ⊥
+pub differ_by : (a b : ℕ) → nat_eq a b ≡ false → a ≡ b → ⊥
 differ_by a b e f = let x : nat_eq a b ≡ true = grind arith in cc
 
-other_by : (a b : ℕ) → (a ≡ b → ⊥) → nat_eq a b ≡ false
+pub other_by : (a b : ℕ) → (a ≡ b → ⊥) → nat_eq a b ≡ false
 other_by a b differs = by_test (nat_eq a b) refl
   where
     by_test : (x : Bool) → nat_eq a b ≡ x → nat_eq a b ≡ false
@@ -52,7 +52,7 @@ stands : (requests : RequestsState) (s : ℕ) (request : Request) → find reque
 stands requests s request e = stands_by requests s request (position (nat_eq s) requests.serials) refl e
 
 -- what is found by a serial that stands at one place alone
-found_at : (requests : RequestsState) (place : ℕ) → place < length requests.serials → ((k : ℕ) → k < place → slice_index_or requests.serials place 0 ≡ slice_index_or requests.serials k 0 → ⊥) → find requests (slice_index_or requests.serials place 0) ≡ slice_index_or requests.requests place None
+pub found_at : (requests : RequestsState) (place : ℕ) → place < length requests.serials → ((k : ℕ) → k < place → slice_index_or requests.serials place 0 ≡ slice_index_or requests.serials k 0 → ⊥) → find requests (slice_index_or requests.serials place 0) ≡ slice_index_or requests.requests place None
 found_at requests place inside apart =
     let s = slice_index_or requests.serials place 0 in
     let here : position_or_len (nat_eq s) requests.serials ≡ place =

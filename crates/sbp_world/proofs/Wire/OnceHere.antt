@@ -157,7 +157,7 @@ not_five false false true d e f = cc
 not_five false true c d e f = cc
 not_five true b c d e f = cc
 
-other_news : (news : ℕ → ℕ) (s own n : ℕ) → nat_eq own s ≡ false → upd news s n own ≡ news own
+pub other_news : (news : ℕ → ℕ) (s own n : ℕ) → nat_eq own s ≡ false → upd news s n own ≡ news own
 other_news news s own n e = ap (λ b. cond b n (news own)) e
 
 closed_served : (held : Held) (u : Transaction) (kind : Kind) (rcode : ℕ) (t : Terms) → (closes held u kind rcode t).served ≡ t.served
@@ -199,7 +199,7 @@ sent_closes : (t : Terms) (s own : ℕ) (so : Option Sending) → t.sent s ≡ s
 sent_closes t s own None sent e = cc
 sent_closes t s own (Some q) sent e = part_closes t s own q (part_of q.bytes) sent refl e
 
-same_writing : (waited kind : Kind) → waited ≡ writing → is_same_kind waited kind ≡ true → kind ≡ writing
+pub same_writing : (waited kind : Kind) → waited ≡ writing → is_same_kind waited kind ≡ true → kind ≡ writing
 same_writing writing writing e s = refl
 same_writing writing reading_quadlet e s = cc
 same_writing writing reading_block e s = cc

@@ -13,6 +13,7 @@ use Rattle.sbp_laws.specs.Lists.{TakenStatus, cmd_of, command_at, is_none_taken,
 use Rattle.sbp_laws.specs.OrderLaw.{is_cut}
 use Rattle.sbp_laws.specs.Turns.{event_of}
 use Rattle.sbp_world.proofs.Common.{itself}
+use Rattle.sbp_world.proofs.Lists.OrbSteps.{yes}
 
 -- what an ORB counts
 pub record Share : Type 0 where
@@ -163,21 +164,15 @@ is_appended (_ ∷ past) = is_appended past
 pub flip : (a b : ℕ) → nat_eq a b ≡ nat_eq b a
 flip a b = grind (arith, nat_tests)
 
-not_true : {A : Type 0} → true ≡ false → A
-not_true e = absurd (differ e)
-  where
-    differ : true ≡ false → ⊥
-    differ e = cc
-
 -- the command of another ORB
 other_command : (a b e x : Bool) (c o : Option Cmd) → cond a (cond b (cond e true x) x) x ≡ false → cond a (cond b (cond e c o) o) o ≡ o
-other_command true true true x c o h = not_true h
+other_command true true true x c o h = yes h
 other_command true true false x c o h = refl
 other_command true false e x c o h = refl
 other_command false b e x c o h = refl
 
 before_command : (a b e x : Bool) → cond a (cond b (cond e true x) x) x ≡ false → x ≡ false
-before_command true true true x h = not_true h
+before_command true true true x h = yes h
 before_command true true false x h = h
 before_command true false e x h = h
 before_command false b e x h = h

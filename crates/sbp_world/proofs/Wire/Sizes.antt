@@ -1,7 +1,7 @@
 -- No line changes how many initiators there are, and how many units.
-use Rattle.std.proofs.Common.{◌≡◌, ◌∙◌, refl, ap, Result, Ok, Err, replicate, ℕ, zero, suc, ◌+◌, ◌-◌, ◌==◌, ◌||◌, not, nat_lt, Bool, true, false, cond, List, [], ◌∷◌, length, Option, Some, None, arith}
+use Rattle.std.proofs.Common.{◌≡◌, ◌∙◌, refl, ap, Result, Ok, Err, replicate, ℕ, ◌+◌, ◌-◌, ◌==◌, ◌||◌, not, nat_lt, Bool, true, false, cond, List, [], ◌∷◌, length, Option, Some, None}
 use Rattle.std.specs.Prelude.{slice_index_or}
-use Rattle.std.proofs.lemmas.List.{length-set, length-append, length-replicate}
+use Rattle.std.proofs.lemmas.List.{length-set, length-replicate}
 use Rattle.label_table.specs.declared.reply.Stale.{Stale}
 use Rattle.packet_store.specs.declared.sent.Sent.{Sent}
 use Rattle.packet_store.specs.Kept.{found_sent, is_flying}
@@ -32,7 +32,7 @@ use Rattle.sbp_bus.specs.Generations.{id_of}
 use Rattle.sbp_bus.specs.Packets.{no_packet}
 use Rattle.sbp_world.specs.Handing.{handed_out}
 use Rattle.sbp_world.specs.Lines.{acted, acted_by, happens, happens_to, keyed, no_unit, weight_in}
-use Rattle.sbp_world.specs.Making.{new_initiators, new_world}
+use Rattle.sbp_world.specs.Making.{new_world}
 use Rattle.sbp_world.specs.Nodes as nodes
 use Rattle.sbp_world.specs.Nodes.{handed_all, reset_line, see_line, sees, tick_line}
 use Rattle.sbp_world.specs.Packets.{delivered_if, expires, first_told, inject_line, injected, injected_to, is_in_flight, lose_line, may_repeat, timed_out, timeout_line, timeout_of}
@@ -43,6 +43,7 @@ use Rattle.sbp_world.specs.Settling.{after_all, delivered_at, delivered_next, lo
 use Rattle.sbp_world.specs.Worlds.{Scene, WorldState, begun, initiator_at, with_initiator, with_note, with_target}
 use Rattle.sbp_world.proofs.Wire.Nodes.{handed_alike}
 use Rattle.sbp_world.proofs.Wire.TargetSizes as target_sizes
+use Rattle.sbp_world.proofs.Making.{initiators_size}
 
 -- how many initiators there are, and how many units
 abbrev pub Sizes : Type 0
@@ -274,12 +275,7 @@ pub happens_keeps : (line : ℕ) (event : Event) (told : List (Option Told)) (s 
 unfolding happens
 happens_keeps line event told s = to_keeps line event told (begun s)
 
-new_count : (n : ℕ) (ready : Bool) → length (new_initiators n ready) ≡ n
-unfolding new_initiators
-new_count zero ready = refl
-new_count (suc n) ready = let k = new_count n ready in omega (arith, length-append (new_initiators n ready) (new_state n ready ∷ []))
-
 pub new_sizes : (initiators : ℕ) (ready : Bool) (units : ℕ) → sizes (new_world initiators ready units) ≡ (initiators, units)
 unfolding new_world
 new_sizes initiators ready units =
-    ap (λ n. (n, length (replicate units new_unit))) (new_count initiators ready) ∙ ap (λ n. (initiators, n)) (length-replicate units new_unit)
+    ap (λ n. (n, length (replicate units new_unit))) (initiators_size initiators ready) ∙ ap (λ n. (initiators, n)) (length-replicate units new_unit)

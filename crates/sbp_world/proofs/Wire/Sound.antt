@@ -86,7 +86,7 @@ unfolding reset_line
 reset_nodes physical w lines n = later w lines n
 
 -- ---- what a line told, and the lowest packet in flight
-first_fits : (told : List (Option Told)) → AreTold told → BytesTold (first_told told)
+pub first_fits : (told : List (Option Told)) → AreTold told → BytesTold (first_told told)
 first_fits [] t = tt
 first_fits (told ∷ before) t = t.0
 

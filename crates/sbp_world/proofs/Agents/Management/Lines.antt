@@ -1,12 +1,11 @@
 -- After each line of a world the terms of the target's management are its state.
-use Rattle.std.proofs.Common.{arith, ◌≡◌, ◌∙◌, refl, sym, ap, subst, ℕ, ◌+◌, ◌^◌, ◌<◌, ◌≤◌, ◌==◌, ◌||◌, nat_eq, Bool, true, false, cond, List, [], ◌∷◌, length, Option, Some, None}
+use Rattle.std.proofs.Common.{arith, ◌≡◌, ◌∙◌, refl, sym, ap, subst, ℕ, ◌+◌, ◌^◌, ◌<◌, ◌≤◌, nat_eq, Bool, true, false, cond, List, [], ◌∷◌, length, Option, Some, None}
 use Rattle.std.specs.Prelude.{if◌then◌else◌}
-use Rattle.std.specs.List.{list_any}
 use Rattle.bus_transactions.specs.May.{is_reset}
 use Rattle.bus_transactions.proofs.Facts.{injected_begun}
 use Rattle.sbp_world.proofs.FitInitiator.Law.{fitting_law as own_fitting_law}
 use Rattle.orb_layout.specs.declared.ask.Ask.TheVariants.{Nothing}
-use Rattle.packet_store.specs.Kept.{first, flying}
+use Rattle.packet_store.specs.Kept.{flying}
 use Rattle.rbc_disk.specs.Disk.{Disk}
 use Rattle.rbc_disk.specs.Runs.{Told}
 use Rattle.sbp_base.specs.Update.{upd}
@@ -35,7 +34,7 @@ use Rattle.sbp_world.proofs.Wire.Bus.{holds}
 use Rattle.sbp_world.proofs.Wire.Hears.{hears}
 use Rattle.sbp_world.proofs.Wire.Holding.{Sound, later}
 use Rattle.sbp_world.proofs.Wire.Repeats.{said_same}
-use Rattle.sbp_world.proofs.Wire.Sound.{line_goes}
+use Rattle.sbp_world.proofs.Wire.Sound.{line_goes, first_flies}
 use Rattle.sbp_world.proofs.Wire.Tells.{starts}
 use Rattle.sbp_world.proofs.Wire.ToldBytes.{AreTold}
 use Rattle.sbp_world.specs.Agents.Management.Offices.{Office, at_rest}
@@ -51,14 +50,6 @@ use Rattle.sbp_world.proofs.Agents.Management.Told.{office_in, one_note, posts}
 
 rest_same : (o : Office) → o.asks ≡ Nothing → o ≡ at_rest o
 rest_same o e = ap (λ a. record o { asks = a }) e
-
--- the lowest packet in flight
-first_flies : (xs : List ℕ) (serial : ℕ) → first xs ≡ Some serial → list_any (λ s. serial == s) xs ≡ true
-first_flies [] serial e = absurd (let no : None ≡ Some serial = e in cc)
-first_flies (x ∷ xs) serial e = here x serial (let f : x ≡ serial = cc in f) (list_any (λ s. serial == s) xs)
-  where
-    here : (x serial : ℕ) → x ≡ serial → (b : Bool) → ((serial == x) || b) ≡ true
-    here x serial e b = grind arith
 
 module _ (units ready : ℕ) (has : 0 < units) (start : List Disk) where
   -- ---- lines that change no node, or only an initiator

@@ -1,24 +1,24 @@
 -- In every run the terms of the target's management are its state.
-use Rattle.std.proofs.Common.{arith, ◌≡◌, ◌∙◌, sym, ap, subst, ℕ, suc, false, Option, ◌+◌, ◌^◌, ◌<◌, ◌≤◌, List, [], ◌∷◌, ◌++◌, map, length, refl}
+use Rattle.std.proofs.Common.{arith, ◌≡◌, ◌∙◌, sym, ap, subst, ℕ, suc, false, ◌+◌, ◌^◌, ◌<◌, ◌≤◌, List, [], ◌∷◌, ◌++◌, map, length, refl}
 use Rattle.bus_transactions.specs.May.{is_reset}
-use Rattle.rbc_disk.specs.Runs.{Told}
 use Rattle.sbp_journal.specs.Run.{Moment, asked, said}
 use Rattle.sbp_journal.specs.Wire.{terms}
 use Rattle.sbp_journal.specs.declared.event.Event.{Event}
 use Rattle.sbp_journal.specs.declared.event.Event.TheVariants as events
 use Rattle.sbp_world.specs.Histories.{moments_behind}
-use Rattle.sbp_world.specs.Lines.{MayHappen, happens}
+use Rattle.sbp_world.specs.Lines.{happens}
 use Rattle.sbp_world.specs.Making.{new_world, ready_logins}
 use Rattle.sbp_world.specs.Runs.{AreEntries, Entry, Run, after, beginning}
-use Rattle.sbp_world.specs.Settling.{MayAll, after_all}
-use Rattle.sbp_world.specs.Worlds.{Scene, WorldState, begun}
+use Rattle.sbp_world.specs.Settling.{after_all}
+use Rattle.sbp_world.specs.Worlds.{WorldState, begun}
 use Rattle.sbp_world.specs.Wire.Lines.{AreLines}
-use Rattle.sbp_world.proofs.Wire.ToldBytes.{AreTold, happened_fits}
+use Rattle.sbp_world.proofs.Wire.ToldBytes.{happened_fits}
 use Rattle.sbp_world.specs.Agents.Management.Terms.{BetweenLaw, DeliversMore, IsManagementAt, TermsLaw}
 use Rattle.sbp_world.proofs.Agents.Management.Begins.{first_holds, first_past}
 use Rattle.sbp_world.proofs.Agents.Management.Holding.{Holding}
 use Rattle.sbp_world.proofs.Agents.Management.Lines.{all_heard, line_holds, opens}
 use Rattle.sbp_world.proofs.Agents.Management.Still.{hist}
+use Rattle.sbp_world.proofs.Hosts.Runs.{are_told}
 
 pub record HoldsAfter (line : ℕ) (run : Run) (entries : List Entry) (w : WorldState) : Type 0 where
   pub past : List Moment
@@ -81,10 +81,6 @@ no_repeats (events.Timeout serial) ms next d = absurd d
 no_repeats events.Tick ms next d = absurd d
 no_repeats (events.Inject initiator bytes) ms next d = absurd d
 no_repeats (events.Key unit key) ms next d = absurd d
-
-pub are_told : (told : List (Option Told)) (s : Scene) → MayAll told (begun s) → AreTold told
-unfolding MayHappen
-are_told told s m = happened_fits (events.Step (length told)) told s (record { few = omega arith; all = λ l. absurd (omega (arith, l)); may = m })
 
 pub between_law : BetweenLaw
 between_law line run few has small size short all fit next event d told may =

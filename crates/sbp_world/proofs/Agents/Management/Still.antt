@@ -19,6 +19,7 @@ use Rattle.sbp_world.specs.Sending.{asked, posted, sent, sent_all, sent_to}
 use Rattle.sbp_world.specs.Worlds.{WorldState}
 use Rattle.sbp_world.proofs.Common.{and_first}
 use Rattle.sbp_world.proofs.Hosts.Held.{pays_held}
+use Rattle.sbp_world.proofs.Wire.Bus.{pays_ids, begins_ids}
 
 pub record Still (t u : Terms) : Type 0 where
   pub injected : (s : ℕ) → u.injected s ≡ t.injected s
@@ -41,14 +42,6 @@ still_then t u v a b = record {
 
 -- ---- a packet is sent
 
-gives_ids : (begun : Option Transaction) (rcode : ℕ) (t : Terms) → (gives begun rcode t).ids ≡ t.ids
-gives_ids None rcode t = refl
-gives_ids (Some u) rcode t = refl
-
-pays_ids : (owed : Option Owed) (given : ℕ → Option Sending) (s : ℕ) (q : Sending) (t : Terms) → (pays owed given s q t).ids ≡ t.ids
-pays_ids None given s q t = refl
-pays_ids (Some owed) given s q t = gives_ids (asked_in (given owed.serial)) _ t
-
 gives_generation : (begun : Option Transaction) (rcode : ℕ) (t : Terms) → (gives begun rcode t).generation ≡ t.generation
 gives_generation None rcode t = refl
 gives_generation (Some u) rcode t = refl
@@ -68,10 +61,6 @@ pays_injected (Some owed) given s q t = gives_injected (asked_in (given owed.ser
 begins_injected : (begun : Option Transaction) (s : ℕ) (q : Sending) (t : Terms) → ((begins begun s q t).injected ≡ t.injected) × ((begins begun s q t).count ≡ t.count)
 begins_injected None s q t = (refl, refl)
 begins_injected (Some u) s q t = (refl, refl)
-
-begins_ids : (begun : Option Transaction) (s : ℕ) (q : Sending) (t : Terms) → (begins begun s q t).ids ≡ t.ids
-begins_ids None s q t = refl
-begins_ids (Some u) s q t = refl
 
 begins_generation : (begun : Option Transaction) (s : ℕ) (q : Sending) (t : Terms) → (begins begun s q t).generation ≡ t.generation
 begins_generation None s q t = refl

@@ -38,7 +38,6 @@ use Rattle.sbp_world.specs.Hosts.Worlds.{IsHost}
 use Rattle.sbp_world.proofs.Hosts.Carries.{Carries, Does, Tells}
 use Rattle.sbp_world.proofs.Hosts.Cores.{got_told}
 use Rattle.sbp_world.proofs.Hosts.Hosted.{Cored, cored_carried, first_cored}
-use Rattle.sbp_world.proofs.Hosts.Knows.{sent_stays}
 use Rattle.sbp_world.proofs.Hosts.OrbRuns.{Rowed}
 use Rattle.sbp_world.proofs.Hosts.Prepares.{itself}
 use Rattle.sbp_world.proofs.Hosts.Shown.{IsHeard}
@@ -50,6 +49,7 @@ use Rattle.sbp_world.proofs.Hosts.Statuses.Hearing.{Hears, hears_so, ignored_sil
 use Rattle.sbp_world.proofs.Hosts.Statuses.Housed.{got_access}
 use Rattle.sbp_world.proofs.Hosts.Statuses.Quiet.{AreCalmSides, act_calm, all_silent, expire_calm, own_calm, see_calm}
 use Rattle.sbp_world.proofs.Hosts.Runs.{first_host}
+use Rattle.sbp_world.proofs.Sessions.BlockNotes.{gets_sent as sent_stays}
 
 -- ---- a status that is taken
 

@@ -1,9 +1,9 @@
 -- The lines of a run carry on that the run terms of the lists of an initiator are the rows of its slots.
-use Rattle.std.proofs.Common.{◌≡◌, refl, sym, ◌∙◌, ap, subst, ℕ, suc, ◌==◌, not, true, false, List, [], ◌∷◌, Option, Some, Ok}
+use Rattle.std.proofs.Common.{◌≡◌, refl, sym, ◌∙◌, ap, subst, ℕ, ◌==◌, true, false, List, [], ◌∷◌, Option, Some, Ok}
 use Rattle.async_packet.specs.Labels.{LabelParts}
 use Rattle.async_packet.specs.Packet.{Packet, lock, lock_response, read_block, read_block_response, read_quadlet, read_quadlet_response, write_block, write_quadlet, write_response}
 use Rattle.async_packet.specs.Reading.{reading}
-use Rattle.label_table.specs.Layer.{Finding, judging_step, of_again, of_generation, of_grammar, of_label, of_request, of_response, seeing_step}
+use Rattle.label_table.specs.Layer.{Finding, judging_step, of_again, of_generation, of_grammar, of_label, of_request, of_response}
 use Rattle.orb_layout.specs.declared.status.StatusBlock.{StatusBlock}
 use Rattle.orb_layout.specs.StatusBlocks.{src_of}
 use Rattle.initiator_base.specs.Places.{names_place}
@@ -25,13 +25,11 @@ use Rattle.sbp_initiator.specs.declared.purpose.Purpose.{Purpose}
 use Rattle.sbp_initiator.specs.declared.state.InitiatorState.{InitiatorState}
 use Rattle.sbp_initiator.specs.Effects.{Turn}
 use Rattle.sbp_initiator.specs.Receiving.{expire_step, receive_step}
-use Rattle.sbp_initiator.specs.Seeing.{see_step}
 use Rattle.sbp_initiator.specs.States.{status_in}
 use Rattle.sbp_bus.specs.Packets.{judged_note}
 use Rattle.sbp_laws.specs.Lists.{src_in}
 use Rattle.sbp_laws.specs.Packets.{access_in, packet_in, spelled_by}
-use Rattle.sbp_laws.specs.Turns.{event_of}
-use Rattle.sbp_initiator.specs.Histories.Laws.{lets_expire, receives, sees}
+use Rattle.sbp_initiator.specs.Histories.Laws.{lets_expire, receives}
 use Rattle.sbp_world.specs.Hosts.Calls.{Listed, MayFind, MayPacket, behind}
 use Rattle.sbp_world.specs.Hosts.Fits.{AreRows}
 use Rattle.sbp_world.specs.Hosts.Steps.{IsNoAbort, MayTake, is_beside}
@@ -40,13 +38,13 @@ use Rattle.sbp_world.proofs.Hosts.Answering.{request_of}
 use Rattle.sbp_world.proofs.Hosts.Beside.{beside_rests}
 use Rattle.sbp_world.proofs.Hosts.Carries.{IsNoAct, Tells, is_apart}
 use Rattle.sbp_world.proofs.Hosts.Hears.{expire_listed, receive_listed}
-use Rattle.sbp_world.proofs.Hosts.Knows.{sent_stays}
 use Rattle.sbp_world.proofs.Hosts.Liners.{host_listed, number_call, silent}
 use Rattle.sbp_world.proofs.Hosts.Passes.{judged_apart}
-use Rattle.sbp_world.proofs.Hosts.Sees.{sees_listed}
 use Rattle.sbp_world.proofs.Hosts.Shown.{IsHeard}
 use Rattle.sbp_world.proofs.Hosts.Statuses.Blocks.{is_read_by}
 use Rattle.sbp_world.proofs.Hosts.Statuses.Hearing.{ignored_silent}
+use Rattle.sbp_world.proofs.Hosts.HostRows.{host_sees}
+use Rattle.sbp_world.proofs.Sessions.BlockNotes.{gets_sent as sent_stays}
 
 -- ---- notes of others
 
@@ -67,11 +65,6 @@ noted_on past i s note e h = record { number = h.number; rows = beside_rests pas
 pub no_abort : (i : ℕ) (event : Option Event) → IsNoAct i event → IsNoAbort i event
 no_abort i (Some (events.Act j (actions.Abort k))) n = n
 no_abort i event n = tt
-
-pub line_behind : (told : List Side) (past : List Moment) → event_of (behind told past) ≡ event_of past
-line_behind [] past = refl
-line_behind (sides.Own note ∷ told) past = line_behind told (said note ∷ past)
-line_behind (side ∷ told) past = line_behind told past
 
 pub listed_tells : (past : List Moment) (i : ℕ) (t : Turn) → t.1.number ≡ i → Listed past t → Tells IsHost past i t
 listed_tells past i t n l = record {
@@ -139,10 +132,3 @@ expires_on past i s label h =
 pub stale_on : (past : List Moment) (i : ℕ) (s : InitiatorState) (label : LabelParts) → (expire_step label empty_outbox s).0 ≡ false → IsHost past i s → IsHost past i (expire_step label empty_outbox s).1.1
 stale_on past i s label e h =
     subst (λ (o : OutboxState). IsHost (behind o.sides past) i (expire_step label empty_outbox s).1.1) (silent past 0 0 label s e) (expires_on past i s label h).own
-
-pub sees_on : (generation id target : ℕ) (past : List Moment) (i : ℕ) (s : InitiatorState) → (seeing_step s.layer generation id).0 ≡ not (generation == (terms past).generation (suc i)) → IsHost past i s → Tells IsHost (said (notes.Seen (suc i) generation) ∷ past) i (see_step generation id target empty_outbox s)
-sees_on generation id target past i s e h =
-    let t = see_step generation id target empty_outbox s in
-    listed_tells (said (notes.Seen (suc i) generation) ∷ past) i t (number_call (sees generation id target) (empty_outbox, s) tt ∙ h.number)
-    (subst (λ k. Listed (said (notes.Seen (suc k) generation) ∷ past) t) h.number
-    (sees_listed past generation id target s (subst (λ k. (seeing_step s.layer generation id).0 ≡ not (generation == (terms past).generation (suc k))) (sym h.number) e) (host_listed past i s h)))

@@ -53,7 +53,6 @@ use Rattle.sbp_world.proofs.Hosts.Answering.{request_of}
 use Rattle.sbp_world.proofs.Hosts.AnsweringLines.{all_sound}
 use Rattle.sbp_world.proofs.Hosts.Deliveries.{deliveries_law, some_same}
 use Rattle.sbp_world.proofs.Hosts.GotRequests.{request_got}
-use Rattle.sbp_world.proofs.Hosts.Knows.{sent_stays}
 use Rattle.sbp_world.proofs.Hosts.Runs.{are_told}
 use Rattle.sbp_world.specs.Hosts.Statuses.Finished.{IsTakenHere}
 use Rattle.sbp_world.specs.Hosts.Statuses.Senders.{IsOfTarget, RestLaw, SendersLaw}
@@ -64,6 +63,7 @@ use Rattle.sbp_world.proofs.Hosts.Statuses.Folds.{untrue}
 use Rattle.sbp_world.proofs.Hosts.Statuses.Hearing.{served}
 use Rattle.sbp_world.proofs.Common.{none_is}
 use Rattle.sbp_world.proofs.Lists.StatusKnown.{writes_no_rom}
+use Rattle.sbp_world.proofs.Sessions.BlockNotes.{gets_sent as sent_stays}
 
 -- ---- a write that an initiator gets is of its target
 
