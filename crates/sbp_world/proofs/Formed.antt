@@ -23,18 +23,27 @@ more [] side h f = (f, tt)
 more (first ∷ told) side h f = (h.0, more told side h.1 f)
 
 -- ---- an initiator
-
--- the note is of no run
+-- the note is of an initiator's own doings
 abbrev pub IsNoRun : Note → Type 0
-IsNoRun (notes.Ran initiator list orb unit cdb bytes check) = ⊥
-IsNoRun _ = Unit {0}
+IsNoRun (notes.Append i list orb cdb buffer) = Unit {0}
+IsNoRun (notes.Low i list orb) = Unit {0}
+IsNoRun (notes.Linked i list orb) = Unit {0}
+IsNoRun (notes.Rung i list orb) = Unit {0}
+IsNoRun (notes.Dummied i list orb) = Unit {0}
+IsNoRun (notes.Taken i n k status answer) = Unit {0}
+IsNoRun (notes.Drop i list) = Unit {0}
+IsNoRun (notes.Op i operation word) = Unit {0}
+IsNoRun (notes.Stuck i) = Unit {0}
+IsNoRun (notes.Told i) = Unit {0}
+IsNoRun _ = ⊥
 
 abbrev pub IsOwn : Side → Type 0
 IsOwn (sides.Own note) = HasForm note × IsNoRun note
 IsOwn _ = ⊥
 
 abbrev pub AreOwn : List Side → Type 0
-AreOwn told = AllByRecursion IsOwn told
+AreOwn [] = Unit {0}
+AreOwn (side ∷ later) = IsOwn side × AreOwn later
 
 pub own_more : (told : List Side) (side : Side) → AreOwn told → IsOwn side → AreOwn (told ++ side ∷ [])
 own_more [] side h f = (f, tt)

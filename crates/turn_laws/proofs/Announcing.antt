@@ -86,7 +86,7 @@ use Rattle.sbp_world.proofs.Agents.CrewFirsts.{agrees}
 use Rattle.sbp_world.proofs.Agents.Management.Calm as calm
 use Rattle.sbp_world.proofs.Agents.Management.Calm.{AreQuiet, From}
 use Rattle.sbp_world.proofs.Agents.Management.Holding.{good_of}
-use Rattle.sbp_world.proofs.Agents.Management.Owned.{AreOwn, IsNoRun}
+use Rattle.sbp_world.proofs.Formed.{AreOwn, IsNoRun}
 use Rattle.sbp_world.proofs.Agents.Management.Still.{hist}
 use Rattle.sbp_world.proofs.Agents.UnitsMarked.{came_not, run_came}
 use Rattle.sbp_world.proofs.Agents.UnitsRun.{live_login}

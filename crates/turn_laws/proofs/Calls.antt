@@ -32,7 +32,7 @@ use Rattle.sbp_world.specs.Nodes.{told_seen, with_seen}
 use Rattle.sbp_world.specs.Settling.{settled_from}
 use Rattle.sbp_world.specs.Worlds.{Scene, WorldState, initiator_at, scene, with_initiator, with_note, with_target, without_notes}
 use Rattle.sbp_world.proofs.Agents.Management.Still.{hist}
-use Rattle.sbp_world.proofs.Agents.Management.Owned.{AreOwn}
+use Rattle.sbp_world.proofs.Formed.{AreOwn}
 use Rattle.sbp_world.specs.Hosts.Handing.{AreOthers}
 use Rattle.turn_laws.proofs.Handed.{handed, onto}
 use Rattle.turn_laws.proofs.Places.{Place}

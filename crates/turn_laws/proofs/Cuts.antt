@@ -80,7 +80,7 @@ use Rattle.sbp_target.proofs.Histories.Told.{side_law}
 use Rattle.sbp_world.proofs.Agents.CrewFirsts.{access_there, agrees}
 use Rattle.sbp_world.proofs.Agents.Hiring.{reply_hires}
 use Rattle.sbp_world.proofs.Agents.Management.Holding.{good_of}
-use Rattle.sbp_world.proofs.Agents.Management.Owned.{AreOwn, IsNoRun}
+use Rattle.sbp_world.proofs.Formed.{AreOwn, IsNoRun}
 use Rattle.sbp_world.proofs.Agents.Management.Sights.{ages, seen_test}
 use Rattle.sbp_world.proofs.Agents.Management.Still.{hist}
 use Rattle.sbp_world.proofs.Lists.OpenOwners.{served_initiator}

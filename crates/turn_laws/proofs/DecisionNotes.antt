@@ -66,7 +66,7 @@ use Rattle.sbp_world.specs.Worlds.{Scene, WorldState, with_note, with_target}
 use Rattle.sbp_world.proofs.Agents.CrewFirsts.{agrees}
 use Rattle.sbp_world.proofs.Agents.Holders.{finds}
 use Rattle.sbp_world.proofs.Agents.Management.Holding.{good_of, known_id, same_id}
-use Rattle.sbp_world.proofs.Agents.Management.Owned.{IsNoRun}
+use Rattle.sbp_world.proofs.Formed.{IsNoRun}
 use Rattle.sbp_world.proofs.Agents.Management.Still.{hist}
 use Rattle.sbp_world.proofs.Wire.Found.{node_found}
 use Rattle.turn_laws.specs.Decisions.{DecidesWhereDue}

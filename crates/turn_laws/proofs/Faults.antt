@@ -24,7 +24,7 @@ use Rattle.sbp_world.specs.Sending.{sent}
 use Rattle.sbp_world.specs.Telling.{holder, ticket_at, told, told_all}
 use Rattle.sbp_world.specs.Worlds.{Scene, WorldState}
 use Rattle.sbp_world.proofs.Agents.Management.Holding.{good_of}
-use Rattle.sbp_world.proofs.Agents.Management.Owned.{AreOwn, IsNoRun}
+use Rattle.sbp_world.proofs.Formed.{AreOwn, IsNoRun}
 use Rattle.sbp_world.proofs.Agents.Management.Still.{hist}
 use Rattle.sbp_target.proofs.Histories.Calling.{Good}
 use Rattle.turn_laws.specs.Faults.{DiesBeforeFaults, FaultsLaw}

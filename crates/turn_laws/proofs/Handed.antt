@@ -14,7 +14,7 @@ use Rattle.sbp_world.specs.Hosts.Handing.{AreOthers, IsOther}
 use Rattle.sbp_world.specs.Sending.{asked, posted, sent, sent_all, sent_to}
 use Rattle.sbp_world.specs.Telling.{holder, initiator_of, ticket_at, told, told_all}
 use Rattle.sbp_world.specs.Worlds.{WorldState}
-use Rattle.sbp_world.proofs.Agents.Management.Owned.{AreOwn, IsNoRun}
+use Rattle.sbp_world.proofs.Formed.{AreOwn, IsNoRun}
 
 -- ---- notes in the order of time, put behind those that there are, of which the latest stands first
 abbrev pub onto : List Note → List Note → List Note

@@ -30,7 +30,7 @@ use Rattle.sbp_world.specs.Worlds.{WorldState}
 use Rattle.target_base.specs.Addresses.{demand_of}
 use Rattle.target_base.specs.declared.address.Demand.{Demand}
 use Rattle.sbp_target.proofs.Histories.Told.{side_law}
-use Rattle.sbp_world.proofs.Agents.Management.Owned.{AreOwn, IsNoRun}
+use Rattle.sbp_world.proofs.Formed.{AreOwn, IsNoRun}
 use Rattle.turn_laws.proofs.Handed.{handed, note_of, notes_told}
 use Rattle.turn_laws.proofs.KindNotes.{IsToldKind, join_same, kind_handed, none_behind, own_handed}
 use Rattle.command_agent.specs.declared.step.AgentState.TheVariants as states

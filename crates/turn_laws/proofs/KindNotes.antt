@@ -12,7 +12,7 @@ use Rattle.sbp_laws.specs.NoteKinds.{of_kind}
 use Rattle.sbp_world.specs.Sending.{sent}
 use Rattle.sbp_world.specs.Telling.{told, told_all}
 use Rattle.sbp_world.specs.Worlds.{WorldState}
-use Rattle.sbp_world.proofs.Agents.Management.Owned.{AreOwn, IsNoRun}
+use Rattle.sbp_world.proofs.Formed.{AreOwn, IsNoRun}
 use Rattle.turn_laws.proofs.Handed.{handed, notes_sent, notes_told, packet_note}
 
 -- nothing behind a list

@@ -46,9 +46,9 @@ use Rattle.sbp_world.specs.Wire.Lines.{AreLines, IsLine}
 use Rattle.sbp_world.specs.Worlds.{Scene, WorldState, begun, initiator_at, scene, with_initiator, with_note, with_target, without_notes}
 use Rattle.sbp_world.proofs.Agents.Management.Begins.{first_holds, first_past}
 use Rattle.sbp_world.proofs.Agents.Management.Holding.{Holding}
-use Rattle.sbp_world.proofs.Agents.Management.InitiatorTells as own
+use Rattle.sbp_world.proofs.InitiatorForms as own
 use Rattle.sbp_world.proofs.Agents.Management.Lines.{line_holds}
-use Rattle.sbp_world.proofs.Agents.Management.Owned.{AreOwn}
+use Rattle.sbp_world.proofs.Formed.{AreOwn}
 use Rattle.sbp_world.specs.Hosts.Handing.{AreOthers}
 use Rattle.sbp_world.proofs.Agents.Management.Still.{hist}
 use Rattle.sbp_world.proofs.Hosts.Hands.{hand_law}

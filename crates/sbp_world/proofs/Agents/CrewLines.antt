@@ -39,7 +39,7 @@ use Rattle.sbp_world.proofs.Wire.Nodes.{handed_alike, marked_alike}
 use Rattle.sbp_world.proofs.Wire.ToldBytes.{AreTold}
 use Rattle.sbp_world.proofs.Agents.Management.Holding.{Holding, marked_hist, was_sent}
 use Rattle.sbp_world.proofs.Agents.Management.Idle.{over_idle}
-use Rattle.sbp_world.proofs.Agents.Management.InitiatorTells as own
+use Rattle.sbp_world.proofs.InitiatorForms as own
 use Rattle.sbp_world.proofs.Agents.Management.Lines.{all_heard, line_holds, opens}
 use Rattle.sbp_world.proofs.Agents.Management.Still.{hist}
 use Rattle.sbp_world.proofs.Agents.Management.Told.{term_in}

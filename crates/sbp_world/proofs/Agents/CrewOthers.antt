@@ -21,7 +21,7 @@ use Rattle.sbp_world.specs.Sending.{asked, posted, sent, sent_all, sent_to}
 use Rattle.sbp_world.specs.Telling.{told, told_all}
 use Rattle.sbp_world.specs.Worlds.{WorldState}
 use Rattle.sbp_world.proofs.Agents.Management.Firsts.{wire_is}
-use Rattle.sbp_world.proofs.Agents.Management.Owned.{AreOwn, IsNoRun}
+use Rattle.sbp_world.proofs.Formed.{AreOwn, IsNoRun}
 use Rattle.sbp_world.proofs.Agents.Management.Told.{term_in}
 use Rattle.sbp_world.proofs.Agents.Asides.{settled_over}
 

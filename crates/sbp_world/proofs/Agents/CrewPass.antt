@@ -40,9 +40,9 @@ use Rattle.sbp_world.proofs.Wire.Holding.{Sound}
 use Rattle.sbp_world.proofs.Wire.Nodes.{handed_alike}
 use Rattle.sbp_world.proofs.Agents.Management.Holding.{Holding}
 use Rattle.sbp_world.proofs.Agents.Management.Idle.{over_idle}
-use Rattle.sbp_world.proofs.Agents.Management.InitiatorTells as own
+use Rattle.sbp_world.proofs.InitiatorForms as own
 use Rattle.sbp_world.proofs.Agents.Management.Lapse.{from_asked}
-use Rattle.sbp_world.proofs.Agents.Management.Owned.{AreOwn}
+use Rattle.sbp_world.proofs.Formed.{AreOwn}
 use Rattle.sbp_world.proofs.Agents.Management.Still.{hist}
 use Rattle.sbp_world.proofs.Agents.Management.Told.{term_in}
 use Rattle.sbp_world.specs.Agents.Asides.{MayGoOn}

@@ -10,7 +10,6 @@ pub mod Resting
 pub mod Calls
 pub mod Still
 pub mod Owned
-pub mod InitiatorTells
 pub mod Idle
 pub mod Awaiting
 pub mod Requests

@@ -60,9 +60,9 @@ use Rattle.sbp_world.proofs.Wire.Nodes.{handed_alike, marked_alike}
 use Rattle.sbp_world.proofs.Wire.ToldBytes.{AreTold, happened_fits}
 use Rattle.sbp_world.proofs.Agents.Management.Firsts.{got_there}
 use Rattle.sbp_world.proofs.Agents.Management.Holding.{Holding, marked_hist, was_sent}
-use Rattle.sbp_world.proofs.Agents.Management.InitiatorTells as own
+use Rattle.sbp_world.proofs.InitiatorForms as own
 use Rattle.sbp_world.proofs.Agents.Management.Lines.{all_heard, line_holds, opens}
-use Rattle.sbp_world.proofs.Agents.Management.Owned.{AreOwn, IsNoRun, IsOwn}
+use Rattle.sbp_world.proofs.Formed.{AreOwn, IsNoRun, IsOwn}
 use Rattle.sbp_world.proofs.Agents.Management.Runs.{holds_after, no_repeats, not_reset}
 use Rattle.sbp_world.proofs.Agents.Management.Still.{hist}
 use Rattle.sbp_world.specs.Agents.Enabled.{AreTermsOf, EnabledTermsBetweenLaw, EnabledTermsLaw}

@@ -40,7 +40,7 @@ use Rattle.sbp_world.proofs.Wire.Comes.{own_inside, own_outside, received_is, to
 use Rattle.sbp_world.proofs.Wire.Nodes.{marked_alike}
 use Rattle.sbp_world.proofs.Wire.ToldBytes.{AreTold}
 use Rattle.sbp_world.proofs.Agents.Management.Holding.{Holding}
-use Rattle.sbp_world.proofs.Agents.Management.InitiatorTells as own
+use Rattle.sbp_world.proofs.InitiatorForms as own
 use Rattle.sbp_world.proofs.Agents.Management.Lines.{all_heard, opens}
 use Rattle.sbp_world.proofs.Agents.Peers.{injects_on, lost_kept, marked_kept}
 use Rattle.sbp_world.proofs.Agents.Seats.{Seats, delivery_seats, key_seats, lapse_seats, marked_same, own_hands, sight_seats, tick_seats}

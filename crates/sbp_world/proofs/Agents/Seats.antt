@@ -58,7 +58,7 @@ use Rattle.sbp_world.specs.Agents.Management.Offices.{Agrees, Office}
 use Rattle.sbp_world.proofs.Agents.Management.Calls.{forgets_if, management_law}
 use Rattle.sbp_world.proofs.Agents.Management.Calm.{From}
 use Rattle.sbp_world.proofs.Agents.Management.Holding.{Holding, good_of, is_of, known_id, ours, same_id, target_generation}
-use Rattle.sbp_world.proofs.Agents.Management.Owned.{AreOwn, IsOwn}
+use Rattle.sbp_world.proofs.Formed.{AreOwn, IsOwn}
 use Rattle.sbp_world.proofs.Agents.Management.Still.{hist}
 use Rattle.sbp_world.proofs.Agents.Calling.{IsOwned, delivery_told, lapse_told, second_told, sight_told}
 use Rattle.sbp_world.proofs.Agents.Leaving.{source_known}

@@ -48,7 +48,7 @@ use Rattle.sbp_world.specs.Telling.{holder, initiator_of, ticket_at, told, told_
 use Rattle.sbp_world.specs.Worlds.{WorldState, with_note}
 use Rattle.sbp_world.specs.Agents.Management.Offices.{Office}
 use Rattle.sbp_world.proofs.Agents.Management.Firsts.{wire_is}
-use Rattle.sbp_world.proofs.Agents.Management.Owned.{AreOwn, IsNoRun, IsOwn}
+use Rattle.sbp_world.proofs.Formed.{AreOwn, IsNoRun, IsOwn}
 use Rattle.sbp_world.proofs.Agents.Management.Still.{hist}
 use Rattle.sbp_world.proofs.Agents.Management.Told.{one_side, term_in}
 

@@ -13,7 +13,7 @@ use Rattle.sbp_world.specs.Sending.{asked as under_way, posted, sent, sent_all, 
 use Rattle.sbp_world.specs.Telling.{told, told_all}
 use Rattle.sbp_world.specs.Worlds.{WorldState, with_note}
 use Rattle.sbp_initiator.specs.Histories.Ends.{own}
-use Rattle.sbp_world.proofs.Agents.Management.Owned.{AreOwn, IsNoRun}
+use Rattle.sbp_world.proofs.Formed.{AreOwn, IsNoRun}
 use Rattle.sbp_world.proofs.Agents.Management.Still.{hist}
 use Rattle.sbp_world.proofs.Hosts.OrbTerms.{AreStill, is_left}
 use Rattle.sbp_world.proofs.Hosts.Prepares.{itself}

@@ -49,10 +49,10 @@ use Rattle.sbp_world.specs.Telling.{told, told_all}
 use Rattle.sbp_world.specs.Worlds.{WorldState, initiator_at, with_initiator, with_note, with_target}
 use Rattle.sbp_world.specs.Agents.Management.Offices.{Office, at_rest, cleared, office_of}
 use Rattle.sbp_world.proofs.Agents.Management.Firsts.{lapsed_here, lapsed_there, other_reply, own_reply, sight_office, tick_office, wire_is}
-use Rattle.sbp_world.proofs.Agents.Management.InitiatorTells as own
+use Rattle.sbp_world.proofs.InitiatorForms as own
 use Rattle.sbp_world.proofs.Agents.Management.Holding.{marked_hist}
 use Rattle.sbp_world.proofs.Agents.Management.Offices.{over_keeps}
-use Rattle.sbp_world.proofs.Agents.Management.Owned.{AreOwn, IsNoRun}
+use Rattle.sbp_world.proofs.Formed.{AreOwn, IsNoRun}
 use Rattle.sbp_world.proofs.Agents.Management.Sides.{AllBehind}
 use Rattle.sbp_world.proofs.Agents.Management.Still.{hist}
 use Rattle.sbp_world.specs.Hosts.Handing.{AreOthers}

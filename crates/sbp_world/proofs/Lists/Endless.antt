@@ -51,8 +51,8 @@ use Rattle.sbp_world.specs.Sending.{asked, posted, sent, sent_all, sent_to}
 use Rattle.sbp_world.specs.Telling.{holder, ticket_at, told, told_all}
 use Rattle.sbp_world.specs.Worlds.{Scene, WorldState, initiator_at, with_initiator, with_note, with_target}
 use Rattle.sbp_world.proofs.Wire.Comes.{own_inside, own_outside, received_is, to_own, to_zero}
-use Rattle.sbp_world.proofs.Agents.Management.InitiatorTells as own
-use Rattle.sbp_world.proofs.Agents.Management.Owned.{AreOwn, IsNoRun}
+use Rattle.sbp_world.proofs.InitiatorForms as own
+use Rattle.sbp_world.proofs.Formed.{AreOwn, IsNoRun}
 use Rattle.sbp_world.proofs.Agents.Seats.{marked_same}
 use Rattle.sbp_world.proofs.Agents.UnitsTurns.{second_spares, sight_spares}
 use Rattle.sbp_target.proofs.Histories.Calling.{Good}

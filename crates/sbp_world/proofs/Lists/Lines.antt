@@ -40,8 +40,8 @@ use Rattle.sbp_world.specs.Sending.{sent_all}
 use Rattle.sbp_world.specs.Telling.{told_all}
 use Rattle.sbp_world.specs.Worlds.{Scene, WorldState, initiator_at, with_initiator, with_note, with_target}
 use Rattle.sbp_world.proofs.Wire.Nodes.{handed_alike, marked_alike}
-use Rattle.sbp_world.proofs.Agents.Management.InitiatorTells as own
-use Rattle.sbp_world.proofs.Agents.Management.Owned.{AreOwn}
+use Rattle.sbp_world.proofs.InitiatorForms as own
+use Rattle.sbp_world.proofs.Formed.{AreOwn}
 use Rattle.sbp_world.proofs.Agents.Management.Still.{hist}
 use Rattle.sbp_world.specs.Hosts.Fits.{AreRows}
 use Rattle.sbp_world.proofs.Hosts.OrbRuns.{goes}

@@ -35,8 +35,8 @@ use Rattle.sbp_world.specs.Worlds.{WorldState, initiator_at, with_initiator, wit
 use Rattle.sbp_world.specs.Wire.Wires.{Stands}
 use Rattle.sbp_world.proofs.Wire.Nodes.{handed_alike}
 use Rattle.sbp_world.proofs.Agents.Management.Holding.{was_sent}
-use Rattle.sbp_world.proofs.Agents.Management.InitiatorTells as own
-use Rattle.sbp_world.proofs.Agents.Management.Owned.{AreOwn}
+use Rattle.sbp_world.proofs.InitiatorForms as own
+use Rattle.sbp_world.proofs.Formed.{AreOwn}
 use Rattle.sbp_world.proofs.Agents.Management.Still.{hist}
 use Rattle.sbp_world.specs.Pointers.Moments.{turn_of}
 use Rattle.sbp_world.specs.Lists.Needs.{IsCalm}

@@ -20,8 +20,9 @@ use Rattle.sbp_world.specs.Lines.{acted, acted_by, weight_in}
 use Rattle.sbp_world.specs.Sending.{asked as under_way, posted, sent, sent_all, sent_to}
 use Rattle.sbp_world.specs.Telling.{told, told_all}
 use Rattle.sbp_world.specs.Worlds.{WorldState, initiator_at, with_initiator}
-use Rattle.sbp_world.proofs.Agents.Management.InitiatorTells as own
-use Rattle.sbp_world.proofs.Agents.Management.Owned.{AreOwn, leaves_all}
+use Rattle.sbp_world.proofs.InitiatorForms as own
+use Rattle.sbp_world.proofs.Formed.{AreOwn}
+use Rattle.sbp_world.proofs.Agents.Management.Owned.{leaves_all}
 use Rattle.sbp_world.proofs.Agents.Management.Still.{hist}
 use Rattle.async_packet.specs.Labels.{LabelParts}
 use Rattle.sbp_world.proofs.Hosts.Remaining.{gets_same as got_same, ignores_that_same, opened_same as opens_same, times_out_same as late_same}

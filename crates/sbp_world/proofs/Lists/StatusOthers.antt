@@ -33,8 +33,8 @@ use Rattle.sbp_initiator.specs.Seeing.{see_step}
 use Rattle.sbp_target.specs.Receiving.{with_key}
 use Rattle.sbp_world.specs.Lines.{keyed, no_unit}
 use Rattle.sbp_world.specs.Packets.{at_initiator, initiator_expires, refused, timed_out}
-use Rattle.sbp_world.proofs.Agents.Management.InitiatorTells as own
-use Rattle.sbp_world.proofs.Agents.Management.Owned.{AreOwn}
+use Rattle.sbp_world.proofs.InitiatorForms as own
+use Rattle.sbp_world.proofs.Formed.{AreOwn}
 use Rattle.sbp_world.proofs.Lists.Adds.{Stays}
 use Rattle.sbp_world.proofs.Lists.Extends.{marked_fresh}
 use Rattle.sbp_world.proofs.Lists.Lines.{hears, own_lapses, own_sight, refuses}

@@ -19,7 +19,7 @@ use Rattle.sbp_world.specs.Delivering.{marked}
 use Rattle.sbp_world.specs.Handing.{handed_out}
 use Rattle.sbp_world.specs.Telling.{holder, told_all}
 use Rattle.sbp_world.specs.Worlds.{WorldState, with_initiator, with_note, without_notes}
-use Rattle.sbp_world.proofs.Agents.Management.Owned.{AreOwn}
+use Rattle.sbp_world.proofs.Formed.{AreOwn}
 use Rattle.sbp_world.proofs.Agents.Management.Still.{hist}
 use Rattle.sbp_world.specs.Hosts.Lasting.{Lasts}
 use Rattle.sbp_world.proofs.Hosts.OrbTerms.{AreStill}

@@ -32,9 +32,9 @@ use Rattle.sbp_world.specs.Agents.Management.Terms.{IsManagementAt}
 use Rattle.sbp_world.proofs.Agents.Management.Events.{heard_target}
 use Rattle.sbp_world.proofs.Agents.Management.Firsts.{got_there, ignored_office, rests}
 use Rattle.sbp_world.proofs.Agents.Management.Holding.{Holding, marked_hist, was_sent}
-use Rattle.sbp_world.proofs.Agents.Management.InitiatorTells.{receives}
+use Rattle.sbp_world.proofs.InitiatorForms.{receives}
 use Rattle.sbp_world.proofs.Agents.Management.Outs.{own_out}
-use Rattle.sbp_world.proofs.Agents.Management.Owned.{AreOwn}
+use Rattle.sbp_world.proofs.Formed.{AreOwn}
 use Rattle.sbp_world.proofs.Agents.Management.Passing.{Keeping, SameOffice, keeping, keeping_then, passed, same_rest}
 use Rattle.sbp_world.proofs.Agents.Management.Still.{ClosesOnly, Still, gets_but, hist, ignores_still, others_still}
 use Rattle.sbp_world.proofs.Agents.Management.Told.{office_in}

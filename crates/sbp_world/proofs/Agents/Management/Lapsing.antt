@@ -44,7 +44,7 @@ use Rattle.sbp_world.proofs.Agents.Management.Calls.{Doing, ForLapse, ForReply, 
 use Rattle.sbp_world.proofs.Agents.Management.Firsts.{lapsed_there, rests}
 use Rattle.sbp_world.proofs.Agents.Management.Hands.{carried, own_turn}
 use Rattle.sbp_world.proofs.Agents.Management.Holding.{Holding, good_of, law_of, ready_for}
-use Rattle.sbp_world.proofs.Agents.Management.InitiatorTells as own
+use Rattle.sbp_world.proofs.InitiatorForms as own
 use Rattle.sbp_world.proofs.Agents.Management.Lapse.{asked_as, begun_only, calm_lapse, from_asked, none_office, noted, own_lapse, under}
 use Rattle.sbp_world.proofs.Agents.Management.Managed.{IsReady}
 use Rattle.sbp_world.proofs.Agents.Management.Passing.{keeping, keeping_self, same_office}

@@ -41,7 +41,7 @@ use Rattle.sbp_world.specs.Agents.Management.Offices.{Office, at_rest}
 use Rattle.sbp_world.proofs.Agents.Management.Firsts.{opened_office}
 use Rattle.sbp_world.proofs.Agents.Management.Hands.{carried, heard, own_turn}
 use Rattle.sbp_world.proofs.Agents.Management.Holding.{Holding, past_terms}
-use Rattle.sbp_world.proofs.Agents.Management.InitiatorTells as own
+use Rattle.sbp_world.proofs.InitiatorForms as own
 use Rattle.sbp_world.proofs.Agents.Management.Lapsing.{refuses, times_out_line}
 use Rattle.sbp_world.proofs.Agents.Management.Passing.{keeping, keeping_self, keeping_then, opened_kept, reset_kept, same_office, same_rest}
 use Rattle.sbp_world.proofs.Agents.Management.Sights.{keys_line, sights, ticks_line}

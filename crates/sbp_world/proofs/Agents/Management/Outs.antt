@@ -26,7 +26,8 @@ use Rattle.sbp_world.specs.Agents.Management.Offices.{Office, office_of}
 use Rattle.sbp_world.proofs.Agents.Management.Calm.{AreQuiet}
 use Rattle.sbp_world.proofs.Agents.Management.Idle.{IsIdle, note_idle, none_wants}
 use Rattle.sbp_world.proofs.Agents.Management.Managing.{Says, quiet_says}
-use Rattle.sbp_world.proofs.Agents.Management.Owned.{AreOwn, leaves_all}
+use Rattle.sbp_world.proofs.Formed.{AreOwn}
+use Rattle.sbp_world.proofs.Agents.Management.Owned.{leaves_all}
 use Rattle.sbp_world.proofs.Agents.Management.Requests.{IsRequestFor, kind_for, writes_body}
 use Rattle.sbp_world.proofs.Agents.Management.Sides.{AllBehind, TellsBehind}
 use Rattle.sbp_world.proofs.Agents.Management.Still.{Still, all_before, hist}

@@ -38,7 +38,7 @@ use Rattle.sbp_world.proofs.Agents.Management.Calls.{forgets_if}
 use Rattle.sbp_world.proofs.Agents.Management.Firsts.{other_sight, sight_office, tick_office}
 use Rattle.sbp_world.proofs.Agents.Management.Hands.{own_turn}
 use Rattle.sbp_world.proofs.Agents.Management.Holding.{Holding, good_of, target_generation}
-use Rattle.sbp_world.proofs.Agents.Management.InitiatorTells as own
+use Rattle.sbp_world.proofs.InitiatorForms as own
 use Rattle.sbp_world.proofs.Agents.Management.Lapsing.{refuses}
 use Rattle.sbp_world.proofs.Agents.Management.Managing.{Says}
 use Rattle.sbp_world.proofs.Agents.Management.Outs.{says_out}
