@@ -58,11 +58,6 @@ answered_fine p bytes rcode given s h =
       all = record { all = λ q l i e. asks_more s.outbox.packets (answered p bytes rcode given s).outbox.packets (λ sent body. left_more s.outbox.packets packet sent body) l.fifo (desk_at s.node q) (h.all.all q l i e) };
     }
 
-answered_keeps : (p : Packet) (bytes : List ℕ) (rcode : ℕ) (given : List ℕ) (s : Scene) (sent : Sent) (body : Option Body) → Left s.outbox.packets sent body → Left (answered p bytes rcode given s).outbox.packets sent body
-unfolding answer_step
-answered_keeps p bytes rcode given s sent body h =
-    left_more s.outbox.packets (record { to = (header_in p).source; label = None; bytes = (answering_step s.node.layer p bytes rcode given).0 }) sent body h
-
 bare_state : (p : Phase) → state_in p ≡ states.Suspended → is_bare p ≡ true
 bare_state phases.Reset e = refl
 bare_state phases.Suspended e = refl

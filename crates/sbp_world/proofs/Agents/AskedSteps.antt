@@ -39,15 +39,6 @@ use Rattle.agent_laws.specs.Along.Requests.{ahead_ask, ahead_under, main_ask, ma
 use Rattle.sbp_world.specs.Agents.Asked.{IsBare, IsStill, IsUnder, UnderLaw, asks, reads_none}
 use Rattle.sbp_world.proofs.Agents.Sized.{answer_sized, idle_sized, nothing_sized, read_sized, write_sized}
 
--- nothing is read ahead
-bare_is : (a : ReadAhead) (ahead : Ask) (next : OrbPointer) → is_ahead a ≡ false → is_ahead a ≡ true → ahead_ask a next ≡ ahead
-bare_is a ahead next e f = absurd (false≢true (sym e ∙ f))
-
-idle_asks : (a : ReadAhead) (next other : OrbPointer) → is_ahead a ≡ false → ahead_ask a next ≡ ahead_ask a other
-idle_asks aheads.Idle next other e = refl
-idle_asks (aheads.UnderWay rung) next other e = absurd (true≢false e)
-idle_asks (aheads.Kept orb) next other e = refl
-
 -- ---- the present ORB ends, or the agent becomes dead
 ends : (ahead : Ask) (m : Machine) (kind : StatusKind) (dead : Option FailCause) → (is_ahead m.ahead ≡ true → ahead_under m ≡ ahead) → IsUnder ahead (end_step m kind dead)
 ends ahead m kind None h = record { main = λ e. refl; status = λ e. refl; turned = λ e. absurd (false≢true e); asked = λ e. absurd (false≢true e); kept = λ e f. h f; sized = write_sized (end_step m kind None).1 _ _ refl refl }

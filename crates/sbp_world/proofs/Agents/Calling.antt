@@ -166,9 +166,6 @@ module _ (topology : Topology) (node : NodeState) (g : Good node) (o : Office) (
             reply_told topology (record node { layer = layer }) lives f o (record { table = a.table; keys = a.keys; manager = a.manager }) v apart begins answer source (owned source e) e
 
     -- ---- a response
-    concluding : Answer → Option Purpose → Office
-    concluding answer (Some purposes.Management) = replied answer o
-    concluding answer purpose = o
 
     concluded_told : (run : Option Told) (peer : ℕ) (label : LabelParts) (p : Packet) (disks : List Disk) (layer : Layer Purpose) (lives : Lives) → From lives layer → (purpose : Option Purpose) → IsTold topology (delivered (of_response p label purpose) node o) v (concluded run purpose peer label (answer_in p) (whole (scene (record node { layer = layer }) empty_outbox) disks)).outbox.sides
     unfolding concluded

@@ -36,7 +36,6 @@ use Rattle.sbp_journal.specs.declared.side.Side.{Side}
 use Rattle.sbp_journal.specs.declared.side.Side.TheVariants as sides
 use Rattle.sbp_journal.specs.Outgoings.{OutboxState, empty_outbox}
 use Rattle.sbp_laws.specs.Targets.{Decided, at_id, disabled_at, has_id}
-use Rattle.sbp_target.specs.declared.desk.Desk.{Desk}
 use Rattle.sbp_target.specs.declared.purpose.Purpose.{Purpose}
 use Rattle.sbp_target.specs.declared.purpose.Purpose.TheVariants as purposes
 use Rattle.sbp_target.specs.Agents.{cut, told_cut}
@@ -44,7 +43,7 @@ use Rattle.sbp_target.specs.Desks.{reset_desk}
 use Rattle.sbp_target.specs.Management.{ask_manager, clear_one, cut_placed, decided_by, effect_by, failed_by, lose_operation, lost_in, manager_asked, manager_body, manager_lost, manager_sent, place_in, tell_failed, with_manager}
 use Rattle.sbp_target.specs.Nodes.{NodeState, Scene, desk_at, login_at, scene, with_desk}
 use Rattle.sbp_target.specs.Receiving.{expired_from, held_from, tell_held}
-use Rattle.sbp_target.specs.Sending.{answered_by, request_step as asks_step, sent_by, with_side}
+use Rattle.sbp_target.specs.Sending.{request_step as asks_step, sent_by, with_side}
 use Rattle.sbp_target.specs.Serving.{answered, start, started_by}
 use Rattle.sbp_target.specs.Units.{clear_from, clear_unit, cut_all, cut_at, cut_from, is_cut}
 use Rattle.sbp_world.specs.Agents.Management.Offices.{Office, by_managed, by_side, by_sides, placed, placed_by}
@@ -277,9 +276,6 @@ module _ (base : List Side) where
   unfolding ask_manager
   asks_more source ask s m = asked_more (manager_body ask s.node.manager.outgoing) source s m
 
-answer_sides : (r : List ℕ × Layer Purpose) (o : OutboxState) (source : ℕ) → (answered_by r o source).1.sides ≡ o.sides
-answer_sides (bytes, layer) o source = refl
-
 -- an operation that starts tells mute sides at most
 starts_tell : (source : ℕ) (request : Packet) (bytes : List ℕ) (r : Result Ask Busy × management.Machine) (s : Scene) → s.outbox.sides ≡ [] → More [] (started_by source request bytes r s).outbox.sides
 starts_tell source request bytes (Ok ask, m) s e =
@@ -498,9 +494,6 @@ module _ (node : NodeState) (live : AreLive node) (apart : AreApart node.logins.
         let off = off_at E k other size small in
         entered_off other small (slice_set E k false) (λ f. off ∙ cond_off (nat_eq other k) (slice_index_or E other false) (first other small ∙ f))
         (λ f l. off ∙ ap (λ b. cond b false (slice_index_or E other false)) (replaced_keeps id r other l k e) ∙ first other small ∙ f)
-
-    abbrev fresh : Desk
-    fresh = record (desk_at node place) { pointer = None; is_enabled = false }
 
     entered_ends : (replaced : Option ℕ) (begun : NodeState) (subject : ℕ) → begun.desks ≡ node.desks → IsOld replaced node.logins.places → (let x = effect_by (effects.Entered place replaced) subject (scene begun empty_outbox) in Ends x.outbox.sides x.node)
     entered_ends None begun subject d i other small =

@@ -487,9 +487,6 @@ module _ (units ready : ℕ) (has : 0 < units) (start : List Disk) {past : List 
             abbrev its : IsServing w.target place (sent_to (header_in p).source label) (for_it p read some label (Some (purposes.Agent place)) layer e a requests are known place refl).which
             its = serving_it p read some label (Some (purposes.Agent place)) layer e a requests are known place refl
 
-            abbrev its_which : Which
-            its_which = (for_it p read some label (Some (purposes.Agent place)) layer e a requests are known place refl).which
-
             abbrev its_plain : PlainDisk
             its_plain = plain_in w.target.units media.disks its.login.unit
 

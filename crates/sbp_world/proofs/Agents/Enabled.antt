@@ -185,8 +185,6 @@ module _ (Live : ℕ → Type 0) where
   lapses place peer label s h = lapses_by place (login_at s.node place) (which_in (desk_at s.node place) peer label) s h
 
   -- ---- the registers of an agent
-  pub answers : (request : Packet) (bytes : List ℕ) (rcode : ℕ) (given : List ℕ) (s : Scene) → Enabled Live s.node → Enabled Live (answered request bytes rcode given s).node
-  answers request bytes rcode given s h = h
 
   asks_in : (place : ℕ) (ask : Ask) (login : Option Login) (s : Scene) → Enabled Live s.node → Enabled Live (asked_in place ask login s).node
   asks_in place ask None s h = h

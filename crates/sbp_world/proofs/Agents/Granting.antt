@@ -84,10 +84,6 @@ module _ (subject : ℕ) where
   neither : (word : FunctionWord) (status : ℕ) (effect : Effect) → IsNeither word → (IsBack effect → ⊥) → Grants word status subject effect
   neither word status effect n b = record { back = λ x. absurd (b x); reconnects = λ w s. absurd (neither_reconnect word n w); unit = λ w s. absurd (neither_login word n w) }
 
-  decides_if : (b : Bool) (word : FunctionWord) (x y : Outcome) → Decides word x → Decides word y → Decides word (cond b x y)
-  decides_if true word x y p q = p
-  decides_if false word x y p q = q
-
   refuses : (word : FunctionWord) (refusal : LoginRefusal) → Decides word (with_status (status_of refusal))
   refuses word refusals.Denied = fails word _ refl
   refuses word refusals.NoRoom = fails word _ refl

@@ -42,14 +42,13 @@ use Rattle.sbp_target.specs.declared.purpose.Purpose.{Purpose}
 use Rattle.sbp_target.specs.declared.purpose.Purpose.TheVariants as purposes
 use Rattle.sbp_target.specs.Agents.{after_ahead, after_loss, after_main, agent_body, ahead_asked, ahead_sent, ask_main, cut, dropped_by, follow, lose, lose_main, lost_by, main_asked, main_sent, noted, promoted_by, send_ahead, sent_to, told_cut, without_ahead}
 use Rattle.sbp_target.specs.Desks.{expired_desk, new_desk, point_desk, pointed_desk, promoted_desk, reset_desk, taken, which_in}
-use Rattle.sbp_target.specs.Management.{clear_one, cut_placed}
 use Rattle.sbp_target.specs.Nodes.{NodeState, Scene, desk_at, login_at, scene, with_agent, with_desk}
 use Rattle.sbp_target.specs.Receiving.{expire_agent, expired_by, expired_with}
 use Rattle.sbp_target.specs.Replies.{Stage, Whole, advance, advanced_with, announced_by, came, changed_by, follow_all, plain_at, replied, replied_by, replied_to, replied_with, scene_of, served_login, stage}
 use Rattle.sbp_target.specs.Sending.{answer_step, answered_by, request_step, sent_by, with_side}
 use Rattle.sbp_target.specs.Serving.{accessed_by, answered, asked_in, enabled, point, pointed_by, ring, rung_by}
 use Rattle.sbp_target.specs.Telling.{orb_of, tell_dead, tell_ended, tell_ran, tell_step}
-use Rattle.sbp_target.specs.Units.{announce_at, announce_from, announce_in, announce_to, clear_from, clear_unit, cut_all, cut_at, cut_from, hears, is_cut, is_pending, unsolicited_by}
+use Rattle.sbp_target.specs.Units.{announce_at, announce_from, announce_in, announce_to, hears, is_pending, unsolicited_by}
 use Rattle.sbp_world.proofs.Agents.Loads.{came_not, came_there}
 use Rattle.sbp_world.proofs.Agents.AskedReplies.{served_is}
 
@@ -357,36 +356,6 @@ module _ (q unit : ℕ) (places : List (Option Login)) (before : ℕ → Bool) w
     cuts_at cause place s h =
         let b = is_reset (state_in (desk_at s.node place).agent.phase) in
         changes (scene s.node (told_cut b place cause s.outbox)) _ (told_cut b place cause s.outbox) place (reset_desk (desk_at s.node place)) refl refl (cut_tells b place cause s h)
-
-    cuts_one : (cause : CutCause) (which : Option ℕ) (place : ℕ) (s : Scene) → C ran s → C ran (cut_at cause which place s)
-    unfolding cut_at
-    cuts_one cause which place s h = pick (is_cut which (login_at s.node place)) (cut cause place s) s (cuts_at cause place s h) h
-
-    cuts_from : (left place : ℕ) (cause : CutCause) (which : Option ℕ) (s : Scene) → C ran s → C ran (cut_from left place cause which s)
-    unfolding cut_from
-    cuts_from zero place cause which s h = h
-    cuts_from (suc left) place cause which s h = cuts_from left (place + 1) cause which (cut_at cause which place s) (cuts_one cause which place s h)
-
-    pub cuts_all : (cause : CutCause) (which : Option ℕ) (s : Scene) → C ran s → C ran (cut_all cause which s)
-    cuts_all cause which s h = cuts_from 8 0 cause which s h
-
-    pub cuts_placed : (place : Option ℕ) (cause : CutCause) (s : Scene) → C ran s → C ran (cut_placed place cause s)
-    cuts_placed None cause s h = h
-    cuts_placed (Some place) cause s h = cuts_at cause place s h
-
-    clears : (which : ℕ) (s : Scene) → C ran s → C ran (clear_unit which s)
-    unfolding clear_unit
-    clears which s h =
-        let t = tells (sides.Cleared which) s tt (λ place b. refl) (λ b e. e) h in
-        record { registers = t.registers; heard = t.heard; has_run = t.has_run; logins = t.logins }
-
-    pub clears_from : (left which : ℕ) (s : Scene) → C ran s → C ran (clear_from left which s)
-    unfolding clear_from
-    clears_from zero which s h = h
-    clears_from (suc left) which s h = clears_from left (which + 1) (clear_unit which s) (clears which s h)
-
-    pub clears_one : (which : ℕ) (s : Scene) → C ran s → C ran (clear_one which s)
-    clears_one which s h = pick (nat_lt which (length s.node.units)) (clear_unit which s) s (clears which s h) h
 
   -- ---- unsolicited statuses, behind a run
   announced : (place peer : ℕ) (s : Scene) (r : Option LabelParts × (Layer Purpose × OutboxState)) → r.1.1.sides ≡ s.outbox.sides → Hears unit places place → C true s → C true (unsolicited_by place peer s.node r)

@@ -155,10 +155,6 @@ module _ (orb : ManagementOrb) (source eui : ℕ) (t : Table) (s : IsSound t.pla
       (decides_if (lacks_key (key_at orb.subject keys) orb) words.Login t (with_status statuses.AccessDenied, t) last (plain words.Login (with_status statuses.AccessDenied) t refl (λ o agents. refl))
       (login_if_denied (table.is_denied asked t.places) (Err refusals.Denied, t) (table.enter_at (position is_none left) t left (id_at k t.places) asked) (refuses refusals.Denied t) (enters k (position is_none left) refl refl)))
 
-  -- a function that is no login
-  other_by : (word : FunctionWord) (x : Outcome) (now : Table) → IsOther word → ((word : FunctionWord) → IsOther word → (first : Office) → HiresIn word t first (number_of x.status) x.login x.effect) → ((unit : ℕ) → x.effect ≡ effects.UnitReset unit → now ≡ t) → Decides word t (x, now)
-  other_by word x now h f k = record { hires = λ first d g e. f word h first; keeps = k }
-
   queries : (b : Bool) (word : FunctionWord) (x y : Outcome) → IsOther word → x.effect ≡ effects.Nothing → y.effect ≡ effects.Nothing → Decides word t (cond b x y, t)
   queries true word x y h e f = plain word x t e (λ o agents. other_hires word (login_if word (number_of x.status) x.login) o agents h)
   queries false word x y h e f = plain word y t f (λ o agents. other_hires word (login_if word (number_of y.status) y.login) o agents h)

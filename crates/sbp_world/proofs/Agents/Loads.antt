@@ -38,10 +38,6 @@ inside disks unit y false l e =
 pub came_there : (disks : List Disk) (unit : ℕ) (y : Disk) → came (disk_at disks unit) (disk_at (slice_set disks unit y) unit) ≡ true → came (disk_at disks unit) y ≡ true
 came_there disks unit y e = inside disks unit y (nat_lt unit (length disks)) refl e
 
-write_not : (b : Bool) (d : Disk) (w : Disk) → w.is_present ≡ d.is_present → came d (cond b d w) ≡ true → ⊥
-write_not true d w s e = came_not d e
-write_not false d w s e = came_not d (ap (λ (p : Bool). not d.is_present && p) (sym s) ∙ e)
-
 eject_not : (b : Bool) (d w : Disk) → w.is_present ≡ false → came d (cond b w d) ≡ true → ⊥
 eject_not true d w s e = absent d.is_present (ap (λ (p : Bool). not d.is_present && p) (sym s) ∙ e)
 eject_not false d w s e = came_not d e

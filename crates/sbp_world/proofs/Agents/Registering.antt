@@ -41,7 +41,6 @@ use Rattle.sbp_target.specs.Nodes as target
 use Rattle.sbp_target.specs.Receiving.{expired, received, with_key}
 use Rattle.sbp_world.specs.declared.parts.delivering.Arrival.{Arrival}
 use Rattle.sbp_world.specs.Delivering.{arrived, at_target, delivered, delivered_by, initiator_received, initiators_received, marked, received_by, received_step, target_received, whole_of, with_initiators}
-use Rattle.sbp_world.specs.FitTarget.{BytesTold}
 use Rattle.sbp_world.specs.Handing.{handed_out}
 use Rattle.sbp_world.specs.Histories.{moments_behind}
 use Rattle.sbp_world.specs.Lines.{acted, acted_by, happens, keyed, no_unit, weight_in}
@@ -73,10 +72,6 @@ use Rattle.sbp_world.proofs.Agents.Holders.{seats_after}
 use Rattle.sbp_world.proofs.Agents.Seats.{Seats}
 use Rattle.sbp_world.proofs.Agents.Seating.{all_seats, opened as seats_opened}
 use Rattle.sbp_world.proofs.Hosts.Runs.{are_told}
-
-first_bytes : (told : List (Option Told)) → AreTold told → BytesTold (first_told told)
-first_bytes [] t = tt
-first_bytes (told ∷ before) t = t.0
 
 -- ---- a note of an initiator says nothing of registers
 own_still : (note : Note) → IsNoRun note → IsStill note

@@ -90,9 +90,6 @@ answered_told : (first a : Agent) (request : Packet) (bytes : List ℕ) (rcode :
 unfolding answer_step
 answered_told first a request bytes rcode given s t = record { is = t.is; silent = silent_more s.outbox.packets _ t.silent refl }
 
-answered_desks : (request : Packet) (bytes : List ℕ) (rcode : ℕ) (given : List ℕ) (s : Scene) → (answered request bytes rcode given s).node.desks ≡ s.node.desks
-answered_desks request bytes rcode given s = refl
-
 unsent : (phase : Phase) → state_in phase ≡ states.Reset → is_sent phase ≡ false
 unsent phases.Reset e = refl
 unsent phases.Suspended e = cc

@@ -129,10 +129,6 @@ module _ (u v : Bool) where
     };
   }
 
-  -- a phase in which nothing of the buffer counts
-  abbrev IsPlain : Phase → Type 0
-  IsPlain p = (moves_data p ≡ false) × (answers p ≡ false)
-
   -- a list is opened, or goes on
   pub fetch_same : (x m : Machine) (next : ℕ) → Same (fetch_step x next) (fetch_step m next)
   fetch_same x m next = record {

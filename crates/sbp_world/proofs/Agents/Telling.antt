@@ -83,10 +83,6 @@ unfolding told_all
 told_snoc [] side w = refl
 told_snoc (first ∷ before) side w = told_snoc before side (told 0 first w)
 
-none_told : (w : WorldState) → told_all 0 [] w ≡ w
-unfolding told_all
-none_told w = refl
-
 -- ---- an office and a world, behind what was told
 module _ (topology : Topology) (first : Office) (v : WorldState) where
   abbrev pub IsTold : List Side → Type 0

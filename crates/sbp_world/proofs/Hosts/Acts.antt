@@ -155,9 +155,6 @@ module _ (past : List Moment) where
     beside = h.beside;
   }
 
-  beside_listed : (o : OutboxState) (s u : InitiatorState) → u.number ≡ s.number → u.lists ≡ s.lists → u.operation ≡ s.operation → Listed past (o, s) → Listed past (o, u)
-  beside_listed o s u n l p h = first_listed true o s u n l p h
-
 -- ---- an abort waits for an ORB
 
 row_free : (b : Bool) (n : ℕ) (rest : Option ℕ) → cond b (Some n) rest ≡ None → (b ≡ false) × (rest ≡ None)

@@ -34,10 +34,6 @@ wire_is (said note ∷ past) i = ap (passed (said note)) (wire_is past i)
 
 -- ---- what a choice makes of it
 
-core_if : (b : Bool) (x y : Host) → host_core (cond b x y) ≡ cond b (host_core x) (host_core y)
-core_if true x y = refl
-core_if false x y = refl
-
 same_if : (b : Bool) (x y : Host) → host_core x ≡ host_core y → host_core (cond b x y) ≡ host_core y
 same_if true x y e = e
 same_if false x y e = refl

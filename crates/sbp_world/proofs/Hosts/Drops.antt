@@ -80,9 +80,6 @@ dropped_rows t rows s g r h =
 abbrev pub seen_terms : ListTerms → ListTerms
 seen_terms t = record t { present = None; pinned = None }
 
-freed_row : (slot : Slot) → row (table.freed slot) ≡ vacant
-freed_row slot = refl
-
 freed_rows : (slots : List Slot) → map row (map table.freed slots) ≡ replicate (length slots) vacant
 freed_rows [] = refl
 freed_rows (slot ∷ slots) = ap (λ xs. vacant ∷ xs) (freed_rows slots)

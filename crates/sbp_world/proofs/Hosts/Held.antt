@@ -26,10 +26,6 @@ judged_if : (b : Bool) (begun : Option Transaction) (s : ℕ) (packet : Sending)
 judged_if true begun s packet t = judged_quiet begun (Some causes.Grammar) s packet t
 judged_if false begun s packet t = record { held = refl; generation = refl }
 
--- what is done to some terms that have the same labels
-then_quiet : {t u v : Terms} → Quiet t u → Quiet u v → Quiet t v
-then_quiet a b = record { held = b.held ∙ a.held; generation = b.generation ∙ a.generation }
-
 ignored_by : (cause : Cause) (s : ℕ) (packet : Sending) (t : Terms) → Quiet t (ignores cause s packet t)
 ignored_by causes.Generation s packet t = record { held = refl; generation = refl }
 ignored_by causes.Grammar s packet t = let q = judged_if _ (asked_by packet) s packet (is_news s t) in record { held = q.held; generation = q.generation }

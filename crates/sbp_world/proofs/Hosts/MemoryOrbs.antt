@@ -1,7 +1,5 @@
 -- The bytes of an ORB and of a page table in a slot, as the run terms have them.
-use Rattle.std.proofs.Common.{◌≡◌, refl, sym, ap, ◌∙◌, ℕ, suc, ◌+◌, ◌*◌, ◌≤◌, nat_le, nat_lt, Bool, true, false, cond, List, ◌++◌, length, take, drop}
-use Rattle.std.proofs.Math.Seq.{take-append_seam}
-use Rattle.std.proofs.lemmas.List.{drop-take, take-take}
+use Rattle.std.proofs.Common.{◌≡◌, refl, sym, ap, ◌∙◌, ℕ, suc, ◌+◌, ◌*◌, nat_le, nat_lt, Bool, true, false, cond, List, ◌++◌, length, drop}
 use Rattle.byteorder.specs.Endian.{big_bytes}
 use Rattle.bus_memory.specs.declared.slot.SlotMemory.{SlotMemory}
 use Rattle.bus_memory.specs.declared.window.Window.TheVariants as windows
@@ -16,7 +14,7 @@ use Rattle.orb_list.proofs.Held.{table_length}
 use Rattle.sbp_journal.specs.Run.{Moment}
 use Rattle.sbp_journal.specs.declared.event.Cmd.{Cmd}
 use Rattle.sbp_laws.specs.Lists.{command_at, is_dummy, slot_at as place_at}
-use Rattle.sbp_laws.specs.Served.{asked_for, id_as_prepared, in_front, next_high, next_low, orb_held, with_format}
+use Rattle.sbp_laws.specs.Served.{asked_for, id_as_prepared, next_high, next_low, orb_held, with_format}
 use Rattle.sbp_world.proofs.Hosts.OrbFits.{OrbFits, low_to}
 use Rattle.sbp_world.proofs.Hosts.OrbTerms.{OrbTerms, orb_terms}
 
@@ -68,14 +66,3 @@ module _ (past : List Moment) (i : ℕ) (o : Kept) (f : OrbFits (orb_terms past 
 
 pub table_size : (slot at : ℕ) (segments : List ℕ) → length (table_bytes slot at segments) ≡ 8 * length segments
 table_size slot at segments = table_length slot at segments
-
--- what lies in the front of a list is read of that front
-pub cut_front : (at count : ℕ) (front xs : List ℕ) → take (length front) xs ≡ front → at + count ≤ length front → take count (drop at xs) ≡ take count (drop at front)
-cut_front at count front xs e h =
-    sym (drop-take at count xs)
-    ∙ (ap (drop at) (sym (take-take (at + count) (length front) xs h) ∙ ap (take (at + count)) e)
-    ∙ drop-take at count front)
-
--- of a page table with something behind it
-pub cut_in_front : (at count : ℕ) (table before : List ℕ) → at + count ≤ length table → take count (drop at (in_front table before)) ≡ take count (drop at table)
-cut_in_front at count table before h = cut_front at count table (in_front table before) (take-append_seam table (drop (length table) before)) h

@@ -22,7 +22,6 @@ use Rattle.sbp_journal.specs.Outgoings.{OutboxState}
 use Rattle.sbp_journal.specs.declared.event.Action.{Action}
 use Rattle.sbp_journal.specs.declared.event.Action.TheVariants as actions
 use Rattle.sbp_journal.specs.declared.event.Cmd.{Cmd}
-use Rattle.sbp_journal.specs.declared.operation.Operation.{Operation}
 
 -- ---- the steps of the slots
 
@@ -87,9 +86,6 @@ module _ (plans : List AnswerPlan) where
   dummy_plan : (found : Option TicketParts) (o : OutboxState) (s : InitiatorState) → K s → K (dummy_for found o s).1
   dummy_plan None o s k = k
   dummy_plan (Some t) o s k = dummied s.lists t ∙ k
-
-  manage_plan : (orb : ManagementOrb) (operation : Operation) (s : InitiatorState) → K s → K (managed_by orb operation s)
-  manage_plan orb operation s k = managed s.lists _ orb ∙ k
 
   pin_plan : (found : Option TicketParts) (s : InitiatorState) → K s → K (pinned_for found s)
   pin_plan None s k = k

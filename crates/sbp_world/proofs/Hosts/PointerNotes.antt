@@ -23,7 +23,7 @@ use Rattle.sbp_journal.specs.declared.operation.OpWord.TheVariants as words
 use Rattle.sbp_journal.specs.declared.side.Side.{Side}
 use Rattle.sbp_journal.specs.declared.side.Side.TheVariants as sides
 use Rattle.sbp_initiator.specs.Refusals.{rings}
-use Rattle.sbp_laws.specs.Hosts.{Host, Underway, acted, goes_on, got_by, host_at, is_serial, known_host, list_begins, op_ended, op_left, operation_of, pointer_answered, ready_host, reset_seen, ring, sent_as, sent_in}
+use Rattle.sbp_laws.specs.Hosts.{Host, Underway, acted, goes_on, got_by, host_at, is_serial, known_host, list_begins, op_ended, op_left, operation_of, pointer_answered, reset_seen, ring, sent_as, sent_in}
 use Rattle.sbp_laws.specs.Lists.{present_list}
 use Rattle.sbp_laws.specs.Packets.{answer_in, answered_at, packet_at, receiver_in, sender_in}
 use Rattle.sbp_laws.specs.Turns.{event_of}
@@ -130,10 +130,6 @@ answered_pointer NoLabel own host = refl
 got_fades : (own : Option ℕ) (wire : Terms) (serial : ℕ) (present : Option ℕ) (host : Host) → Fades (got_by own wire serial present host) host
 got_fades (Some own) wire serial present host = same_fades (got_by (Some own) wire serial present host) host (answered_pointer (answer_in (packet_at wire serial)) (is_serial host.pointer own) host)
 got_fades None wire serial present host = λ s e. e
-
-begun_fades : (b : Bool) (i : ℕ) (host : Host) → Fades (cond b (ready_host i) host) host
-begun_fades true i host = gone_fades (ready_host i) host refl
-begun_fades false i host = λ serial e. e
 
 -- ---- what a note leaves
 

@@ -15,13 +15,12 @@ use Rattle.label_table.specs.Layer.{Layer, asked_at, asking_in, asking_step, pee
 use Rattle.label_table.specs.Peers.{PeerPlace, ask_place, purpose_for, state_for}
 use Rattle.label_table.specs.declared.reply.NoLabel.{NoLabel}
 use Rattle.async_packet.specs.Labels.{LabelParts}
-use Rattle.orb_list.specs.declared.list.PresentList.{PresentList}
 use Rattle.sbp_initiator.specs.declared.purpose.Pointing.{Pointing}
 use Rattle.sbp_initiator.specs.declared.purpose.Pointing.TheVariants as pointings
 use Rattle.sbp_initiator.specs.declared.purpose.Purpose.{Purpose}
 use Rattle.sbp_initiator.specs.declared.purpose.Purpose.TheVariants as purposes
 use Rattle.sbp_initiator.specs.declared.state.InitiatorState.{InitiatorState}
-use Rattle.sbp_initiator.specs.States.{is_list, is_unwritten}
+use Rattle.sbp_initiator.specs.States.{is_unwritten}
 use Rattle.sbp_journal.specs.Run.{Moment}
 use Rattle.sbp_journal.specs.Transactions.{Kind, Sending, Transaction, begun_by, is_same, part_of}
 use Rattle.sbp_journal.specs.Wire.{Held, Terms, kind_in, sends, terms, waits}
@@ -88,14 +87,6 @@ module _ {ready : Bool} {past : List Moment} {i : ℕ} {s : InitiatorState} (h :
 
     pub wrote_at : is_some (pointer past i) ≡ true
     wrote_at = wrote_is ∙ ap (λ (p : Pointing). not (is_unwritten p)) written_at
-
-    some_list : (present : Option PresentList) → is_list present list ≡ true → is_some present ≡ true
-    some_list None e = untrue e
-    some_list (Some present) e = refl
-
-    pub present_at : is_some s.lists.slots.present ≡ true
-    present_at =
-        some_list s.lists.slots.present (pointing_of.present (record { list = list; write = record { peer = s.target; number = number; serial = a.serial; kind = a.kind; state = a.state; is_for = a.is_for } }))
 
 -- ---- what is named
 

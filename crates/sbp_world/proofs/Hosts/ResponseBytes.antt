@@ -1,5 +1,5 @@
 -- The payload of the response to a block read that is complete.
-use Rattle.std.proofs.Common.{arith, ◌≡◌, refl, sym, ap, ◌∙◌, ℕ, zero, suc, ◌-◌, ◌^◌, ◌<◌, ◌≤◌, ◌==◌, Bool, true, false, cond, List, [], ◌∷◌, length, take, Option, Some, None, Ok}
+use Rattle.std.proofs.Common.{arith, ◌≡◌, refl, sym, ap, ◌∙◌, ℕ, ◌^◌, ◌<◌, ◌≤◌, ◌==◌, Bool, true, false, cond, List, [], ◌∷◌, length, take, Option, Some, None, Ok}
 use Rattle.std.proofs.lemmas.Bool.Decides.{nat_tests}
 use Rattle.std.proofs.lemmas.Bool.{true≢false}
 use Rattle.async_packet.specs.Canon.{FitsHeader, canon}
@@ -165,9 +165,3 @@ front_pointer (a ∷ b ∷ c ∷ d ∷ e ∷ []) = refl
 front_pointer (a ∷ b ∷ c ∷ d ∷ e ∷ f ∷ []) = refl
 front_pointer (a ∷ b ∷ c ∷ d ∷ e ∷ f ∷ g ∷ []) = refl
 front_pointer (a ∷ b ∷ c ∷ d ∷ e ∷ f ∷ g ∷ h ∷ rest) = refl
-
-pub front_short : (xs : List ℕ) (n : ℕ) → length xs ≤ n → (k : ℕ) → length (take k xs) ≤ n
-front_short [] n h zero = h
-front_short [] n h (suc k) = h
-front_short (x ∷ xs) n h zero = omega arith
-front_short (x ∷ xs) n h (suc k) = let f = front_short xs (n - 1) (omega arith) k in omega arith

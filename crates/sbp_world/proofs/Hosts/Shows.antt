@@ -1,5 +1,5 @@
 -- The labels of the initiators of a world, by its history: as a world stands, as a packet is judged, and as a transaction times out.
-use Rattle.std.proofs.Common.{arith, ◌≡◌, refl, sym, ◌∙◌, ap, subst, ℕ, zero, suc, ◌<◌, ◌≤◌, ◌==◌, nat_eq, not, is_ok, Bool, true, false, cond, ◌||◌, List, ◌∷◌, length, map, position, replicate, slice_index_or, Option, Some, None, Result, Ok, Err}
+use Rattle.std.proofs.Common.{arith, ◌≡◌, refl, sym, ◌∙◌, ap, subst, ℕ, suc, ◌<◌, ◌≤◌, ◌==◌, nat_eq, not, is_ok, Bool, true, false, cond, ◌||◌, List, ◌∷◌, length, map, position, slice_index_or, Option, Some, None, Result, Ok, Err}
 use Rattle.std.proofs.lemmas.Bool.Decides.{nat_tests}
 use Rattle.std.proofs.Math.ListN.{get_or-map}
 use Rattle.sbp_base.specs.Update.{upd}
@@ -64,10 +64,6 @@ use Rattle.sbp_world.proofs.Hosts.Shown.{IsHeard, IsShown, NotFrom, NotTo}
 use Rattle.sbp_world.proofs.Agents.Purposes.{peer_bare}
 
 -- ---- a layer without what its transactions are for has the same labels
-
-none_bare : (P : Type 0) (n : ℕ) → map (bare_purpose {P = P}) (replicate n None) ≡ replicate n None
-none_bare P zero = refl
-none_bare P (suc n) = ap (λ xs. None ∷ xs) (none_bare P n)
 
 module _ {P : Type 0} where
   owned_bare : (s : ℕ) (peers : List (PeerPlace P)) → owned_place peer_of s (map bare_place peers) ≡ owned_place peer_of s peers

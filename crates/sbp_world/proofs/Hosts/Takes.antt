@@ -230,9 +230,6 @@ module _ (t : ListTerms) (s : SlotTable) (list : PresentList) (f : Fits t (recor
 
   -- ---- the rows
 
-  used_row : row_by states.Waiting (Some u) ≡ used (name u)
-  used_row = refl
-
   row_here : row (slot_in s.slots u.slot) ≡ used (name u)
   row_here = ap (λ c. row_by c (slot_in s.slots u.slot).last) (waits_state (slot_in s.slots u.slot) u w) ∙ ap (row_by states.Waiting) at
 

@@ -8,7 +8,7 @@ use Rattle.command_agent.specs.declared.step.AgentState.TheVariants as states
 use Rattle.command_agent.specs.declared.step.AgentStep.{AgentStep}
 use Rattle.command_agent.specs.declared.step.Which.{Which}
 use Rattle.command_agent.specs.declared.step.Which.TheVariants.{Ahead, Main}
-use Rattle.command_agent.specs.Machine.{Machine, is_ahead, new_machine, state_in}
+use Rattle.command_agent.specs.Machine.{Machine, is_ahead, state_in}
 use Rattle.command_agent.specs.Steps.{abort_step, ahead_lost, doorbell_in, doorbell_step, lost_step, main_lost, point_in, point_step, pointed, quiet, reset_step}
 use Rattle.orb_layout.specs.declared.ask.FailCause.{FailCause}
 use Rattle.orb_layout.specs.declared.pointer.OrbPointer.{OrbPointer}
@@ -18,9 +18,6 @@ use Rattle.sbp_world.specs.Agents.Alike.{answers}
 
 abbrev pub IsWay : Machine → Type 0
 IsWay m = answers m.phase ≡ true → m.orb.to_initiator ≡ true
-
-pub new_way : IsWay new_machine
-new_way e = absurd (false≢true e)
 
 pub reset_way : (m : Machine) → IsWay (reset_step m)
 unfolding reset_step

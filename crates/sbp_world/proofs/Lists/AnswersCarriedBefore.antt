@@ -55,14 +55,6 @@ got_moment (said (notes.Got other) ∷ past) serial e = by (λ f. got_moment pas
     by again false f g = let w = again g in record { later = said (notes.Got other) ∷ w.later; before = w.before; is = ap (λ ms. said (notes.Got other) ∷ ms) w.is }
 got_moment (m ∷ past) serial e = let w = got_moment past serial e in record { later = m ∷ w.later; before = w.before; is = ap (λ ms. m ∷ ms) w.is }
 
-got_still : (m : Moment) (past : List Moment) (serial : ℕ) → was_got past serial ≡ true → was_got (m ∷ past) serial ≡ true
-got_still (said (notes.Got other)) past serial e = by (other == serial)
-  where
-    by : (b : Bool) → cond b true (was_got past serial) ≡ true
-    by true = refl
-    by false = e
-got_still m past serial e = e
-
 pub got_then : (past : List Moment) (serial : ℕ) → WasGot past serial → was_got past serial ≡ true
 got_then past serial w = subst (λ ms. was_got ms serial ≡ true) w.is (got_later w.later (said (notes.Got serial) ∷ w.before) serial (got_now w.before serial))
 

@@ -59,11 +59,6 @@ pub record DueEnd (before : List Moment) (one : EndedOrb) : Type 0 where
 further : (m : Moment) (past : List Moment) (one : EndedOrb) → (terms (m ∷ past)).generation 0 ≡ (terms past).generation 0 → DueEnd past one → DueEnd (m ∷ past) one
 further m past one same d = record { later = m ∷ d.later; rest = d.rest; status = d.status; is = ap (λ ms. m ∷ ms) d.is; level = same ∙ d.level }
 
-no_line : (past : List Moment) (one : EndedOrb) → BeginsLine past → status_due past ≡ Some one → DueEnd past one
-no_line [] one b e = none_due one e
-no_line (asked line event ∷ past) one b e = none_due one e
-no_line (said note ∷ past) one b e = absurd b
-
 pub due_end : (before : List Moment) (one : EndedOrb) → EachMoment SightAt before → status_due before ≡ Some one → DueEnd before one
 due_end [] one sights e = none_due one e
 due_end (asked line event ∷ past) one sights e = none_due one e

@@ -180,9 +180,6 @@ module _ (start : List Disk) (wild : ℕ → Bool) (i : ℕ) (own : wild i ≡ f
       abbrev whole_then : IsDataOf start all i n k w.serial w.packet w.slot
       whole_then = out i all front past at sound.serials n k w.serial w.slot w.packet w.of
 
-      piece_len : ℕ
-      piece_len = length w.of.writes.access.payload
-
       behind : IsBehind (to_pieces past) (brought past) w.of.was.machine.written w.of.writes.access → IsReady past done
       behind b =
           let access = w.of.writes.access in

@@ -61,8 +61,3 @@ module _ (past : List Moment) (q : ℕ) where
   unfolding told_all
   step_runs i n k [] w h f = refl
   step_runs i n k (one ∷ later) w h f = step_runs i n k later (told 0 one w) h.1 (λ same. f (same ∙ one_holder one w h.0)) ∙ one_runs i n k one w h.0 f
-
-  pub step_holder : (side : List Side) (w : WorldState) → AreOf q side → (holder (told_all 0 side w) q).initiator ≡ (holder w q).initiator
-  unfolding told_all
-  step_holder [] w h = refl
-  step_holder (one ∷ later) w h = step_holder later (told 0 one w) h.1 ∙ one_holder one w h.0

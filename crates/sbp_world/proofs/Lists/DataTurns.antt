@@ -3,7 +3,7 @@
 use Rattle.sbp_world.proofs.Lists.AnswerRuns.{answer_on}
 use Rattle.sbp_world.specs.Lists.AnswersTold.{IsAnswerOf}
 use Rattle.rbc_disk.specs.Disk.{Disk}
-use Rattle.std.proofs.Common.{◌≡◌, ◌∙◌, refl, sym, ap, ℕ, suc, List, [], ◌∷◌, ◌++◌, Some, None, subst, ◌≤◌, ◌<◌, Bool, true, false, cond, nat_eq, arith}
+use Rattle.std.proofs.Common.{◌≡◌, ◌∙◌, sym, ap, ℕ, suc, List, [], ◌∷◌, ◌++◌, Some, None, subst, ◌≤◌, ◌<◌, Bool, true, false, cond, nat_eq, arith}
 use Rattle.command_agent.specs.Machine.{Machine, new_machine}
 use Rattle.sbp_bus.specs.Generations.{GenerationsState, node_of, topology_at}
 use Rattle.sbp_journal.specs.Addresses.{Access}
@@ -107,24 +107,6 @@ module _ (disks : List Disk) (i : ℕ) (past ms : List Moment) (note : Note) whe
   told_one weight (sides.Cleared unit) w f h = noted _ (hist past w) tt tt h
   told_one weight (sides.Unsolicited place) w f h = noted _ (hist past w) tt tt h
   told_one weight (sides.Unsent place) w f h = noted _ (hist past w) tt tt h
-
-  told_same : (weight : ℕ) (side : Side) (w : WorldState) → (told weight side w).generations ≡ w.generations
-  unfolding told
-  told_same weight (sides.Own note) w = refl
-  told_same weight (sides.Opened place orb) w = refl
-  told_same weight (sides.Ran place orb cdb payload outcome) w = refl
-  told_same weight (sides.Ended place orb status) w = refl
-  told_same weight (sides.Dead place cause) w = refl
-  told_same weight (sides.Cut place cause) w = refl
-  told_same weight (sides.Managed node function subject status login) w = refl
-  told_same weight (sides.ManageFailed node cause) w = refl
-  told_same weight (sides.Held login) w = refl
-  told_same weight (sides.Expired login) w = refl
-  told_same weight (sides.Back login) w = refl
-  told_same weight (sides.Left login) w = refl
-  told_same weight (sides.Cleared unit) w = refl
-  told_same weight (sides.Unsolicited place) w = refl
-  told_same weight (sides.Unsent place) w = refl
 
   pub all_told : (weight : ℕ) (told_sides : List Side) (w : WorldState) → AreTold told_sides → Sends (hist past w) → Sends (hist past (told_all weight told_sides w))
   unfolding told_all

@@ -1,5 +1,5 @@
 -- Serials count and responses answer what waits for them in every run; and where no initiator injected packets, no node did.
-use Rattle.std.proofs.Common.{◌≡◌, refl, subst, ℕ, zero, suc, false, List, ◌∷◌}
+use Rattle.std.proofs.Common.{◌≡◌, refl, subst, ℕ, false, List, ◌∷◌}
 use Rattle.sbp_world.proofs.Agents.Management.Holding.{past_terms}
 use Rattle.bus_transactions.specs.Packets.{SerialsCount}
 use Rattle.rbc_disk.specs.Disk.{Disk}
@@ -10,21 +10,11 @@ use Rattle.sbp_laws.specs.Turns.{EachMoment}
 use Rattle.sbp_world.specs.Making.{ready_logins}
 use Rattle.sbp_world.specs.Worlds.{WorldState}
 use Rattle.sbp_world.specs.Lists.OrbReads.{AnswersAt}
-use Rattle.sbp_world.specs.Lists.OwnLogins.{IsTame}
 use Rattle.sbp_world.proofs.Lists.AnswerGots.{answers_at}
 use Rattle.sbp_world.proofs.Lists.Calm.{injects_before}
 use Rattle.sbp_world.proofs.Lists.Courses.{EveryPlace, Keeps, at_between, at_lines}
 use Rattle.sbp_world.proofs.Lists.Judging.{counts_at}
 use Rattle.sbp_world.proofs.Hosts.Remaining.{serials_behind}
-
--- ---- of a history: its serials count, responses answer what waits for them, and no node injected packets
-pub record IsFair (past : List Moment) : Type 0 where
-  pub counts : SerialsCount past
-  pub answers : EachMoment AnswersAt past
-  pub fair : (node : ℕ) → (terms past).injects node ≡ false
-
-pub fair_before : (m : Moment) (past : List Moment) → IsFair (m ∷ past) → IsFair past
-fair_before m past f = record { counts = serials_behind m past f.counts; answers = f.answers.1; fair = λ node. injects_before m past node (f.fair node) }
 
 -- ---- at each place of a run
 -- and the target injected no packets
@@ -35,9 +25,6 @@ pub record Told (past : List Moment) : Type 0 where
 
 pub told_before : (m : Moment) (past : List Moment) → Told (m ∷ past) → Told past
 told_before m past t = record { counts = serials_behind m past t.counts; answers = t.answers.1; fair = injects_before m past 0 t.fair }
-
-pub told_of : (past : List Moment) → IsFair past → Told past
-told_of past f = record { counts = f.counts; answers = f.answers; fair = f.fair 0 }
 
 abbrev Nothing : List Disk → List Moment → WorldState → Type 0
 Nothing start past w = Unit {0}
@@ -61,10 +48,3 @@ told_everywhere = record {
   between = λ line run r has small size next most told m so_far.
       at_between Nothing (λ past w. Told past) nothing line run r.few has small size (all_told run.units (ready_logins run.initiators run.ready) run.start.disks) (record { counts = tt; answers = (tt, (tt, tt)); fair = refl }) r next most told m so_far;
 }
-
-fair_nodes : (past : List Moment) → Told past → IsTame past → (node : ℕ) → (terms past).injects node ≡ false
-fair_nodes past t tame zero = t.fair
-fair_nodes past t tame (suc i) = tame i
-
-pub fair_of : (past : List Moment) → Told past → IsTame past → IsFair past
-fair_of past t tame = record { counts = t.counts; answers = t.answers; fair = fair_nodes past t tame }

@@ -17,7 +17,7 @@ use Rattle.sbp_journal.specs.declared.note.Note.TheVariants as notes
 use Rattle.sbp_laws.specs.CarriedBytes.{Moved}
 use Rattle.sbp_laws.specs.Lawful.{injectors}
 use Rattle.sbp_laws.specs.Lists.{cmd_of, prepared_in}
-use Rattle.sbp_laws.specs.Targets.{Target, agent_at, over, target_at}
+use Rattle.sbp_laws.specs.Targets.{agent_at, over, target_at}
 use Rattle.sbp_laws.specs.Terms.{ends}
 use Rattle.sbp_laws.specs.Turns.{EachMoment, event_of}
 use Rattle.sbp_world.specs.Lines.{MayHappen, acted, happens}
@@ -74,9 +74,6 @@ module _ (units ready : ℕ) (has : 0 < units) (start : List Disk) (past : List 
 
   abbrev now : List Moment
   now = hist later v
-
-  abbrev T : Target
-  T = over (target_at start before)
 
   abbrev site : Site start past w
   site = site_at start past w q

@@ -8,7 +8,7 @@ use Rattle.command_agent.specs.declared.step.AgentState.TheVariants as states
 use Rattle.command_agent.specs.declared.step.AgentStep.{AgentStep}
 use Rattle.command_agent.specs.declared.step.Which.{Which}
 use Rattle.command_agent.specs.declared.step.Which.TheVariants.{Ahead, Main}
-use Rattle.command_agent.specs.Machine.{Machine, is_ahead, new_machine, state_in}
+use Rattle.command_agent.specs.Machine.{Machine, is_ahead, state_in}
 use Rattle.command_agent.specs.Steps.{abort_step, ahead_lost, doorbell_in, doorbell_step, lost_step, main_lost, point_in, point_step, pointed, quiet, reset_step}
 use Rattle.orb_layout.specs.declared.ask.FailCause.{FailCause}
 use Rattle.orb_layout.specs.declared.pointer.OrbPointer.{OrbPointer}
@@ -22,9 +22,6 @@ pub record IsPart (written whole buffer : ℕ) : Type 0 where
 
 abbrev pub IsFull : Machine → Type 0
 IsFull m = answers m.phase ≡ true → IsPart m.written (length m.answer) (bytes_of m.segments)
-
-pub new_full : IsFull new_machine
-new_full e = absurd (false≢true e)
 
 pub reset_full : (m : Machine) → IsFull (reset_step m)
 unfolding reset_step

@@ -53,9 +53,6 @@ use Rattle.sbp_world.proofs.Lists.LiveTurns.{SameBus, TargetCall, TurnOf, by_cle
 use Rattle.sbp_world.proofs.Lists.OrbsHeard.{asked_by_it, is_answered, manages_is}
 
 -- in a phase that writes or reads the ORB nothing is to be shown
-module _ (past : List Moment) (i : ℕ) where
-  abbrev Kept : Operation → Underway → Type 0
-  Kept op underway = KeepsIn op.phase (orb_in_place past i underway.place)
 
 -- an operation that keeps an ORB writes nothing yet
 unwritten_or : (phase : Phase) (orb : ManagementOrb) → (is_written phase ≡ false → KeepsIn phase orb) → KeepsIn phase orb

@@ -1,19 +1,16 @@
 -- The logins of the initiators' nodes, the logouts, and the responses of logins, in every run in which no initiator injected packets, or few logins were given, and before which lists were open as
 -- they should be.
-use Rattle.std.proofs.Common.{inl, ℕ, ◌<◌, length}
-use Rattle.sbp_laws.specs.Turns.{EachMoment}
+use Rattle.std.proofs.Common.{ℕ, ◌<◌, length}
 use Rattle.sbp_world.specs.Lists.Closes.{Under, WhereTameOrFew}
 use Rattle.sbp_world.specs.Lists.FewLogins.{IsCalmBeside}
 use Rattle.sbp_world.specs.Lists.Live.{LiveLaw}
 use Rattle.sbp_world.specs.Lists.Opened.{NoneRefused}
-use Rattle.sbp_world.specs.Lists.OwnLogins.{IsTame}
-use Rattle.sbp_world.specs.Lists.Placings.{BasedAt}
 use Rattle.sbp_world.proofs.Lists.BufferClears.{buffers_held}
 use Rattle.sbp_world.proofs.Lists.Courses.{EveryPlace}
 use Rattle.sbp_world.proofs.Lists.LiveGiven.{LawsAt, ShortLaw, laws_of}
 use Rattle.sbp_world.proofs.Lists.LiveJoined.{AreStoredAt}
 use Rattle.sbp_world.proofs.Lists.LiveProved.{live, logins_done, none_refused}
-use Rattle.sbp_world.proofs.Lists.Beside.{AreDone, done_based}
+use Rattle.sbp_world.proofs.Lists.Beside.{AreDone}
 use Rattle.sbp_world.proofs.Lists.ManageProved.{one_in_hand_law}
 use Rattle.sbp_world.proofs.Lists.StoredRuns.{stored_everywhere}
 
@@ -32,10 +29,3 @@ module _ (short : ShortLaw) where
 
   pub logins_known : EveryPlace (λ start past w. (i : ℕ) → i < length w.initiators → IsCalmBeside past i → AreDone start (length w.initiators) past i)
   logins_known = logins_done laws (buffers_held short) stored
-
-  -- where no initiator injected packets
-  pub logins_based : Under (λ past w. IsTame past → (i : ℕ) → i < length w.initiators → EachMoment (BasedAt i) past)
-  logins_based = record {
-    after_lines = λ line run r has small size so_far tame i l. done_based run.start.disks _ _ i l (logins_known.after_lines line run r has small size so_far i l (tame i, inl tame));
-    between = λ line run r has small size next most told m so_far tame i l. done_based run.start.disks _ _ i l (logins_known.between line run r has small size next most told m so_far i l (tame i, inl tame));
-  }

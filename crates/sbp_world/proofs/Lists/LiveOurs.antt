@@ -58,9 +58,6 @@ away_is {i} {own} {kept} {base} {fresh} a later = ap (λ (ns : List Note). map s
 
 -- ---- the operation under way at the host, where one is so at the initiator
 
-Hosted : ℕ → List Moment → List Moment → Type 0
-Hosted i before now = HostGoes (host_at before i) (host_at now i)
-
 module _ (i : ℕ) (line : ℕ) (event : Event) (before : List Moment) where
   abbrev opened : List Moment
   opened = asked line event ∷ before

@@ -26,9 +26,6 @@ use Rattle.sbp_world.proofs.Common.{untrue}
 moving_hand : {A : Type 0} (operation : Option Running) (seat : Seat) (running : Running) → operation ≡ Some running → moves_session running.operation ≡ true → GaveUp operation seat → A
 moving_hand operation seat running is m g = two_ways (in_hand operation) (ap in_hand is ∙ moves_managed running.operation m) g.none
 
-other : {A : Type 0} (one two three : Stand) → one ≡ two → one ≡ three → (two ≡ three → A) → A
-other one two three e f x = x (sym e ∙ f)
-
 -- ---- the session is on its way by its operation alone
 module _ (s : InitiatorState) (fit : Fit s.operation s.seat) where
   like_fit : (operation : Option Running) (seat : Seat) → operation ≡ s.operation → IsLike s.seat seat → Fit operation seat

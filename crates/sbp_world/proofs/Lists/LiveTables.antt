@@ -5,7 +5,6 @@ use Rattle.std.proofs.lemmas.Grind.{get_or-set_at}
 use Rattle.std.proofs.lemmas.List.{get_or-set_other, set_past}
 use Rattle.std.proofs.lemmas.Bool.{false≢true}
 use Rattle.login_table.specs.declared.login.Login.{Login}
-use Rattle.login_table.specs.Sound.{IsSound}
 use Rattle.login_table.specs.Table.{is_live, place_at}
 use Rattle.sbp_world.specs.Sessions.Standing.{AreSame}
 use Rattle.sbp_world.specs.Lists.Live.{AreNamed, HasLogin, HasNone, HasOne}
@@ -66,12 +65,6 @@ module _ (id : ℕ) where
     same_has number h = record { place = h.place; login = h.login; there = s.keeps h.place h.login h.there h.live h.of_node; live = h.live; of_node = h.of_node; own = h.own }
 
   -- ---- an ID names one login
-  pub named_one : (places : List (Option Login)) → IsSound places → (number : ℕ) → AreNamed places id number → HasOne places id
-  named_one places sound number h = record { one = λ p q x y e f la lb na nb. by p q x y e f la lb na nb (nat_eq p q) refl }
-    where
-      by : (p q : ℕ) (x y : Login) → place_at places p ≡ Some x → place_at places q ≡ Some y → is_live x ≡ true → is_live y ≡ true → x.node ≡ id → y.node ≡ id → (b : Bool) → nat_eq p q ≡ b → p ≡ q
-      by p q x y e f la lb na nb true c = grind (arith, nat_tests)
-      by p q x y e f la lb na nb false c = absurd ((sound.apart p q x y (other_place p q c) e f).ids (h.named p x e la na ∙ sym (h.named q y f lb nb)))
 
   pub has_named : (places : List (Option Login)) (number : ℕ) → HasOne places id → HasLogin places id number → AreNamed places id number
   has_named places number one h = record { named = λ p login e live n. by p login e live n (one.one p h.place login h.login e h.there live h.live n h.of_node) }

@@ -12,7 +12,7 @@ use Rattle.initiator_base.specs.declared.fifos.Fifo.TheVariants as fifos
 use Rattle.label_table.specs.declared.reply.ReplyKind.{ReplyKind}
 use Rattle.label_table.specs.Layer.{Finding, Layer, facts_of, judged_by, judging_step, of_request, of_response, responded}
 use Rattle.label_table.specs.Judging.{Row, by_again, by_generation, by_grammar, by_label, by_request, by_response, row_of}
-use Rattle.label_table.specs.History.{IsFor, Life, Told, and_before, ended, is_same, judges, life, not_begun, over, told_by_finding, told_closed, under_way}
+use Rattle.label_table.specs.History.{Life, Told, and_before, ended, is_same, judges, life, told_by_finding, told_closed, under_way}
 use Rattle.label_table.specs.History as wire
 use Rattle.label_table.specs.Peers.{state_for}
 use Rattle.label_table.specs.Requests.{reply_kind}
@@ -45,11 +45,6 @@ Notes = List (Told Purpose)
 record RunsFor (x : Life Purpose) (purpose : Option Purpose) : Type 0 where
   kind : ReplyKind
   is : x ≡ under_way kind purpose
-
-runs_for : (x : Life Purpose) (purpose : Option Purpose) → IsFor purpose x → RunsFor x purpose
-runs_for (under_way kind other) purpose f = record { kind = kind; is = ap (λ (q : Option Purpose). under_way kind q) f }
-runs_for not_begun purpose f = absurd f
-runs_for over purpose f = absurd f
 
 at_layer : (node : ℕ) (calls : List (wire.Call Purpose)) (peer : ℕ) (label : LabelParts) (purpose : Option Purpose) → RunsFor (life peer label (wire.history node calls)) purpose → At (wire.after node calls) peer label.number purpose
 at_layer node calls peer label purpose r =

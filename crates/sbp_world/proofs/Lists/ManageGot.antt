@@ -11,7 +11,7 @@ use Rattle.mgmt_agent.specs.declared.operation.Operation.{Operation}
 use Rattle.mgmt_agent.specs.declared.operation.Phase.TheVariants as phases
 use Rattle.orb_layout.specs.Pointers.{offset_at}
 use Rattle.rbc_disk.specs.Disk.{Disk}
-use Rattle.sbp_journal.specs.Addresses.{Access, access_of, management_agent, start_serves}
+use Rattle.sbp_journal.specs.Addresses.{Access, access_of}
 use Rattle.sbp_journal.specs.Run.{Moment, said}
 use Rattle.sbp_journal.specs.Transactions.{Sending, Transaction, between, part_of, request, writing}
 use Rattle.sbp_journal.specs.Wire.{Owed, Terms, terms}
@@ -105,9 +105,6 @@ module _ (start : List Disk) (past : List Moment) (i serial : ℕ) (q : Sending)
 
     spelled : access_in_bytes q.bytes ≡ Some s.access
     spelled = sym (ap (λ (found : Option Sending). access_in (packet_in found)) f.sent) ∙ s.asks_it
-
-    serves_it : start_serves management_agent s.access ≡ true
-    serves_it = ap (λ x. start_serves x s.access) (sym s.at) ∙ s.serves
 
     is_writing : s.access.is_write ≡ true
     is_writing = grind (arith, nat_tests)

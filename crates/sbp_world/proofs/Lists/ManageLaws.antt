@@ -18,10 +18,10 @@ use Rattle.sbp_world.proofs.Wire.Runs.{sound_after}
 use Rattle.sbp_world.proofs.Wire.Starts.{laws_of}
 use Rattle.sbp_world.specs.Hosts.Runs.{IsRun, more_deliveries}
 use Rattle.sbp_world.proofs.Hosts.Carried.{stands_between}
-use Rattle.sbp_world.specs.Lists.Managing.{IsFree, ManagingLaw}
+use Rattle.sbp_world.specs.Lists.Managing.{IsFree}
 use Rattle.sbp_world.specs.Lists.Needs.{IsCalm, OpenBefore, OpenBetween}
 use Rattle.sbp_world.proofs.Lists.ManageKnown.{OfWire, RestAt, RestGot, RestSent, before_it, hands_known}
-use Rattle.sbp_world.proofs.Lists.ManageRuns.{HandsLaw, Managed, first_managed, managed_carried, managing_by}
+use Rattle.sbp_world.proofs.Lists.ManageRuns.{HandsLaw, Managed, first_managed, managed_carried}
 use Rattle.sbp_world.proofs.Lists.ManageWire.{WireMoments, wire_moments}
 use Rattle.sbp_world.proofs.Lists.ManageYoung.{seen_free, young}
 use Rattle.sbp_world.proofs.Lists.Rises.{Rises, rises}
@@ -100,6 +100,3 @@ hands_law law = record {
       let x = known_between line run r next most told m in
       hands_known run.start.disks i now calm x.wire (rests run.start.disks i now x.wire x.rise (law.between line run r u v d next most told m o i b calm));
 }
-
-pub managing_law : RestLaw → ManagingLaw
-managing_law law = managing_by (hands_law law)

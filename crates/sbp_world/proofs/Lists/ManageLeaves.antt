@@ -133,10 +133,6 @@ module _ (s : InitiatorState) (Why : Running → Type 0) where
   pub drops : (o : OutboxState) (u : InitiatorState) → Left s Why u → Left s Why (drop_list_step o u).1
   drops o u h = drops_as (drop_lists u.lists) o u h
 
-  -- an operation ends
-  Because : InitiatorState → Type 0
-  Because u = (running : Running) → s.operation ≡ Some running → is_management running.operation ≡ true → is_stuck_seat u.seat ≡ false → Why running
-
   ends : (operation : Operation) (word : OpWord) (o : OutboxState) (u : InitiatorState) → ((running : Running) → s.operation ≡ Some running → is_management running.operation ≡ true → is_stuck_seat u.seat ≡ false → Why running) → L u → At (end_step operation word o u)
   ends operation word o u w h = record { operation = inr (record { none = refl; why = w }); unstuck = h.unstuck }
 
@@ -204,10 +200,6 @@ module _ (s : InitiatorState) (Why : Running → Type 0) where
   moves_if : (b : Bool) (event : Event) (u : InitiatorState) → is_other event ≡ true → L u → L (cond b (record u { seat = goes event u.seat }) u)
   moves_if true event u p h = moves_on event u p h
   moves_if false event u p h = h
-
-  moves_back : (b : Bool) (event : Event) (u : InitiatorState) → is_other event ≡ true → is_stuck_seat (cond b (record u { seat = goes event u.seat }) u).seat ≡ false → is_stuck_seat u.seat ≡ false
-  moves_back true event u p e = goes_unstuck event u.seat p e
-  moves_back false event u p e = e
 
   conflicts_for : (found : Option Running) (act : ℕ) (o : OutboxState) (u : InitiatorState) → u.operation ≡ found → ((running : Running) → s.operation ≡ Some running → running.act ≡ act → Why running) → L u → At (conflict_for found act o u)
   conflicts_for None act o u e w h = h

@@ -1,19 +1,19 @@
 -- Each note that is told of others leaves what is in hand of an initiator's management: one that tells nothing of the wire, a packet that is ignored, a time-out.
-use Rattle.std.proofs.Common.{◌≡◌, ◌∙◌, ◌⊎◌, inl, inr, refl, sym, ap, subst, ℕ, List, ◌∷◌, Some, None}
+use Rattle.std.proofs.Common.{◌≡◌, ◌∙◌, ◌⊎◌, inl, inr, refl, sym, ap, ℕ, List, ◌∷◌, Some, None}
 use Rattle.mgmt_agent.specs.declared.operation.Operation.{Operation}
 use Rattle.rbc_disk.specs.Disk.{Disk}
 use Rattle.sbp_journal.specs.Run.{Moment, said}
 use Rattle.sbp_journal.specs.Transactions.{Sending}
-use Rattle.sbp_journal.specs.Wire.{Owed, Terms, terms}
+use Rattle.sbp_journal.specs.Wire.{Owed, terms}
 use Rattle.sbp_journal.specs.declared.cause.Cause.{Cause}
 use Rattle.sbp_journal.specs.declared.note.Note.{Note}
 use Rattle.sbp_journal.specs.declared.note.Note.TheVariants as notes
 use Rattle.sbp_laws.specs.Targets.{is_nothing}
 use Rattle.sbp_world.specs.Lists.ManagedFor.{managed_for}
 use Rattle.sbp_world.specs.Lists.Managing.{IsBeginning, IsHandling, IsTaking, asks, failed}
-use Rattle.sbp_world.proofs.Lists.ManageOffices.{Lingers, fails, ignored_settles, lasts, office_at, settles_of, timed_by}
+use Rattle.sbp_world.proofs.Lists.ManageOffices.{Lingers, fails, ignored_settles, lasts, office_at, timed_by}
 use Rattle.sbp_world.proofs.Lists.ManageStays.{Calms, Had, replies_handling, rests_accepted, rests_calm, rests_handling}
-use Rattle.sbp_world.proofs.Lists.ManageTerms.{HasCause, Rests, ignored_owes, ignored_rests, none_is, rests_self, timed_owes, timed_rests}
+use Rattle.sbp_world.proofs.Lists.ManageTerms.{HasCause, ignored_owes, ignored_rests, none_is, timed_owes, timed_rests}
 
 -- nothing is to be answered, so no write is being taken
 pub none_taken : (past : List Moment) → (terms past).owes ≡ None → (write : ℕ) (owed : Owed) → IsTaking past write owed → ⊥
@@ -29,20 +29,6 @@ begins_on start past now (fails e f) b = failed e
 module _ (start : List Disk) (past : List Moment) (i : ℕ) (note : Note) (wire : terms (said note ∷ past) ≡ terms past) (for_same : (s : ℕ) → managed_for start (said note ∷ past) s ≡ managed_for start past s) (l : Lingers (office_at start past) (office_at start (said note ∷ past))) where
   abbrev now : List Moment
   now = said note ∷ past
-
-  rests_now : Rests 0 (terms past) (terms now)
-  rests_now = subst (λ (u : Terms). Rests 0 (terms past) u) (sym wire) (rests_self 0 (terms past))
-
-  back : (write : ℕ) (owed : Owed) → IsTaking now write owed → IsTaking past write owed
-  back write owed t = record { owes = ap (λ (u : Terms). u.owes) (sym wire) ∙ t.owes; first = t.first; serial = t.serial }
-
-  on : (write : ℕ) (owed : Owed) → IsTaking past write owed → IsTaking now write owed
-  on write owed t = record { owes = ap (λ (u : Terms). u.owes) wire ∙ t.owes; first = t.first; serial = t.serial }
-
-  pub quiet_calm : Calms start past now i
-  quiet_calm =
-      rests_calm start past now i 0 rests_now for_same (rests_handling start past now i 0 rests_now for_same (settles_of l))
-      (λ write o m a. rests_accepted start past now i 0 rests_now for_same write (λ n owed t. n owed (on write owed t)) (λ owed t. begins_on start past now l (a.taking owed (back write owed t))) a)
 
 -- ---- a packet that is ignored, and a time-out, where nothing was to be answered
 

@@ -5,7 +5,6 @@ use Rattle.std.proofs.lemmas.Bool.Decides.{nat_tests}
 use Rattle.mgmt_agent.specs.Machine as manager
 use Rattle.mgmt_agent.specs.declared.operation.Operation.{Operation}
 use Rattle.mgmt_agent.specs.declared.operation.Phase.TheVariants as phases
-use Rattle.orb_layout.specs.declared.ask.Ask.{Ask}
 use Rattle.orb_layout.specs.declared.ask.Ask.TheVariants as asks
 use Rattle.orb_layout.specs.Pointers.{offset_at}
 use Rattle.orb_layout.specs.Replies.{Answer, Expired}
@@ -28,7 +27,6 @@ use Rattle.sbp_world.specs.Agents.Management.Offices.{Office, at_rest, by_manage
 use Rattle.sbp_world.proofs.Agents.Management.Firsts.{got_here, got_there, ignored_office, lapsed_here, lapsed_there, opened_office, other_reply, other_sight, own_reply, request_keeps, rests, served_office, sight_office, tick_office}
 use Rattle.sbp_world.proofs.Agents.Management.Offices.{IsBehind, note_changes, over_keeps, taken_keeps}
 use Rattle.sbp_world.proofs.Lists.ManageReplies.{GoesOn, reply_goes}
-use Rattle.sbp_world.proofs.Lists.ManageTerms.{untrue}
 
 abbrev pub office_at : List Disk → List Moment → Office
 office_at start past = office_of (target_at start past)
@@ -248,11 +246,6 @@ module _ (start : List Disk) (past : List Moment) (serial : ℕ) (q : Sending) (
 pub record Sent (o p : Office) : Type 0 where
   pub manager_is : p.manager ≡ o.manager
   pub quiet : is_nothing o.asks ≡ true → is_nothing p.asks ≡ true
-
-nothing_wanted : (ask : Ask) (b : Bool) → is_nothing ask ≡ true → wants ask b ≡ false
-nothing_wanted asks.Nothing b e = refl
-nothing_wanted (asks.Read offset size) b e = untrue e
-nothing_wanted (asks.Write offset size) b e = untrue e
 
 for_sent : (place : Option ℕ) (b : Bool) (serial : ℕ) (t : Target) → Sent (office_of t) (office_of (sent_for place b serial t))
 for_sent (Some place) b serial t = record { manager_is = refl; quiet = λ e. e }

@@ -87,9 +87,6 @@ arrives_rests s t = rests_on s t (arrives s t) refl refl refl refl refl refl
 served_rests : (s : ℕ) (t : Terms) → Rests s t (is_served s t)
 served_rests s t = rests_on s t (is_served s t) refl refl refl refl refl refl
 
-comes : ℕ → Terms → Terms
-comes s t = is_served s (is_news s (arrives s t))
-
 comes_rests : (s : ℕ) (t : Terms) → Rests s t (is_served s (is_news s (arrives s t)))
 comes_rests s t =
     let a = arrives s t in

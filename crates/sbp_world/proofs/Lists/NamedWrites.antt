@@ -1,12 +1,10 @@
 -- A write of ORB_POINTER that the target got is one that its initiator named for a list, whose first ORB its slot held as the write was got: as no ORB of the list had
 -- ended then, and no status of it was taken.
-use Rattle.std.proofs.Common.{arith, ◌≡◌, ◌∙◌, refl, sym, ap, subst, ℕ, ◌<◌, ◌≤◌, ◌+◌, Bool, true, false, List, [], ◌∷◌, ◌++◌, length, Option, Some, None}
-use Rattle.std.proofs.lemmas.Bool.{false≢true}
+use Rattle.std.proofs.Common.{arith, ◌≡◌, ◌∙◌, refl, sym, ap, subst, ℕ, ◌<◌, ◌≤◌, ◌+◌, Bool, false, List, [], ◌∷◌, ◌++◌, length, Option, Some, None}
 use Rattle.bus_memory.specs.Windows.{slot_of, start}
 use Rattle.bus_memory.proofs.Found.{slot_of_law}
-use Rattle.bus_transactions.specs.Judging.{AreJudged, may_get}
+use Rattle.bus_transactions.specs.Judging.{AreJudged}
 use Rattle.bus_transactions.specs.Packets.{SerialsCount}
-use Rattle.label_table.specs.Judging.{row_of}
 use Rattle.rbc_disk.specs.Disk.{Disk}
 use Rattle.sbp_journal.specs.Run.{Moment, asked, said}
 use Rattle.sbp_journal.specs.Transactions.{Sending}
@@ -41,13 +39,6 @@ use Rattle.sbp_world.proofs.Common.{cond_off}
 use Rattle.sbp_world.proofs.Lists.OpenedMoments.{pointed_remains}
 use Rattle.sbp_world.proofs.Hosts.PointerNotes.{older}
 use Rattle.sbp_world.proofs.Lists.StatusKnown.{got_by}
-
--- ---- the list of a write stays
-
--- ---- a packet that is got is of the receiver's generation
-current_at : (c n r a x : Bool) → may_get (row_of (record { is_current = c; is_for_node = n; is_response = r; is_awaited = a; is_repeated = x })) ≡ true → c ≡ true
-current_at true n r a x e = refl
-current_at false n r a x e = absurd (false≢true e)
 
 -- ---- a line that begins changes nothing of it
 pub record Like (before earlier : List Moment) : Type 0 where

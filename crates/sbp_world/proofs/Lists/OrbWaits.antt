@@ -1,12 +1,12 @@
 -- At each place of a run the agents of the target waited for what they asked for as each packet was got; so each agent has an ORB that a response brought.
-use Rattle.std.proofs.Common.{◌≡◌, ◌∙◌, refl, sym, ap, subst, ◌<◌, ℕ, Bool, true, false, cond, List, [], ◌∷◌, ◌++◌, map, Option, Some, None}
+use Rattle.std.proofs.Common.{◌≡◌, ◌∙◌, refl, sym, ap, subst, ◌<◌, ℕ, Bool, true, false, List, [], ◌∷◌, ◌++◌, map, Option, Some, None}
 use Rattle.sbp_world.specs.Agents.AskedRuns.{AreAskedAt, HasAsked, WaitsForAsked, serial_of}
 use Rattle.sbp_world.proofs.Agents.AskedRuns.{asked_between_law, asked_run_law}
 use Rattle.sbp_world.proofs.Agents.Management.Still.{hist}
 use Rattle.command_agent.specs.declared.step.Which.{Which}
 use Rattle.sbp_world.specs.Hosts.Runs.{more_deliveries}
 use Rattle.orb_layout.specs.declared.ask.Ask.{Ask}
-use Rattle.orb_layout.specs.declared.ask.Ask.TheVariants.{Nothing, Read, Write}
+use Rattle.orb_layout.specs.declared.ask.Ask.TheVariants.{Nothing}
 use Rattle.orb_layout.specs.declared.ask.FailCause.TheVariants as causes
 use Rattle.rbc_disk.specs.Disk.{Disk}
 use Rattle.rbc_disk.specs.Runs.{Told}
@@ -20,7 +20,7 @@ use Rattle.sbp_journal.specs.declared.note.Note.{Note}
 use Rattle.sbp_journal.specs.declared.note.Note.TheVariants as notes
 use Rattle.sbp_laws.specs.Agents.{fifo_in}
 use Rattle.sbp_laws.specs.Packets.{begun_in, waits_for}
-use Rattle.sbp_laws.specs.Targets.{Agent, Reply, Target, agent_at, agent_over, for_agent, initiator_at, is_nothing, login_at, main_lost, over, purpose_of, taken_on, target_at}
+use Rattle.sbp_laws.specs.Targets.{Agent, Reply, Target, agent_at, agent_over, for_agent, initiator_at, login_at, over, purpose_of, taken_on, target_at}
 use Rattle.sbp_laws.specs.Turns.{EachMoment}
 use Rattle.sbp_world.specs.Lines.{MayHappen, happens}
 use Rattle.sbp_world.specs.Making.{ready_logins}
@@ -29,7 +29,6 @@ use Rattle.sbp_world.specs.Settling.{MayAt, MayNext, delivered_at, delivered_nex
 use Rattle.sbp_world.specs.Worlds.{Scene, WorldState, begun, without_notes}
 use Rattle.sbp_world.specs.Lists.OrbReads.{AskedAsGot, IsBrought}
 use Rattle.sbp_world.proofs.Lists.Courses.{EveryPlace, Goes, Keeps, at_between, at_lines, by_delivery, by_end, by_line, by_start, more_than_one}
-use Rattle.sbp_world.proofs.Lists.ManageTerms.{untrue}
 use Rattle.sbp_world.proofs.Lists.OrbFolds.{AreReading}
 use Rattle.sbp_world.proofs.Lists.OrbReading.{reading}
 use Rattle.sbp_world.proofs.Lists.Quiet.{AllQuiet, Comes, IsQuiet, Quietly, acts, comes, delivery_comes, injects, keys, late, loses, nothing, one_comes, quiet_none, resets, sights, ticks}
@@ -38,17 +37,6 @@ use Rattle.sbp_world.proofs.Common.{said_joined}
 use Rattle.sbp_world.proofs.Agents.Asides.{one_twice}
 
 -- ---- a turn that is over twice
-none_of : (ask : Ask) → is_nothing ask ≡ true → ask ≡ Nothing
-none_of Nothing e = refl
-none_of (Read offset size) e = untrue e
-none_of (Write offset size) e = untrue e
-
-ahead_none : (b : Bool) (a x : Agent) → is_nothing a.asks_ahead ≡ b → is_nothing x.asks_ahead ≡ true → is_nothing (cond b a x).asks_ahead ≡ true
-ahead_none true a x e f = e
-ahead_none false a x e f = f
-
-over_none : (a : Agent) → is_nothing (agent_over a).asks_ahead ≡ true
-over_none a = ahead_none (is_nothing (main_lost a).asks_ahead) (main_lost a) _ refl refl
 
 agents_twice : (agents : List Agent) → map agent_over (map agent_over agents) ≡ map agent_over agents
 agents_twice [] = refl

@@ -122,10 +122,6 @@ first_own (notes.Seen zero generation) past i e = ap (λ b. cond b generation ((
 first_own (notes.Seen (suc node) generation) past i e = untrue e
 first_own note past i e = ap (λ (g : ℕ → ℕ). g (suc i)) (generations_same note past refl)
 
-pub told_generations : (ns : List Note) (base : List Moment) → AllOf is_behind ns → (terms (map said ns ++ base)).generation ≡ (terms base).generation
-told_generations [] base b = refl
-told_generations (note ∷ ns) base b = generations_same note (map said ns ++ base) (behind_sight note b.0) ∙ told_generations ns base b.1
-
 module _ (start : List Disk) (i : ℕ) where
   pub told_replying : (ns : List Note) (base : List Moment) → SerialsCount (map said ns ++ base) → AllOf is_behind ns → (s : ℕ) → IsReplying start (map said ns ++ base) i s → IsReplying start base i s
   told_replying [] base c b s a = a

@@ -69,9 +69,6 @@ module _ (wild : ℕ → Bool) (start : List Disk) (past : List Moment) (s : Sce
   abbrev pub step : AgentStep × Machine
   step = reply_step M place (plain_in w.target.units s.media.disks r.by.login.unit) run r.by.which (answer_in r.by.packet)
 
-  abbrev R : ℕ → CommandOrb → Type 0
-  R = IsBrought start now place
-
   pub below : place < 8
   below = small wild start past s set run ran serial r
 

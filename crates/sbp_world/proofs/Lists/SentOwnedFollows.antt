@@ -55,10 +55,6 @@ module _ (Fifo : ℕ → ℕ → Type 0) where
   Out (true, s) = Behind s
   Out (false, s) = Before s
 
-  pick : (b : Bool) (x y : Scene) → Behind x → Behind y → Behind (cond b x y)
-  pick true x y h k = h
-  pick false x y h k = k
-
   -- ---- the main request
   main_out : (place : ℕ) (login : Login) (s : Scene) → Before s → (body : Body) → (r : Option Asked × Layer Purpose) → asking_step s.node.layer login.node body (purposes.Agent place) ≡ r → Out (main_sent place login.node s.node (sent_by r s.outbox login.node))
   main_out place login s h body (None, layer) e = finds_none Fifo s.node.layer login.node body (purposes.Agent place) s.outbox.packets layer e h

@@ -29,10 +29,6 @@ module _ (i n k serial : ℕ) where
   packet_stays (_ ∷ later) before e = packet_stays later before e
 
 -- ---- ends
-grows_at : (x y : Bool) (count : ℕ) (k : ℕ) → k < count → k < cond x (cond y (suc count) count) count
-grows_at true true count k b = omega (arith, b)
-grows_at true false count k b = b
-grows_at false y count k b = b
 
 more_ends : (past : List Moment) (j m l : ℕ) (status : StatusKind) (i n : ℕ) → ends past i n ≤ ends (said (notes.Ended j (Some m) (Some l) status) ∷ past) i n
 more_ends past j m l status i n = by (nat_eq i j) (nat_eq n m) refl refl

@@ -36,7 +36,7 @@ use Rattle.sbp_laws.specs.Turns.{EachMoment}
 use Rattle.sbp_target.specs.declared.purpose.Purpose.{Purpose}
 use Rattle.sbp_target.specs.declared.purpose.Purpose.TheVariants as purposes
 use Rattle.sbp_target.specs.Agents.{cut, cut_node, told_cut}
-use Rattle.sbp_target.specs.Management.{ask_manager, cut_placed, decided_by, effect_by, failed_by, fresh_desk, manage, managed_in, managed_with, manager_asked, manager_body, manager_lost, manager_sent, place_in, tell_failed, tell_left, with_manager}
+use Rattle.sbp_target.specs.Management.{ask_manager, cut_placed, decided_by, effect_by, failed_by, fresh_desk, manage, managed_in, managed_with, manager_asked, manager_body, manager_sent, place_in, tell_left, with_manager}
 use Rattle.sbp_target.specs.Nodes.{Scene, desk_at, login_at, scene}
 use Rattle.sbp_target.specs.Sending.{request_step, sent_by}
 use Rattle.sbp_target.specs.Units.{clear_from, clear_unit, cut_all, cut_at, cut_from, is_cut}
@@ -127,14 +127,6 @@ module _ (m : management.Machine) where
   unfolding decided_by
   decided_kept None effect source s k = k
   decided_kept (Some d) effect source s k = let c = effect_kept effect d.subject s k in record { packets = c.packets; manager = c.manager }
-
--- ---- an operation that finds no label sends nothing
-lost_none : (source : ℕ) (s : Scene) (r : ManagerStep × (management.Machine × Table)) → (manager_lost source s r).outbox.packets ≡ s.outbox.packets
-lost_none source s (step, r) = by step.failed
-  where
-    by : (x : Option FailCause) → (tell_failed source x s.outbox).packets ≡ s.outbox.packets
-    by None = refl
-    by (Some cause) = refl
 
 -- ---- what leaves: nothing, or one packet to the node of the operation, which is plain where this is known of what is written
 module _ (source : ℕ) (Ours : Type 0) where

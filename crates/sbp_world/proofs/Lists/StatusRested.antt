@@ -140,9 +140,6 @@ module _ (free : (wild : ℕ → Bool) (past : List Moment) (w : WorldState) →
     abbrev w : WorldState
     w = s.world
 
-    abbrev H : List Moment
-    H = hist past w
-
     stands : Stands past w
     stands = step.stands.reached.holds.sound.stands
 

@@ -43,9 +43,6 @@ module _ (open_lists : OpenListsLaw) (line : ℕ) (run : Run) (r : IsRun run) (h
   abbrev last : Scene
   last = after (beginning run) run.entries
 
-  abbrev logins : ℕ
-  logins = ready_logins run.initiators run.ready
-
   kept : KeptAfter wilds opened line run r.few has small size run.entries last.world
   kept = kept_after wilds opened line run r.few has small size run.entries r.short r.entries r.lines (λ i f. nobody_needs (OpenBefore line run run.entries) f) (λ i f. nobody_needs (IsCalm (history_of line run) i) f)
 

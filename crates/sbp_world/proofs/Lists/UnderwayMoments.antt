@@ -63,8 +63,6 @@ pub data Comes (i : ℕ) (past next : List Moment) (now : Underway) : Type 0 whe
   starts : Starts i past next now → Comes i past next now
 
 module _ (i : ℕ) where
-  Out : List Moment → List Moment → Underway → Type 0
-  Out past next now = (host_at next i).operation ≡ Some now → Comes i past next now
 
   -- a packet in a line that is no action of the initiator
   other_packet : (serial generation from to : ℕ) (bytes : List ℕ) (past : List Moment) → IsNoAct i (event_of past) → (now : Underway) → (host_at (said (notes.Sent serial generation from to bytes) ∷ past) i).operation ≡ Some now → Comes i past (said (notes.Sent serial generation from to bytes) ∷ past) now

@@ -10,7 +10,6 @@ use Rattle.sbp_laws.specs.Terms.{ends, runs}
 use Rattle.sbp_target.specs.Calls.{alone}
 use Rattle.sbp_target.specs.Nodes.{NodeState, Scene as TargetScene, desk_at}
 use Rattle.sbp_target.specs.Receiving.{with_key}
-use Rattle.sbp_world.specs.Handing.{handed_out}
 use Rattle.sbp_world.specs.Histories.{moments_behind}
 use Rattle.sbp_world.specs.Runs.{Run, beginning}
 use Rattle.sbp_world.specs.Telling.{holder, told_all}
@@ -65,9 +64,6 @@ module _ (wild : ℕ → Bool) (past : List Moment) (w v : WorldState) (f : Fact
   module _ (c : IsCalled past w v) where
     abbrev t : TargetScene
     t = alone c.call w.target
-
-    abbrev end : WorldState
-    end = handed_out 0 0 t.outbox c.u
 
     target_is : v.target ≡ t.node
     target_is = ap (λ (x : WorldState). x.target) c.is ∙ ((handed_alike 0 0 t.outbox c.u).target ∙ c.target)

@@ -6,7 +6,6 @@ use Rattle.sbp_journal.specs.Outgoings.{empty_outbox}
 use Rattle.sbp_journal.specs.Run.{Moment, said}
 use Rattle.sbp_journal.specs.Wire.{terms}
 use Rattle.sbp_journal.specs.declared.note.Note.TheVariants as notes
-use Rattle.sbp_journal.specs.declared.side.Side.{Side}
 use Rattle.sbp_initiator.specs.declared.state.InitiatorState.{InitiatorState}
 use Rattle.sbp_initiator.specs.Effects.{Turn}
 use Rattle.sbp_initiator.specs.Seeing.{see_step}
@@ -92,9 +91,6 @@ module _ (ready : Bool) (generation : ℕ) (past : List Moment) (i : ℕ) (s : I
         generation = seen_now (suc i) generation past ∙ is_old;
         closed = moment_closes (said (notes.Seen (suc i) generation)) past;
       }
-
-      named_now : pointer later i ≡ pointer now i
-      named_now = ap (λ (sides : List Side). pointer (behind sides now) i) none
 
       same_kept : Fit later → Kept later i t.1
       same_kept f =

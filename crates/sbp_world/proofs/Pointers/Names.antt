@@ -29,13 +29,6 @@ same_name old (Some s) fades e = sym (fades s refl)
 same_name None None fades e = refl
 same_name (Some s) None fades e = untrue e
 
-abbrev Fades : List Moment → List Moment → ℕ → Type 0
-Fades now past i = (s : ℕ) → pointer now i ≡ Some s → pointer past i ≡ Some s
-
--- whether one is named is of the core of the host
-wrote : (past now : List Moment) (i : ℕ) → (host_core (host_at now i)).wrote_pointer ≡ (host_core (host_at past i)).wrote_pointer → is_some (pointer now i) ≡ is_some (pointer past i)
-wrote past now i e = e
-
 ended_wrote : (operation : Operation) (word : OpWord) (c : Core) → (ended_in operation word c).wrote_pointer ≡ c.wrote_pointer
 ended_wrote operations.State word c = refl
 ended_wrote operations.Rom word c = refl

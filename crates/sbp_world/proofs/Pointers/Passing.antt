@@ -34,14 +34,6 @@ pub record Goes (past later : List Moment) (i : ℕ) : Type 0 where
   pub generation : (terms later).generation (suc i) ≡ (terms past).generation (suc i)
   pub closed : Closes (terms past) (terms later)
 
-pub goes_on : {first past later : List Moment} {i : ℕ} → Goes first past i → Goes past later i → Goes first later i
-goes_on a b = record {
-  fades = λ n e. a.fades n (b.fades n e);
-  sent = λ n. b.sent n ∙ a.sent n;
-  generation = b.generation ∙ a.generation;
-  closed = λ n e. b.closed n (a.closed n e);
-}
-
 -- the packet that is named is of the generation of its initiator
 abbrev pub IsCurrent : List Moment → ℕ → Type 0
 IsCurrent past i = (serial : ℕ) (packet : Sending) → pointer past i ≡ Some serial → (terms past).sent serial ≡ Some packet → packet.generation ≡ (terms past).generation (suc i)

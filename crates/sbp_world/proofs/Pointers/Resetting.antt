@@ -327,12 +327,6 @@ asked_host {number} action serial generation to bytes past i e q f =
     ∙ ap (λ x. sent_in x i (present_list past i) serial host) e
     ∙ so (nat_eq i i) (acted action (operation_of action) (present_list past i) serial host) (goes_on host.operation serial host) (itself i)
 
-some_none : {A : Type 0} {x : Operation} → Some x ≡ None → A
-some_none e = absurd (differ e)
-  where
-    differ : {x : Operation} → Some x ≡ None → ⊥
-    differ e = cc
-
 busy : {A : Type 0} (s : InitiatorState) → s.operation ≡ None → is_some s.operation ≡ true → A
 busy s e f = untrue (sym (ap is_some e) ∙ f)
 

@@ -84,10 +84,6 @@ module _ (past : List Moment) (i serial generation to : ℕ) (bytes : List ℕ) 
   older : (n x : ℕ) → pointed_list past x i ≡ Some n → nat_eq x serial ≡ false
   older n x e = let b = (k.each n x e).below in let f = c.0 in grind (arith, nat_tests)
 
-  -- what is written by each packet now
-  written : (x : ℕ) → pointed_list now x i ≡ cond (nat_eq x serial) (cond (nat_eq i i) (list_if (is_serial (pointer now i) serial) (present_list past i)) (pointed_list past x i)) (pointed_list past x i)
-  written x = refl
-
   older_written : (n x : ℕ) → pointed_list past x i ≡ Some n → pointed_list now x i ≡ Some n
   older_written n x e = apart (nat_eq x serial) _ (pointed_list past x i) (older n x e) ∙ e
 

@@ -4,7 +4,7 @@ use Rattle.sbp_world.proofs.Hosts.Layered.{is_tame}
 use Rattle.sbp_bus.specs.Packets.{judged_note}
 use Rattle.sbp_journal.specs.Run.{Moment, asked, said}
 use Rattle.sbp_journal.specs.Transactions.{Kind, Part, Sending, Transaction, no_packet, part_of, request, response}
-use Rattle.sbp_journal.specs.Wire.{Held, Terms, arrives, begins, closes, closes_if, free, gets, gets_as, ignores, ignores_that, is_news, is_served, judges, judges_if, noted, opened, rests, terms, times_out, waits}
+use Rattle.sbp_journal.specs.Wire.{Held, Terms, arrives, closes, closes_if, free, gets, gets_as, ignores, ignores_that, is_news, is_served, judges, judges_if, noted, opened, rests, terms, times_out, waits}
 use Rattle.sbp_journal.specs.declared.cause.Cause.{Cause}
 use Rattle.sbp_journal.specs.declared.cause.Cause.TheVariants as causes
 use Rattle.sbp_journal.specs.declared.cause.Judged.{Judged}
@@ -77,10 +77,6 @@ note_as (notes.TimedOut serial) = as_other (λ t. late_sent _ t)
 note_as _ = as_other (λ t. refl)
 
 -- ---- a packet that is sent
-
-pub begins_sent : (begun : Option Transaction) (s : ℕ) (packet : Sending) (t : Terms) → (begins begun s packet t).sent ≡ t.sent
-begins_sent None s packet t = refl
-begins_sent (Some u) s packet t = refl
 
 pub opened_sent : (event : Event) (t : Terms) → (opened event t).sent ≡ t.sent
 opened_sent (events.Reset physical) t = refl

@@ -22,7 +22,7 @@ use Rattle.orb_layout.specs.Replies.{Answer, Done, Expired, NoLabel, Payload, Re
 use Rattle.sbp_laws.specs.Hosts.{Host, Underway, acted, answered, goes_on as host_goes_on, got_by, host_at, is_serial, known_host, list_begins, op_ended, operation_of, pointer_answered, ring, sent_as, sent_in, stored, without_read}
 use Rattle.sbp_laws.specs.Hosts as hosts
 use Rattle.sbp_laws.specs.Lists.{present_list}
-use Rattle.sbp_laws.specs.Packets.{access_at, access_in, answer_in, answered_at, packet_at, packet_in, receiver_in}
+use Rattle.sbp_laws.specs.Packets.{access_at, answer_in, answered_at, packet_at, receiver_in}
 use Rattle.sbp_laws.specs.Turns.{event_of}
 use Rattle.sbp_world.proofs.Common.{untrue}
 
@@ -238,9 +238,6 @@ module _ (past : List Moment) (i serial generation : ℕ) (bytes : List ℕ) (he
       ap (λ (w : Terms). gear_of (cond (is_serial (receiver_in (w.sent serial)) (suc i)) (got_by (answered_at w serial) w serial (present_list past i) host) host)) (wire_is past i)
       ∙ ap (λ (x : Option Sending). gear_of (cond (is_serial (receiver_in x) (suc i)) (got_by (answered_at T serial) T serial (present_list past i) host) host)) heard.sent
       ∙ ap (λ b. gear_of (cond b (got_by (answered_at T serial) T serial (present_list past i) host) host)) (let to_is = heard.to_is in let e : nat_eq heard.packet.to (suc i) ≡ true = grind (arith, nat_tests) in e)
-
-  access_is : access_at T serial ≡ access_in (packet_in (Some heard.packet))
-  access_is = ap (λ (x : Option Sending). access_in (packet_in x)) heard.sent
 
   -- where it stores nothing, the login and the buffers stay, whatever it answers
   pub got_stays : stored (access_at T serial) host.responses ≡ host.responses → gear_at (said (notes.Got serial) ∷ past) i ≡ gear_at past i

@@ -259,10 +259,6 @@ module _ (s : InitiatorState) where
   moves_if true event o u p h = moves_on event o u p h
   moves_if false event o u p h = h
 
-  moved_number : (b : Bool) (event : Event) (u : InitiatorState) → (cond b (record u { seat = goes event u.seat }) u).number ≡ u.number
-  moved_number true event u = refl
-  moved_number false event u = refl
-
   -- an operation ends, and moves the session
   pub ends_moved : (operation : Operation) (word : OpWord) (event : Event) (o : OutboxState) (u : InitiatorState) → is_old event ≡ true → ((i : ℕ) → is_mild (notes.Op i operation word) ≡ true) → Mild s (o, u) → Mild s (end_step operation word o (moved operation event u))
   ends_moved operation word event o u p e h = ends operation word o (moved operation event u) (e (moved operation event u).number) (moves_if (moves_session operation) event o u p h)

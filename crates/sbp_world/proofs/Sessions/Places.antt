@@ -20,10 +20,6 @@ use Rattle.sbp_journal.specs.declared.event.Cmd.{Cmd}
 abbrev pub Stand : Memory → Memory → Type 0
 Stand m n = n.places ≡ m.places
 
-closed_stand : (slots : _) (m : Memory) → Stand m (closed slots m)
-unfolding closed
-closed_stand slots m = refl
-
 -- ---- the links
 
 low_stands : (linking : Option Linking) (s : SlotTable) (m : Memory) → Stand m (low_for linking s m).1.1

@@ -43,10 +43,6 @@ use Rattle.sbp_world.proofs.Wire.Awaiting.{under_way_expires}
 use Rattle.sbp_world.proofs.Wire.UnderWay.{expired_was}
 use Rattle.sbp_world.proofs.Common.{and_second}
 
-either : (holds fails : Type 0) (b : Bool) → (b ≡ true → holds) → (b ≡ false → fails) → Either b holds fails
-either holds fails true h f = h refl
-either holds fails false h f = f refl
-
 some_sent : (o : Option Sent) → is_some o ≡ true → (sent : Sent) × (o ≡ Some sent)
 some_sent None e = cc
 some_sent (Some sent) e = (sent, refl)

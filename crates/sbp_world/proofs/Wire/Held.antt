@@ -22,10 +22,6 @@ module _ (n : ℕ) (begun : ℕ → ℕ) where
       differ : None ≡ Some list → ⊥
       differ e = cc
 
-  holder_held : (o : Option Holder) → ((holder : Holder) → o ≡ Some holder → IsHeld holder) → IsHeld (or_nobody o)
-  holder_held None h = none_held 0 0 0
-  holder_held (Some holder) h = h holder refl
-
   set_held : (places : List (Option Holder)) (place : ℕ) (o : Option Holder) → IsHeld (or_nobody o) → AreHeld n begun places → AreHeld n begun (slice_set places place o)
   set_held places place o g h p = by (nat_lt place (length places)) refl (nat_eq p place) refl
     where

@@ -71,10 +71,6 @@ pub doing_follows : {Quiet : Type 0} {May : ℕ → List Outgoing → Type 0} {n
 doing_follows {Quiet} {May} {node} {lives} {o} {first} s a (calmly q e c) = subst (λ x. Follows x s) (sym e) (calm_follows o lives node s a c)
 doing_follows s a (managing source before old may none t rom) = turned_follows s t
 
--- the operation has no turn
-abbrev pub Never : ℕ → List Outgoing → Type 0
-Never source before = ⊥
-
 -- it has one for a reply to this node's operation, and nothing is sent before
 abbrev pub ForReply : Option Purpose → (peer : ℕ) → ℕ → List Outgoing → Type 0
 ForReply (Some purposes.Management) peer source before = (source ≡ peer) × (before ≡ [])

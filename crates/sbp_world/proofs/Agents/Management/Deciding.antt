@@ -304,20 +304,6 @@ unfolding decide_step
 decides_on o operation answer orb eui m own keys s e =
     as_decided o operation answer orb own.source eui m own (decide orb own.source eui o.table keys) e (orb_decides o orb own.source eui o.table keys s)
 
--- the bytes of a read that came whole
-got_if : (b : Bool) (bytes now : List ℕ) (cause : FailCause) → cond b (Ok bytes) (Err cause) ≡ Ok now → bytes ≡ now
-got_if true bytes now cause e = ok_is e
-  where
-    ok_is : (let r : Result (List ℕ) FailCause = Ok bytes in r) ≡ Ok now → bytes ≡ now
-    ok_is e = cc
-got_if false bytes now cause e = absurd (err_not e)
-  where
-    err_not : (let r : Result (List ℕ) FailCause = Err cause in r) ≡ Ok now → ⊥
-    err_not e = cc
-
-err_got : (cause : FailCause) (now : List ℕ) → (let r : Result (List ℕ) FailCause = Err cause in r) ≡ Ok now → ⊥
-err_got cause now e = cc
-
 module _ (o : Office) (m : Machine) (own : Operation) (keys : List (List ℕ)) (answer : Answer) (s : IsSound o.table.places) where
   orb_steps : (bytes : Result (List ℕ) FailCause) (operation : Operation) → operation.source ≡ own.source → operation.phase ≡ phases.Orb → payload_of answer 32 ≡ bytes → Steps o (Some operation) answer (orb_got bytes m own o.table keys)
   orb_steps (Err cause) operation same phase e = refl

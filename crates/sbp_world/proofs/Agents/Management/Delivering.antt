@@ -36,10 +36,6 @@ use Rattle.sbp_world.proofs.Agents.Management.Turning.{IfSource, KeepsWire}
 
 -- ---- whether the operation waits for what a response answers
 
-is_mine : Option Purpose → Bool
-is_mine (Some purposes.Management) = true
-is_mine purpose = false
-
 module _ {past : List Moment} (start : List Disk) (w : WorldState) (h : Stands past w) (g : Good w.target) (law : TransactionLaw w.target) (at : IsManagementAt start (hist past w) w.target) (serial : ℕ) (sent : Sent) (found : found_sent serial w.store.kept ≡ Some sent) (zero_to : sent.to ≡ 0) (p : Packet) (read : reading sent.bytes ≡ Ok p) where
   abbrev t : Terms
   t = terms (hist past w)

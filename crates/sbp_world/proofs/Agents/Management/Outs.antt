@@ -171,10 +171,6 @@ module _ (start : List Disk) (past : List Moment) (w : WorldState) (idle : IsIdl
   asked_term serial to node peer None v = refl
   asked_term serial to node peer (Some label) v = refl
 
-  asked_hist : (serial to node peer : ℕ) (label : Option LabelParts) (v : WorldState) → hist past (asked serial to node peer label v) ≡ hist past v
-  asked_hist serial to node peer None v = refl
-  asked_hist serial to node peer (Some label) v = refl
-
   -- a response
   pub response_term : (packet : Outgoing) (number : ℕ) (kind : Kind) → part_of packet.bytes ≡ response number kind → term_in start past (sent 0 packet w) ≡ term_in start past w
   unfolding sent

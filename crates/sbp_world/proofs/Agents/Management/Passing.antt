@@ -1,9 +1,9 @@
 -- Where the target has no turn, or nothing happens to its management, its terms stay its state.
-use Rattle.std.proofs.Common.{◌≡◌, ◌∙◌, refl, sym, ap, subst, ℕ, ◌≤◌, true, false, List, ◌∷◌, Option, Some, None}
+use Rattle.std.proofs.Common.{◌≡◌, ◌∙◌, refl, sym, ap, ℕ, ◌≤◌, true, false, List, ◌∷◌, Option, Some, None}
 use Rattle.bus_transactions.specs.May.{is_reset}
 use Rattle.bus_transactions.specs.Wire.{transaction}
 use Rattle.label_table.specs.Layer.{Layer}
-use Rattle.mgmt_agent.specs.Machine.{Machine, source_in}
+use Rattle.mgmt_agent.specs.Machine.{source_in}
 use Rattle.rbc_disk.specs.Disk.{Disk}
 use Rattle.sbp_journal.specs.Run.{Moment, asked, said}
 use Rattle.sbp_journal.specs.Transactions.{Kind, Transaction}
@@ -69,14 +69,6 @@ pub passed : (start : List Disk) (ms later : List Moment) (node : NodeState) →
 passed start ms later node o k at = record {
   agrees = record { table = o.table ∙ at.agrees.table; keys = o.keys ∙ at.agrees.keys; manager = o.manager ∙ at.agrees.manager };
   awaits = awaits_kept (terms ms) (terms later) node.layer (source_in node.manager.operation) (target_at start ms).manages (target_at start later).manages k o.manages at.awaits;
-}
-
--- the same with another target that has the same management
-pub beside : (start : List Disk) (ms : List Moment) (node now : NodeState) → now.logins ≡ node.logins → now.keys ≡ node.keys → now.manager ≡ node.manager → now.layer ≡ node.layer → IsManagementAt start ms node → IsManagementAt start ms now
-beside start ms node now l k m y at = record {
-  agrees = record { table = at.agrees.table ∙ sym l; keys = at.agrees.keys ∙ sym k; manager = at.agrees.manager ∙ sym m };
-  awaits = subst (λ x. Awaits (terms ms) x (source_in now.manager.operation) (target_at start ms).manages) (sym y)
-      (subst (λ (x : Machine). Awaits (terms ms) node.layer (source_in x.operation) (target_at start ms).manages) (sym m) at.awaits);
 }
 
 -- ---- a line begins

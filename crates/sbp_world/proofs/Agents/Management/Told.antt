@@ -11,11 +11,9 @@ use Rattle.sbp_journal.specs.declared.note.Note.TheVariants as notes
 use Rattle.sbp_journal.specs.declared.outbox.Outgoing.{Outgoing}
 use Rattle.sbp_journal.specs.declared.side.Side.{Side}
 use Rattle.sbp_journal.specs.declared.side.Side.TheVariants as sides
-use Rattle.sbp_journal.specs.Outgoings.{OutboxState}
 use Rattle.sbp_laws.specs.Packets.{access_in_bytes}
 use Rattle.sbp_laws.specs.Targets.{Target, is_write_access, known_at, sent_as, sent_for, taken_on, target_at, wants, wants_it}
 use Rattle.sbp_bus.specs.Generations.{node_of}
-use Rattle.sbp_world.specs.Handing.{handed_out}
 use Rattle.sbp_world.specs.Sending.{asked, posted, sent, sent_all, sent_to}
 use Rattle.sbp_world.specs.Telling.{holder, initiator_of, told, told_all}
 use Rattle.sbp_bus.specs.Words.{function_word, login_if}
@@ -101,9 +99,3 @@ module _ (start : List Disk) (past : List Moment) where
   sends_all from (packet ∷ later) w e =
       let one = sends_to (node_of w.generations from packet.to) from packet w e in
       sends_all from later (sent from packet w) (ap (λ (o : Office). o.asks) one ∙ e) ∙ one
-
-  -- what is handed out in a turn in which the management asks for nothing
-  pub hands_out : (node weight : ℕ) (outbox : OutboxState) (w : WorldState) → AllBehind outbox.sides → (by_sides outbox.sides (office_in start past w)).asks ≡ Nothing → office_in start past (handed_out node weight outbox w) ≡ by_sides outbox.sides (office_in start past w)
-  hands_out node weight outbox w h e =
-      let told = all_sides start past weight outbox.sides w h in
-      sends_all node outbox.packets (told_all weight outbox.sides w) (ap (λ (o : Office). o.asks) told ∙ e) ∙ told

@@ -76,9 +76,6 @@ of_target p s none e =
     let same : nat_eq (header_in p).source s.target ≡ true = not-false (nat_eq (header_in p).source s.target) (ap (λ (b : Bool). not b && not (nat_eq (header_in p).source s.target)) (sym none) ∙ e) in
     grind (arith, nat_tests)
 
-no_read : {A : Type 0} (access : Access) (found : Access) → Some found ≡ Some access → found.is_write ≡ false → access.is_write ≡ true → A
-no_read access found e none w = let same : found ≡ access = cc in untrue (sym none ∙ (ap (λ (a : Access). a.is_write) same ∙ w))
-
 got_own : (p : Packet) (access : Access) (bytes : List ℕ) (s : InitiatorState) → access_of p ≡ Some access → access.is_write ≡ true → (request_step p bytes empty_outbox s).0 ≡ judgements.Got → (header_in p).source ≡ s.target
 got_own p access bytes s a w got =
     of_target p s (writes_no_rom p access a w) (other_first (is_foreign p s) _ (addressed p bytes empty_outbox s) (λ e. ignored_got causes.Source e) got)
