@@ -47,7 +47,7 @@ begun_here : (past : List Moment) (v : Transaction) (k : Kind) (s generation fro
 begun_here past v k s generation from to bytes e =
     let q = sending past s generation from to bytes in
     let put = puts (begun_by q) s q (terms past) in
-    by (begins_own v k s (begun_by q) s q put (sym (ap (λ (f : Transaction → Held). f v) (pays_held v k s (terms past).owes (terms past).sent s q (begins (begun_by q) s q put))) ∙ e))
+    by (begins_own v k s (begun_by q) s q put (sym (ap (λ (f : Transaction → Held). f v) (pays_held (terms past).owes (terms past).sent s q (begins (begun_by q) s q put))) ∙ e))
   where
     by : ((terms past).held v ≡ waits k s) ⊎ (begun_by (sending past s generation from to bytes) ≡ Some v) → ((terms past).held v ≡ waits k s) ⊎ IsBegun (said (notes.Sent s generation from to bytes) ∷ past) v s
     by (inl f) = inl f

@@ -100,7 +100,7 @@ use Rattle.sbp_world.proofs.Lists.DataOpen.{none_ended, told_open}
 use Rattle.sbp_world.proofs.Lists.EndTells.{AreMild, EndedBy, TellsEnd, delivery_ends, of_end, of_mild}
 use Rattle.sbp_world.proofs.Lists.RunTells.{delivery_may, served_there}
 use Rattle.sbp_world.proofs.Lists.StatusSteps.{none_wrote}
-use Rattle.sbp_world.proofs.Lists.StatusOffice.{sides_generations as all_same}
+use Rattle.sbp_world.proofs.Lists.StatusOffice.{sides_generations}
 
 -- each live login for the node of an initiator has the FIFO of a login
 abbrev pub FifoFor : WorldState → ℕ → ℕ → ℕ → Type 0
@@ -329,7 +329,7 @@ module _ (disks : List Disk) (wild : ℕ → Bool) (i : ℕ) (own : wild i ≡ f
 
     pub hands : Due note (hist past (told_all 0 outbox.sides u)) outbox.packets → EachMoment (DataSo disks i) (hist past (handed_out 0 0 outbox u))
     hands due =
-        (all_leave disks i past ms note (hist past (told_all 0 outbox.sides u)) w.generations outbox.packets (told_all 0 outbox.sides u) (all_same disks i past ms note 0 outbox.sides u ∙ b.generations) due (first_dry i note f)
+        (all_leave disks i past ms note (hist past (told_all 0 outbox.sides u)) w.generations outbox.packets (told_all 0 outbox.sides u) (sides_generations 0 outbox.sides u ∙ b.generations) due (first_dry i note f)
         (record { same = λ n k. refl; sends = all_told disks i past ms note 0 outbox.sides u (others_told disks i past ms note outbox.sides others) started; on = record { new = []; is = refl } }))
 
   abbrev C : Note → (ℕ → ℕ → StatusKind → Type 0) → (Answer → Type 0) → Layer Purpose → Scene → Type 0

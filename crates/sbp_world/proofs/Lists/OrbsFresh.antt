@@ -28,7 +28,7 @@ use Rattle.async_packet.specs.Labels.{LabelParts}
 use Rattle.sbp_world.proofs.Hosts.Remaining.{gets_same as got_same, ignores_that_same, opened_same as opens_same, times_out_same as late_same}
 use Rattle.sbp_world.proofs.Hosts.SentMoments.{count_now, sent_now}
 use Rattle.sbp_world.proofs.Lists.OpenNews.{judges_if_same, opened_same, sends_same, times_out_same}
-use Rattle.sbp_world.proofs.Lists.ManageTerms.{judges_news as judges_same, part_news as gets_as_same}
+use Rattle.sbp_world.proofs.Lists.ManageTerms.{judges_news, part_news}
 
 module _ (r : ℕ) where
   some_none : (packet : Sending) → Some packet ≡ None → ⊥
@@ -43,16 +43,16 @@ module _ (r : ℕ) where
     where
       by : (b : Bool) → nat_eq r s ≡ b → (gets (Some packet) s t).news r ≡ t.news r
       by true e = absurd (some_none packet (h e))
-      by false e = ap (λ (f : ℕ → ℕ). f r) (gets_as_same r (part_of packet.bytes) s packet (is_served s (is_news s (arrives s t)))) ∙ away s (arrives s t) e
+      by false e = ap (λ (f : ℕ → ℕ). f r) (part_news (part_of packet.bytes) s packet (is_served s (is_news s (arrives s t)))) ∙ away s (arrives s t) e
 
   ignores_away : (cause : Cause) (s : ℕ) (packet : Sending) (t : Terms) → nat_eq r s ≡ false → (ignores cause s packet t).news r ≡ t.news r
   ignores_away causes.Generation s packet t e = refl
   ignores_away causes.Grammar s packet t e = ap (λ (f : ℕ → ℕ). f r) (judges_if_same r (is_to packet.bytes (t.ids packet.generation packet.to)) (asked_by packet) s packet (is_news s t)) ∙ away s t e
   ignores_away causes.Label s packet t e = away s t e
-  ignores_away causes.Again s packet t e = ap (λ (f : ℕ → ℕ). f r) (judges_same r (asked_by packet) (Some causes.Again) s packet t)
-  ignores_away causes.Source s packet t e = ap (λ (f : ℕ → ℕ). f r) (judges_same r (asked_by packet) (Some causes.Source) s packet (is_news s t)) ∙ away s t e
-  ignores_away causes.Login s packet t e = ap (λ (f : ℕ → ℕ). f r) (judges_same r (asked_by packet) (Some causes.Login) s packet (is_news s t)) ∙ away s t e
-  ignores_away causes.Slot s packet t e = ap (λ (f : ℕ → ℕ). f r) (judges_same r (asked_by packet) (Some causes.Slot) s packet (is_served s (is_news s t))) ∙ away s t e
+  ignores_away causes.Again s packet t e = ap (λ (f : ℕ → ℕ). f r) (judges_news (asked_by packet) (Some causes.Again) s packet t)
+  ignores_away causes.Source s packet t e = ap (λ (f : ℕ → ℕ). f r) (judges_news (asked_by packet) (Some causes.Source) s packet (is_news s t)) ∙ away s t e
+  ignores_away causes.Login s packet t e = ap (λ (f : ℕ → ℕ). f r) (judges_news (asked_by packet) (Some causes.Login) s packet (is_news s t)) ∙ away s t e
+  ignores_away causes.Slot s packet t e = ap (λ (f : ℕ → ℕ). f r) (judges_news (asked_by packet) (Some causes.Slot) s packet (is_served s (is_news s t))) ∙ away s t e
 
   pub that_away : (found : Option Sending) (cause : Cause) (s : ℕ) (t : Terms) → (nat_eq r s ≡ true → found ≡ None) → (ignores_that found cause s t).news r ≡ t.news r
   that_away None cause s t h = refl

@@ -13,7 +13,7 @@ use Rattle.sbp_journal.specs.declared.note.Note.TheVariants as notes
 use Rattle.sbp_world.proofs.Lists.OpenNews.{judges_if_same, opened_same, sends_same, times_out_same}
 use Rattle.sbp_world.proofs.Lists.OpenedMoments.{rest_same}
 use Rattle.sbp_world.proofs.Lists.Quiet.{IsQuiet}
-use Rattle.sbp_world.proofs.Lists.ManageTerms.{judges_news as judges_same, part_news as gets_as_same}
+use Rattle.sbp_world.proofs.Lists.ManageTerms.{judges_news, part_news}
 
 judges_served : (u : Option Transaction) (cause : Option Cause) (s : ℕ) (packet : Sending) (t : Terms) → (judges u cause s packet t).served ≡ t.served
 judges_served None cause s packet t = refl
@@ -91,10 +91,10 @@ module _ (r : ℕ) where
   most_got None s t h = h
   most_got (Some packet) s t h =
       let c = is_served s (is_news s (arrives s t)) in
-      most_as c (gets (Some packet) s t) (gets_as_served (part_of packet.bytes) s packet c) (gets_as_same r (part_of packet.bytes) s packet c) (most_both s (arrives s t) h)
+      most_as c (gets (Some packet) s t) (gets_as_served (part_of packet.bytes) s packet c) (part_news (part_of packet.bytes) s packet c) (most_both s (arrives s t) h)
 
   most_judged : (u : Option Transaction) (cause : Option Cause) (s : ℕ) (packet : Sending) (t : Terms) → Most t → Most (judges u cause s packet t)
-  most_judged u cause s packet t h = most_as t (judges u cause s packet t) (judges_served u cause s packet t) (judges_same r u cause s packet t) h
+  most_judged u cause s packet t h = most_as t (judges u cause s packet t) (judges_served u cause s packet t) (judges_news u cause s packet t) h
 
   most_ignored : (so : Option Sending) (cause : Cause) (s : ℕ) (t : Terms) → Most t → Most (ignores_that so cause s t)
   most_ignored None cause s t h = h
