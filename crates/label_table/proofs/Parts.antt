@@ -1,9 +1,21 @@
 -- Comparing bytes in three parts: those before byte 2, that byte, and those behind it.
 use Rattle.std.specs.Prelude.{◌≡◌, ℕ, ◌+◌, ◌*◌, ◌%◌, ◌≤◌, ◌&&◌, nat_eq, Bool, true, false, List, [], ◌∷◌, length, take, drop, slice_index_or, slice_set, refl}
-use Rattle.std.proofs.Common.{arith}
+use Rattle.std.proofs.Common.{◌∙◌, arith, sym}
 use Rattle.std.proofs.lemmas.Grind.{common_steps}
+use Rattle.std.proofs.lemmas.Slice.Eq.{bytes_eq-Decides}
 use Rattle.std.specs.Str.{bytes_eq}
 use Rattle.label_table.specs.Requests.{with_label}
+
+-- what holds of the same ones does not hold of two: they are not the same
+pub unlike : (last bytes : List ℕ) (alike : Bool) → (last ≡ bytes → alike ≡ true) → alike ≡ false → bytes_eq last bytes ≡ false
+unlike last bytes alike f e = by_test (bytes_eq last bytes) refl
+  where
+    by_test : (b : Bool) → bytes_eq last bytes ≡ b → b ≡ false
+    by_test false h = refl
+    by_test true h =
+        let same : alike ≡ true = f ((bytes_eq-Decides last bytes).0 h) in
+        let c : true ≡ false = sym same ∙ e in
+        cc c
 
 and_assoc : (a b c d : Bool) → ((a && (b && true)) && (c && d)) ≡ (a && (b && (c && d)))
 and_assoc false b c d = refl

@@ -1,4 +1,4 @@
-ghost use Rattle.std.specs.Prelude.{◌≡◌, ◌<◌, ◌≤◌, length, None, Some, IfOk};
+ghost use Rattle.std.specs.Prelude.{◌≡◌, ◌<◌, ◌≤◌, length, None, Some, IfOk, IsTrue};
 ghost use Rattle.label_table.specs.Requests.{is_last, with_label};
 ghost use Rattle.std.specs.Str.{bytes_eq};
 
@@ -61,7 +61,7 @@ impl RequestRoom {
     pub(crate) fn is(&self, bytes: &[u8]) -> bool
         ensures { result ≡ is_last self.now bytes.now }
     {
-        self.is_kept && self.room.as_slice() == bytes
+        self.is_kept && are_same(self.room.as_slice(), bytes)
     }
 
     /// Whether a request is kept and has these bytes with this label, below 64, in them.
@@ -84,6 +84,26 @@ fn has_label(last: &[u8], bytes: &[u8], number: u8) -> bool
     last.len() == bytes.len() && has_label_within(last, bytes, number)
 }
 
+/// Whether the last bytes are the same, if there are any.
+#[inline(always)]
+fn ends_alike(last: &[u8], bytes: &[u8]) -> bool
+    ensures { last.now ≡ bytes.now → IsTrue result }
+{
+    match (last.last(), bytes.last()) {
+        (Some(one), Some(other)) => one == other,
+        _ => true,
+    }
+}
+
+/// Whether two have the same bytes. Of two writes that differ most do so in the last byte, which is looked at
+/// first.
+#[tactic(auto, using(crate::proofs::Parts::unlike))]
+fn are_same(last: &[u8], bytes: &[u8]) -> bool
+    ensures { result ≡ bytes_eq last.now bytes.now }
+{
+    ends_alike(last, bytes) && last == bytes
+}
+
 /// The same for as many bytes: those before byte 2, that byte, and those behind it.
 fn has_label_within(last: &[u8], bytes: &[u8], number: u8) -> bool
     requires size { 12 ≤ length bytes.now }
@@ -93,6 +113,6 @@ fn has_label_within(last: &[u8], bytes: &[u8], number: u8) -> bool
 {
     let is_front = last[0..2] == bytes[0..2];
     let is_labelled = last[2] == number * 4 + bytes[2] % 4;
-    let is_rest = last[3..] == bytes[3..];
+    let is_rest = are_same(&last[3..], &bytes[3..]);
     is_front && (is_labelled && is_rest)
 }

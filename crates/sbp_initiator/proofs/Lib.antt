@@ -7,3 +7,4 @@ pub mod Answered
 pub mod Refused
 pub mod FirstRow
 pub mod Histories
+mod Zeros

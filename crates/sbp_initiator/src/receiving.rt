@@ -37,6 +37,9 @@ const TYPE_ERROR: u8 = 6;
 
 const ADDRESS_ERROR: u8 = 7;
 
+/// The most bytes of a read that no memory is asked for: an ORB has 32.
+const FEW: usize = 32;
+
 /// How a transaction ended, by the rcode of its response and the value in it.
 fn ending_by(rcode: u8, value: u32) -> Ending
     ensures { result ≡ ending_by rcode value }
@@ -335,6 +338,7 @@ impl InitiatorState {
     }
 
     /// A read of the memory.
+    #[tactic(auto, using(crate::proofs::Zeros::few_zeros))]
     fn read(
         &mut self,
         alloc: Global,
@@ -350,9 +354,32 @@ impl InitiatorState {
         ensures step { IfOk result (λ judged. (judged, (outbox.new, self.new)) ≡ read_as (read_step self.old.lists.memory offset (replicate count 0)) (view packet.now) bytes.now outbox.old self.old) }
         ensures counts { Counts self.old self.new }
     {
+        if count <= FEW {
+            let mut few = [0; FEW];
+            return self.read_into(alloc, offset, &mut few[..count], packet, bytes, outbox);
+        }
         let mut out = vec![in alloc; 0; count]?;
-        let rcode = self.lists.serve_read(offset, &mut out);
-        self.got(alloc, packet, bytes, rcode, &out, outbox)
+        self.read_into(alloc, offset, &mut out, packet, bytes, outbox)
+    }
+
+    /// The same, into room for as many bytes.
+    fn read_into(
+        &mut self,
+        alloc: Global,
+        offset: Offset,
+        out: &mut [u8],
+        packet: &PacketRef<'_>,
+        bytes: &[u8],
+        outbox: &mut Outbox,
+    ) -> Result<Judged, NoMemory>
+        requires request { IsRequestOf bytes.now (view packet.now) }
+        requires calls { self.old.counts.calls < 2 ^ 48 }
+        requires given { (given : List ℕ) (rcode : ℕ) → length given ≡ length out.old → Gives (view packet.now) rcode given }
+        ensures step { IfOk result (λ judged. (judged, (outbox.new, self.new)) ≡ read_as (read_step self.old.lists.memory offset out.old) (view packet.now) bytes.now outbox.old self.old) }
+        ensures counts { Counts self.old self.new }
+    {
+        let rcode = self.lists.serve_read(offset, out);
+        self.got(alloc, packet, bytes, rcode, out, outbox)
     }
 
     /// A write of the memory.
