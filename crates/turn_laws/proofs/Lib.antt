@@ -26,6 +26,9 @@ pub mod ManagedSides
 pub mod DecisionNotes
 pub mod FirstRows
 pub mod LoginRuns
+pub mod DecisionEffects
+pub mod DecisionWords
+pub mod DecisionRuns
 pub mod PushSides
 pub mod Announcing
 pub mod EveryPlace

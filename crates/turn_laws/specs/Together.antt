@@ -3,6 +3,7 @@ use Rattle.std.specs.Prelude.{List}
 use Rattle.rbc_disk.specs.Disk.{Disk}
 use Rattle.sbp_journal.specs.Run.{Moment}
 use Rattle.sbp_laws.specs.ActionLaw.{Ordered}
+use Rattle.sbp_laws.specs.Decided.{DecisionStands}
 use Rattle.sbp_laws.specs.JudgementLaw.{JudgementLaw}
 use Rattle.sbp_laws.specs.LoginLaw.{LoginLaw}
 use Rattle.sbp_laws.specs.SentPackets.{SentAt}
@@ -21,6 +22,7 @@ pub record LawfulInTurns (start : List Disk) (past : List Moment) : Type 0 where
   pub cleared : EachTurn (ClearsWhereDue start) past
   pub packets : EachMoment SentAt past
   pub faults : EachTurn DiesBeforeFaults past
+  pub decided : EachTurn (DecisionStands start) past
   pub announced : EachTurn (AnnouncesWhereDue start) past
 
 abbrev pub TurnsLaw : Type 0

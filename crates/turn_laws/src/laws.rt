@@ -2,6 +2,7 @@
 ghost use Rattle.turn_laws.specs.Announced.{AnnouncedLaw};
 ghost use Rattle.turn_laws.specs.Cleared.{ClearedLaw};
 ghost use Rattle.turn_laws.specs.Cuts.{CutsLaw};
+ghost use Rattle.turn_laws.specs.Decided.{DecidedLaw};
 ghost use Rattle.turn_laws.specs.Faults.{FaultsLaw};
 ghost use Rattle.turn_laws.specs.Judgement.{JudgementRunLaw};
 ghost use Rattle.turn_laws.specs.Login.{LoginRunLaw};
@@ -38,6 +39,15 @@ pub fn lists_are_cut_where_due()
 #[tactic(auto, using(crate::proofs::Faults::faults_law))]
 pub fn faults_follow_deaths()
     ensures { FaultsLaw }
+{}
+
+/// In each turn of every run, whatever anybody injected, what a decision brings is what its note says. With
+/// status 00 the open lists of the login that it names, of its unit, or all are cut; the unit is cleared, or
+/// each; the login comes back or leaves. With another status nothing is cut, cleared or moved: `decided` of
+/// the cause law.
+#[tactic(auto, using(crate::proofs::DecisionRuns::decided_law))]
+pub fn decisions_stand_as_told()
+    ensures { DecidedLaw }
 {}
 
 /// The login law holds of every run, whatever anybody injected: in each turn the decisions stand that are
