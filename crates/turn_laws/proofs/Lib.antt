@@ -1,5 +1,6 @@
 pub mod Handed
 pub mod Turns
+pub mod OperationAsked
 pub mod Places
 pub mod Calls
 pub mod Pass
@@ -26,6 +27,20 @@ pub mod ManagedSides
 pub mod DecisionNotes
 pub mod FirstRows
 pub mod LoginRuns
+pub mod Flown
+pub mod AskedLabels
+pub mod OperationLabels
+pub mod Operators
+pub mod OperationFinds
+pub mod FailureEffects
+pub mod FailureSides
+pub mod OperationSteps
+pub mod FailureDue
+pub mod FailureNotes
+pub mod FailingRows
+pub mod FailingKinds
+pub mod FailingCalls
+pub mod FailingRuns
 pub mod DecisionEffects
 pub mod DecisionWords
 pub mod DecisionRuns

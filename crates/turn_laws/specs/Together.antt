@@ -11,6 +11,8 @@ use Rattle.sbp_laws.specs.Turns.{EachMoment, EachTurn}
 use Rattle.turn_laws.specs.Announced.{AnnouncesWhereDue}
 use Rattle.turn_laws.specs.Cleared.{ClearsWhereDue}
 use Rattle.turn_laws.specs.Cuts.{CutsWhereDue}
+use Rattle.turn_laws.specs.Failing.{FailsByRows}
+use Rattle.turn_laws.specs.Failures.{FailsWhereDue}
 use Rattle.turn_laws.specs.Faults.{DiesBeforeFaults}
 use Rattle.turn_laws.specs.Runs.{OfEveryRun}
 
@@ -23,6 +25,8 @@ pub record LawfulInTurns (start : List Disk) (past : List Moment) : Type 0 where
   pub packets : EachMoment SentAt past
   pub faults : EachTurn DiesBeforeFaults past
   pub decided : EachTurn (DecisionStands start) past
+  pub failures : EachTurn (FailsWhereDue start) past
+  pub failing : EachTurn (FailsByRows start) past
   pub announced : EachTurn (AnnouncesWhereDue start) past
 
 abbrev pub TurnsLaw : Type 0

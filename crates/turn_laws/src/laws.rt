@@ -3,6 +3,8 @@ ghost use Rattle.turn_laws.specs.Announced.{AnnouncedLaw};
 ghost use Rattle.turn_laws.specs.Cleared.{ClearedLaw};
 ghost use Rattle.turn_laws.specs.Cuts.{CutsLaw};
 ghost use Rattle.turn_laws.specs.Decided.{DecidedLaw};
+ghost use Rattle.turn_laws.specs.Failing.{FailingLaw};
+ghost use Rattle.turn_laws.specs.Failures.{FailuresLaw};
 ghost use Rattle.turn_laws.specs.Faults.{FaultsLaw};
 ghost use Rattle.turn_laws.specs.Judgement.{JudgementRunLaw};
 ghost use Rattle.turn_laws.specs.Login.{LoginRunLaw};
@@ -81,4 +83,20 @@ pub fn judgements_are_lawful()
 #[tactic(auto, using(crate::proofs::Announcing::announced_law))]
 pub fn discs_are_announced_where_due()
     ensures { AnnouncedLaw }
+{}
+
+/// In each turn of every run, whatever anybody injected, a failure of the management operation is told exactly
+/// where a reply fails it, or its request finds no label to its initiator, with that cause: `failures` of the
+/// cause law.
+#[tactic(auto, using(crate::proofs::FailureNotes::failures_law))]
+pub fn operations_fail_where_due()
+    ensures { FailuresLaw }
+{}
+
+/// In each turn of every run, whatever anybody injected, a failure of the management operation has its row: its
+/// request timed out, finds no label, was answered by another rcode than 0, or brought a payload of another
+/// length than it asked for: `failing` of the cause law.
+#[tactic(auto, using(crate::proofs::FailingRuns::failing_law))]
+pub fn failures_have_rows()
+    ensures { FailingLaw }
 {}
