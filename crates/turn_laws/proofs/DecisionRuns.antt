@@ -1,5 +1,5 @@
 -- In each turn of every run what a decision brings is what its note says.
-use Rattle.std.proofs.Common.{refl, sym, ap, subst, ℕ, ◌<◌, List}
+use Rattle.std.proofs.Common.{refl, sym, subst, ℕ, ◌<◌, List}
 use Rattle.login_table.specs.Sound.{IsSound}
 use Rattle.login_table.specs.Table.{Table}
 use Rattle.rbc_disk.specs.Disk.{Disk}

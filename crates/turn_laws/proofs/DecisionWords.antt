@@ -1,5 +1,5 @@
 -- What the decision of a turn does by the terms is what its note says: the lists that are cut, the units that are cleared, and the login that comes back or leaves.
-use Rattle.std.proofs.Common.{arith, ◌≡◌, ◌≢◌, ◌∙◌, refl, sym, ap, subst, ℕ, ◌+◌, ◌<◌, nat_eq, not, Bool, true, false, cond, List, [], ◌∷◌, ◌++◌, length, Option, Some, None, Result, Ok, Err}
+use Rattle.std.proofs.Common.{arith, ◌≡◌, ◌≢◌, ◌∙◌, refl, sym, ap, subst, ℕ, ◌+◌, nat_eq, not, Bool, true, false, cond, List, [], ◌∷◌, ◌++◌, Option, Some, None, Result, Ok, Err}
 use Rattle.std.specs.Prelude.{position, unwrap_or}
 use Rattle.std.proofs.lemmas.Bool.Decides.{nat_tests}
 use Rattle.std.proofs.lemmas.List.Quantifiers.{position-Some}
@@ -26,12 +26,12 @@ use Rattle.sbp_journal.specs.declared.note.Note.TheVariants as notes
 use Rattle.sbp_journal.specs.declared.operation.FunctionWord.{FunctionWord}
 use Rattle.sbp_journal.specs.declared.operation.FunctionWord.TheVariants as words
 use Rattle.sbp_laws.specs.Agents.{Event, agent_event, list_taken, target_before, wire_before, writes}
-use Rattle.sbp_laws.specs.Decided.{Cutting, DecisionStands, cleared_by_word, cut_by_word, cut_by_write, cutting_at, cuttings_due, cuttings_from, cuttings_in, decision_in, good_word, is_login_word, moved_by_word, moves_by_word, place_with, subject_in}
+use Rattle.sbp_laws.specs.Decided.{Cutting, DecisionStands, cleared_by_word, cut_by_word, cut_by_write, cutting_at, cuttings_from, cuttings_in, decision_in, good_word, is_login_word, moved_by_word, moves_by_word, place_with, subject_in}
 use Rattle.sbp_laws.specs.Decided as decided
-use Rattle.sbp_laws.specs.LoginLaw.{is_decision_note, is_login_note}
-use Rattle.sbp_laws.specs.Management.{Call, answers, back_note, call_by, call_of, cleared_by, cut_note, cuts_by_effect, cuts_by_event, cuts_due, cuts_from, cuts_where, decided_in, decided_note, effect_in, effect_of, is_open, left_note, logins_due, login_if, manager_turn, moved_logins, no_call, operator_for, operator_of, sees_reset, started, starts, word_by}
+use Rattle.sbp_laws.specs.LoginLaw.{is_decision_note}
+use Rattle.sbp_laws.specs.Management.{Call, answers, back_note, call_by, cleared_by, cut_note, cuts_by_effect, cuts_by_event, cuts_from, cuts_where, decided_in, decided_note, effect_in, effect_of, is_open, left_note, logins_due, manager_turn, moved_logins, no_call, operator_for, sees_reset, started, starts, word_by}
 use Rattle.sbp_laws.specs.NoteKinds.{is_cut_note, of_kind}
-use Rattle.sbp_laws.specs.Targets.{Agent, Target, agent_at, has_id, initiator_at, login_at, on_unit, unit_in, unit_of}
+use Rattle.sbp_laws.specs.Targets.{Agent, Target, agent_at, has_id, initiator_at, on_unit, unit_in, unit_of}
 use Rattle.sbp_laws.specs.Turns.{Turn}
 use Rattle.turn_laws.specs.Cleared.{ClearsWhereDue}
 use Rattle.turn_laws.specs.Cuts.{CutsWhereDue}

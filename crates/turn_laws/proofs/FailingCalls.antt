@@ -1,16 +1,15 @@
 -- In each turn that answers the request of the management operation the answer is one to what the phase of the operation asked for.
-use Rattle.std.proofs.Common.{◌≡◌, ◌∙◌, refl, sym, ap, subst, ℕ, suc, ◌+◌, ◌<◌, Bool, true, false, cond, List, [], ◌∷◌, Option, Some, None}
+use Rattle.std.proofs.Common.{◌≡◌, ◌∙◌, refl, sym, ap, subst, ℕ, ◌+◌, ◌<◌, Bool, true, false, cond, List, [], ◌∷◌, Option, Some, None}
 use Rattle.bus_transactions.specs.Packets.{SerialsCount}
 use Rattle.bus_transactions.proofs.Reaches.{goes_on}
 use Rattle.command_agent.specs.declared.step.Which.TheVariants.{Ahead, Main}
-use Rattle.mgmt_agent.specs.declared.operation.Operation.{Operation}
 use Rattle.mgmt_agent.specs.Machine.{Machine, read_size}
 use Rattle.orb_layout.specs.Replies.{Answer, Expired}
 use Rattle.rbc_disk.specs.Disk.{Disk}
 use Rattle.sbp_bus.specs.Packets.{judged_note}
 use Rattle.sbp_journal.specs.Addresses.{Access, Start, management_agent, no_start, register, rom_start, start_at, start_serves}
 use Rattle.sbp_journal.specs.Run.{Moment, said}
-use Rattle.sbp_journal.specs.Transactions.{Kind, Part, Sending, Transaction, between, is_same_kind, no_packet, part_of, request, response}
+use Rattle.sbp_journal.specs.Transactions.{Kind, Part, Sending, between, is_same_kind, no_packet, part_of, request, response}
 use Rattle.sbp_journal.specs.Wire.{Held, Terms, free, rests, terms, waits}
 use Rattle.sbp_journal.specs.declared.cause.Judged.{Judged}
 use Rattle.sbp_journal.specs.declared.cause.Judged.TheVariants as judgements
@@ -18,12 +17,12 @@ use Rattle.sbp_journal.specs.declared.note.Note.{Note}
 use Rattle.sbp_journal.specs.declared.note.Note.TheVariants as notes
 use Rattle.sbp_laws.specs.Deaths.{access_by}
 use Rattle.sbp_laws.specs.Management.{Call, answer_to, answers, call_by, got_call, no_call, start_in, start_of, starts}
-use Rattle.sbp_laws.specs.Packets.{access_at, access_in, access_in_bytes, answer_in, answered_as, answered_at, answered_in, closed_by, packet_at, packet_in, receiver_in, sender_in}
+use Rattle.sbp_laws.specs.Packets.{access_in, access_in_bytes, answer_in, answered_as, answered_at, answered_in, closed_by, packet_at, packet_in, receiver_in, sender_in}
 use Rattle.sbp_laws.specs.Targets.{Agent, Purpose, Target, for_agent, for_manager, for_nobody, is_serial, over, purpose_among, purpose_of, target_at}
 use Rattle.sbp_laws.specs.Turns.{turn}
 use Rattle.sbp_world.specs.Agents.Management.Offices.{Office}
 use Rattle.sbp_world.specs.Lists.Contents.{AreAsked, WasAsked}
-use Rattle.sbp_world.specs.Worlds.{Scene, WorldState}
+use Rattle.sbp_world.specs.Worlds.{Scene}
 use Rattle.sbp_world.proofs.Agents.Handed.{is_its_serial}
 use Rattle.sbp_world.proofs.Agents.Management.Holding.{past_terms}
 use Rattle.sbp_world.proofs.Agents.Management.Offices.{over_keeps}

@@ -1,11 +1,11 @@
 -- In each turn of every run a failure of the management operation has its row.
-use Rattle.std.proofs.Common.{refl, ℕ, suc, ◌+◌, ◌<◌, Bool, true, false, List, [], ◌∷◌}
+use Rattle.std.proofs.Common.{ℕ, suc, ◌+◌, ◌<◌, Bool, true, false, List, []}
 use Rattle.rbc_disk.specs.Disk.{Disk}
 use Rattle.sbp_bus.specs.Generations.{id_of}
 use Rattle.sbp_bus.specs.Packets.{end_note, judged_note}
 use Rattle.sbp_initiator.specs.Receiving.{receive_step}
 use Rattle.sbp_initiator.specs.Seeing.{see_step}
-use Rattle.sbp_journal.specs.Outgoings.{OutboxState, empty_outbox}
+use Rattle.sbp_journal.specs.Outgoings.{empty_outbox}
 use Rattle.sbp_journal.specs.Run.{Moment, asked, said}
 use Rattle.sbp_journal.specs.declared.event.Event.{Event}
 use Rattle.sbp_journal.specs.declared.event.Event.TheVariants as events
@@ -18,13 +18,13 @@ use Rattle.sbp_target.specs.Receiving.{received, seen, ticked}
 use Rattle.sbp_world.specs.Delivering.{marked, whole_of}
 use Rattle.sbp_world.specs.Lines.{weight_in}
 use Rattle.sbp_world.specs.Nodes.{told_seen, with_seen}
-use Rattle.sbp_world.specs.Worlds.{Scene, WorldState, initiator_at, with_initiator, with_note, with_target, without_notes}
+use Rattle.sbp_world.specs.Worlds.{Scene, initiator_at, with_initiator, with_note, with_target, without_notes}
 use Rattle.sbp_world.proofs.Agents.Management.Still.{hist}
 use Rattle.turn_laws.specs.Failing.{FailsByRows, FailingLaw}
 use Rattle.turn_laws.specs.Failures.{FailsWhereDue}
 use Rattle.turn_laws.proofs.Calls.{Brings, Cases, calls, injects, loses, refuses, refuses_action, resets, sets_key}
 use Rattle.turn_laws.proofs.FailingCalls.{judged_fits, late_fits, no_no}
-use Rattle.turn_laws.proofs.FailingRows.{IsAnswered, rows_told}
+use Rattle.turn_laws.proofs.FailingRows.{rows_told}
 use Rattle.turn_laws.proofs.FailureNotes.{failure_cases}
 use Rattle.turn_laws.proofs.Handed.{handed}
 use Rattle.turn_laws.proofs.Pass.{of_every_run}

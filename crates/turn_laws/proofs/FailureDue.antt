@@ -1,6 +1,6 @@
 -- What the laws compute of the failures of the management operation is what the target tells, where its request finds a label as the laws say: of a reply, of a write of MANAGEMENT_AGENT
 -- and of a time-out.
-use Rattle.std.proofs.Common.{◌≡◌, ◌∙◌, refl, sym, ap, subst, ℕ, suc, ◌<◌, ◌≤◌, is_some, Bool, true, false, cond, List, [], ◌∷◌, length, Option, Some, None, Result, Ok, Err}
+use Rattle.std.proofs.Common.{◌≡◌, ◌∙◌, refl, sym, ap, subst, ℕ, suc, ◌≤◌, is_some, Bool, true, false, cond, List, [], ◌∷◌, length, Option, Some, None}
 use Rattle.async_packet.specs.Packet.{Packet}
 use Rattle.label_table.specs.Bodies.{Body, block_read}
 use Rattle.label_table.specs.declared.judgement.Asked.{Asked}
@@ -8,13 +8,11 @@ use Rattle.label_table.specs.Layer.{Layer, asking_step}
 use Rattle.login_table.specs.Sound.{IsTable}
 use Rattle.login_table.specs.Table.{Table}
 use Rattle.mgmt_agent.specs.declared.decision.ManagerStep.{ManagerStep}
-use Rattle.mgmt_agent.specs.declared.operation.Busy.{Busy}
 use Rattle.mgmt_agent.specs.declared.operation.Operation.{Operation}
 use Rattle.mgmt_agent.specs.declared.operation.Phase.{Phase}
 use Rattle.mgmt_agent.specs.declared.operation.Phase.TheVariants as phases
 use Rattle.mgmt_agent.specs.Machine as management
 use Rattle.mgmt_agent.specs.Machine.{Machine, reply_in, reply_step, reply_to, source_in, start_step, start_with}
-use Rattle.orb_layout.specs.declared.ask.Ask.{Ask}
 use Rattle.orb_layout.specs.declared.ask.Ask.TheVariants as asks
 use Rattle.orb_layout.specs.declared.ask.FailCause.{FailCause}
 use Rattle.orb_layout.specs.declared.ask.FailCause.TheVariants as causes
@@ -30,9 +28,8 @@ use Rattle.sbp_journal.specs.declared.side.Side.{Side}
 use Rattle.sbp_journal.specs.declared.side.Side.TheVariants as sides
 use Rattle.sbp_laws.specs.Management.{Call, answers, body_for, failed_in, failed_note, failure_of, fails_unsent, manager_turn, no_call, operator, operator_for, start_in, start_of, started, starts}
 use Rattle.sbp_laws.specs.Packets.{finds_label}
-use Rattle.sbp_laws.specs.Targets.{Target, initiator_with, manager_step}
+use Rattle.sbp_laws.specs.Targets.{Target, initiator_with}
 use Rattle.target_base.specs.Addresses.{demand_of}
-use Rattle.target_base.specs.declared.address.Access.{Access as AgentAccess}
 use Rattle.target_base.specs.declared.address.Demand.{Demand}
 use Rattle.target_base.specs.declared.address.Demand.TheVariants as demands
 use Rattle.sbp_target.specs.declared.purpose.Purpose.{Purpose}

@@ -1,5 +1,5 @@
 -- In each turn of every run a failure of the management operation is told exactly where a reply fails it, or its request finds no label.
-use Rattle.std.proofs.Common.{arith, ◌≡◌, ◌∙◌, refl, sym, ap, subst, ℕ, suc, ◌+◌, ◌<◌, ◌≤◌, ◌==◌, is_some, nat_eq, Bool, true, false, cond, List, [], ◌∷◌, ◌++◌, length, Option, Some, None, Result, Ok, Err}
+use Rattle.std.proofs.Common.{arith, ◌≡◌, ◌∙◌, refl, sym, ap, subst, ℕ, suc, ◌+◌, ◌<◌, ◌≤◌, is_some, nat_eq, Bool, true, false, cond, List, [], ◌∷◌, ◌++◌, length, Option, Some, None, Result, Ok, Err}
 use Rattle.std.proofs.lemmas.Bool.Decides.{nat_tests}
 use Rattle.std.proofs.lemmas.List.Elements.{filter-append}
 use Rattle.async_packet.specs.Fields.{largest}
@@ -14,9 +14,7 @@ use Rattle.label_table.specs.Layer.{Finding, Layer, expiring_step, judging_step,
 use Rattle.label_table.specs.Requests.{reply_kind}
 use Rattle.label_table.specs.declared.reply.Stale.{Stale}
 use Rattle.login_table.specs.Sound.{IsTable}
-use Rattle.login_table.specs.Table.{Table}
-use Rattle.mgmt_agent.specs.declared.decision.ManagerStep.{ManagerStep}
-use Rattle.mgmt_agent.specs.Machine.{Machine, reply_step, source_in}
+use Rattle.mgmt_agent.specs.Machine.{reply_step, source_in}
 use Rattle.orb_layout.specs.Replies.{Answer, Expired}
 use Rattle.packet_store.specs.declared.sent.Sent.{Sent}
 use Rattle.packet_store.specs.Kept.{found_sent}
@@ -44,14 +42,12 @@ use Rattle.sbp_laws.specs.NoteKinds.{is_failure_note, of_kind}
 use Rattle.sbp_laws.specs.Packets.{finds_label, id_for, sender_in}
 use Rattle.sbp_laws.specs.Targets.{Purpose as TermPurpose, Target, for_agent, for_manager, for_nobody, initiator_with, is_serial, over, purpose_of, target_at}
 use Rattle.sbp_laws.specs.Turns.{turn}
-use Rattle.target_base.specs.Addresses.{demand_of}
 use Rattle.sbp_target.specs.declared.purpose.Purpose.{Purpose}
 use Rattle.sbp_target.specs.declared.purpose.Purpose.TheVariants as purposes
 use Rattle.sbp_target.specs.Nodes.{NodeState}
 use Rattle.sbp_target.specs.Nodes as target_nodes
 use Rattle.sbp_target.specs.Nodes.{scene as target_scene}
 use Rattle.sbp_target.specs.Receiving.{answer_in, expired, expired_in, received, received_as, with_layer}
-use Rattle.sbp_target.specs.Replies.{Whole}
 use Rattle.sbp_target.specs.Serving.{answered, is_barred, request_step, serve}
 use Rattle.sbp_target.proofs.Histories.Calling.{Good}
 use Rattle.sbp_target.proofs.Histories.Found.{IsFound as IsFinding, found as found_as}
@@ -85,7 +81,7 @@ use Rattle.turn_laws.proofs.Gots.{access_is, agent_calls, manager_calls, no_kind
 use Rattle.turn_laws.proofs.Handed.{handed, note_of, notes_told}
 use Rattle.turn_laws.proofs.KindNotes.{IsToldKind, kind_handed, own_handed}
 use Rattle.turn_laws.proofs.OperationFinds.{finds_request, finds_response}
-use Rattle.turn_laws.proofs.Operators.{IsOperator, bus_names, laws_name, sender_is, source_is}
+use Rattle.turn_laws.proofs.Operators.{bus_names, laws_name, sender_is, source_is}
 use Rattle.turn_laws.proofs.Pass.{of_every_run}
 use Rattle.turn_laws.proofs.Places.{Place}
 

@@ -45,16 +45,16 @@ use Rattle.sbp_target.specs.Serving.{answered, is_barred, request_step, serve, s
 use Rattle.sbp_target.specs.Units.{cut_all}
 use Rattle.sbp_target.proofs.Histories.Calling.{Good}
 use Rattle.sbp_target.proofs.Histories.Found.{IsFound, found}
-use Rattle.sbp_target.proofs.Histories.Primitives.{Known, closing_known, expiring_known, live_on}
+use Rattle.sbp_target.proofs.Histories.Primitives.{closing_known, expiring_known, live_on}
 use Rattle.sbp_target.proofs.Histories.Seats.{Lives}
 use Rattle.sbp_world.specs.Agents.Management.Offices.{Office}
 use Rattle.sbp_world.proofs.Agents.Management.Asking.{has_source, unlabelled_fails}
 use Rattle.sbp_world.proofs.Agents.Management.Calls.{forgets_if}
 use Rattle.sbp_world.proofs.Agents.Management.Calm as calm
 use Rattle.sbp_world.proofs.Agents.Management.Calm.{Calm, From}
-use Rattle.sbp_world.proofs.Agents.Management.Managing.{decision_stands, fails_clean}
+use Rattle.sbp_world.proofs.Agents.Management.Managing.{decision_stands}
 use Rattle.turn_laws.proofs.AskedLabels.{Alike, filter_alike, finds_alike}
-use Rattle.turn_laws.proofs.FailureEffects.{decided_fails, decided_keeps, failing, failing_of, fails_more, plain_more, quiet_fails}
+use Rattle.turn_laws.proofs.FailureEffects.{decided_fails, decided_keeps, failing, fails_more, plain_more, quiet_fails}
 use Rattle.turn_laws.proofs.KindNotes.{none_behind}
 use Rattle.turn_laws.proofs.ManagedSides.{begins, from_self}
 

@@ -29,7 +29,6 @@ use Rattle.sbp_world.specs.Handing.{handed_out}
 use Rattle.sbp_world.specs.Wire.Wires.{Stands}
 use Rattle.sbp_world.specs.Worlds.{WorldState}
 use Rattle.sbp_world.proofs.Agents.Management.Holding.{past_terms}
-use Rattle.sbp_world.proofs.Agents.Management.Still.{hist}
 use Rattle.sbp_world.proofs.Wire.Bus.{holds}
 use Rattle.turn_laws.proofs.Handed.{handed, handed_fresh, onto}
 

@@ -1,6 +1,6 @@
 -- The request that the management operation has in a turn finds a label exactly where the laws say so, by the terms behind the first note of the turn: behind a response that the target
 -- got, whose transaction is closed then, and behind a request, which is still to be answered.
-use Rattle.std.proofs.Common.{arith, ◌≡◌, ◌∙◌, refl, sym, ap, subst, ℕ, suc, ◌+◌, ◌^◌, ◌<◌, ◌≤◌, is_some, Bool, true, false, List, ◌∷◌, length, Option, Some, None, Ok}
+use Rattle.std.proofs.Common.{arith, ◌≡◌, ◌∙◌, refl, sym, ap, subst, ℕ, suc, ◌+◌, ◌^◌, ◌<◌, ◌≤◌, is_some, Bool, false, List, ◌∷◌, length, Option, Some, None, Ok}
 use Rattle.sbp_base.specs.Update.{upd}
 use Rattle.async_packet.specs.Canon.{IsValid}
 use Rattle.async_packet.specs.Labels.{LabelParts}
@@ -8,8 +8,7 @@ use Rattle.async_packet.specs.Packet.{Packet}
 use Rattle.async_packet.specs.Reading.{reading}
 use Rattle.bus_transactions.specs.Bare.{bare, bare_finding}
 use Rattle.bus_transactions.specs.Fitting.{FitsRequest}
-use Rattle.bus_transactions.specs.Wire.{Due, Node, as_sending, due_for, first_note}
-use Rattle.bus_transactions.specs.Wire as bus_wire
+use Rattle.bus_transactions.specs.Wire.{Node, as_sending, due_for, first_note}
 use Rattle.bus_transactions.proofs.Fits.{request_fits}
 use Rattle.label_table.specs.Bodies.{Body, header_to, request_with}
 use Rattle.label_table.specs.Layer.{Finding, Layer, asking_step, judging_step, of_response}
@@ -20,7 +19,7 @@ use Rattle.rbc_disk.specs.Disk.{Disk}
 use Rattle.sbp_bus.specs.Generations.{GenerationsState, id_of, topology_at}
 use Rattle.sbp_journal.specs.Outgoings.{OutboxState}
 use Rattle.sbp_journal.specs.Run.{Moment, said}
-use Rattle.sbp_journal.specs.Transactions.{Kind, Part, Sending, Transaction, asked_by, part_of, request}
+use Rattle.sbp_journal.specs.Transactions.{Kind, Sending, Transaction, asked_by, part_of, request}
 use Rattle.sbp_journal.specs.Wire.{Terms, arrives, gets, gets_as, is_news, is_served, judges, terms}
 use Rattle.sbp_journal.specs.declared.note.Note.TheVariants as notes
 use Rattle.sbp_laws.specs.Packets.{finds_label, id_for, label_for}

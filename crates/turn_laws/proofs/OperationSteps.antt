@@ -1,9 +1,9 @@
 -- What a reply makes of the management operation: a step that asks for something is of the same node, one that fails asks for nothing, and what it asks for is a request that the laws
 -- read so (NCITS 325-1998, management agent).
-use Rattle.std.proofs.Common.{arith, ◌≡◌, ◌∙◌, refl, sym, ap, subst, ℕ, ◌≤◌, ◌==◌, nat_le, is_some, Bool, true, false, cond, List, [], ◌∷◌, length, Option, Some, None}
+use Rattle.std.proofs.Common.{arith, ◌≡◌, refl, sym, ap, subst, ℕ, ◌≤◌, ◌==◌, nat_le, is_some, Bool, true, false, cond, List, [], ◌∷◌, length, Option, Some, None}
 use Rattle.std.proofs.lemmas.Bool.Decides.{nat_tests}
 use Rattle.async_packet.specs.Fields.{largest}
-use Rattle.label_table.specs.Bodies.{Body, block_read, block_write, quadlet_read}
+use Rattle.label_table.specs.Bodies.{block_read, block_write, quadlet_read}
 use Rattle.login_table.specs.Laws.{Call, all_after}
 use Rattle.login_table.specs.Sound.{IsTable}
 use Rattle.login_table.specs.Table.{Table}
