@@ -91,7 +91,7 @@ decision_notes known [] = []
 decision_notes known (sides.Managed node function subject status login ∷ later) = managed_note (bus.initiator_of known node) function subject status login ∷ decision_notes known later
 decision_notes known (side ∷ later) = decision_notes known later
 
-same_known : (weight : ℕ) (side : Side) (w : WorldState) → (told weight side w).generations ≡ w.generations
+pub same_known : (weight : ℕ) (side : Side) (w : WorldState) → (told weight side w).generations ≡ w.generations
 unfolding told
 same_known weight (sides.Own note) w = refl
 same_known weight (sides.Opened place orb) w = refl
@@ -335,7 +335,7 @@ module _ (units ready : ℕ) (has : 0 < units) (start : List Disk) where
   end_decides ms false = refl
 
   -- the bus knows the nodes as before the call
-  marked_same : (serial : ℕ) (again : Bool) (v : WorldState) → (marked serial again v).generations ≡ v.generations
+  pub marked_same : (serial : ℕ) (again : Bool) (v : WorldState) → (marked serial again v).generations ≡ v.generations
   marked_same serial again v = by (again || not (is_flying serial v.store.kept))
     where
       by : (b : Bool) → (cond b v (record v { store = deliver_step v.store serial })).generations ≡ v.generations

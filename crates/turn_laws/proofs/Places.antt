@@ -18,6 +18,7 @@ use Rattle.sbp_world.specs.Hosts.Calling.{IsCalled}
 use Rattle.sbp_world.specs.Hosts.Core.{host_core, own_core}
 use Rattle.sbp_world.specs.Hosts.Runs.{IsRun, more_deliveries}
 use Rattle.sbp_world.specs.Hosts.Worlds.{IsHost}
+use Rattle.sbp_world.specs.Lists.Contents.{AreAsked}
 use Rattle.sbp_world.specs.Lists.Taken.{AreTaken}
 use Rattle.sbp_world.specs.Making.{ready_logins}
 use Rattle.sbp_world.specs.Runs.{AreEntries, Entry, Run, after, beginning}
@@ -41,9 +42,11 @@ use Rattle.sbp_world.proofs.Hosts.LoginCounts.{logins_few}
 use Rattle.sbp_world.proofs.Hosts.OrbRuns.{Orbs, orbs_between, orbs_of_runs}
 use Rattle.sbp_world.proofs.Hosts.Runs.{count_after, count_between, run_law, are_told}
 use Rattle.sbp_world.proofs.Hosts.StepLaws.{step_law}
+use Rattle.sbp_world.proofs.Lists.ContentAsked.{contents_law}
 use Rattle.sbp_world.proofs.Lists.Courses.{more_than_one}
 use Rattle.sbp_world.proofs.Lists.OpenProved.{taken_lists_law}
 use Rattle.sbp_world.proofs.Lists.JoinLaws.{moments_same, lines_same}
+use Rattle.turn_laws.proofs.OperationAsked.{asked_opens}
 
 -- an initiator is what a list of its calls makes of a new one
 pub record HasCalls (i : ℕ) (s : InitiatorState) : Type 0 where
@@ -62,6 +65,8 @@ pub record Place (units ready : ℕ) (start : List Disk) (past : List Moment) (s
   pub held : AreHeldAt start (hist past s.world) s.world
   -- the list that each agent has, if not in RESET
   pub taken : AreTaken start (hist past s.world) s.world
+  -- what each packet of the management operation asks for
+  pub contents : AreAsked start (hist past s.world)
   pub units_are : AreUnitsAt start (hist past s.world) s.world.target s.media.disks
   pub enabled : AreTermsOf (target_at start (hist past s.world)).enabled s.world.target
   pub live : AreLive s.world.target
@@ -121,6 +126,7 @@ module _ (line : ℕ) (run : Run) (few : run.initiators ≤ 4) (has : 0 < run.un
       agents = subst (λ ms. AreAgentsAt start ms here.world) same (agents_run_law line front few has small size short every (lines_same run entries entries fit));
       held = subst (λ ms. AreHeldAt start ms here.world) same (holders_law line front few has small size short every (lines_same run entries entries fit));
       taken = subst (λ ms. AreTaken start ms here.world) same (taken_lists_law.after_lines line front is_run has small size);
+      contents = subst (AreAsked start) same (contents_law.after_lines line front is_run has small size);
       units_are = subst (λ ms. AreUnitsAt start ms here.world.target here.media.disks) same (units_law line front few has small size short every (lines_same run entries entries fit));
       enabled = subst (λ ms. AreTermsOf (target_at start ms).enabled here.world.target) same (enabled_terms_law line front few has small size short every (lines_same run entries entries fit));
       live = enabled_law front few has small size short every (lines_same run entries entries fit);
@@ -168,6 +174,7 @@ module _ (line : ℕ) (run : Run) (few : run.initiators ≤ 4) (has : 0 < run.un
               agents = moved (λ ms. AreAgentsAt start ms w) (agents_between_law line front few has small size short every f next (more_deliveries most) d told m);
               held = moved (λ ms. AreHeldAt start ms w) (holders_between_law line front few has small size short every f next (more_deliveries most) d told m);
               taken = moved (λ ms. AreTaken start ms w) (taken_lists_law.between line front is_run has small size next (more_deliveries most) d told m);
+              contents = moved (AreAsked start) (contents_law.between line front is_run has small size next (more_deliveries most) d told m);
               units_are = moved (λ ms. AreUnitsAt start ms w.target (at told).media.disks) (units_between_law line front few has small size short every f next (more_deliveries most) d told m);
               enabled = moved (λ ms. AreTermsOf (target_at start ms).enabled w.target) (enabled_terms_between_law line front few has small size short every f next (more_deliveries most) d told m);
               live = enabled_between_law front few has small size short every f next (more_deliveries most) d told m;
@@ -190,6 +197,7 @@ module _ (line : ℕ) (run : Run) (few : run.initiators ≤ 4) (has : 0 < run.un
             agents = record { requests = settling.agents.requests; are = settling.agents.are; known = settling.agents.known };
             held = are_held run.units logins has start (without_notes here.world) begins (seats_opened run.units logins has start here.world (seats_after line run entries few has small size short every fit));
             taken = λ place b e. p.taken place b e;
+            contents = asked_opens start next event (hist past here.world) p.contents;
             units_are = record { count = settling.units_are.count; each = settling.units_are.each };
             enabled = settling.enabled;
             live = settling.live;

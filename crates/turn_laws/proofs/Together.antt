@@ -3,6 +3,9 @@ use Rattle.turn_laws.specs.Together.{TurnsLaw}
 use Rattle.turn_laws.proofs.Announcing.{announced_law}
 use Rattle.turn_laws.proofs.Cleared.{cleared_law}
 use Rattle.turn_laws.proofs.Cuts.{cuts_law}
+use Rattle.turn_laws.proofs.DecisionRuns.{decided_law}
+use Rattle.turn_laws.proofs.FailingRuns.{failing_law}
+use Rattle.turn_laws.proofs.FailureNotes.{failures_law}
 use Rattle.turn_laws.proofs.Faults.{faults_law}
 use Rattle.turn_laws.proofs.Judgements.{judgement_run_law}
 use Rattle.turn_laws.proofs.LoginRuns.{login_run_law}
@@ -19,6 +22,9 @@ turns_law = record {
     cleared = cleared_law.after_lines line run is some most size;
     packets = packets_run_law.after_lines line run is some most size;
     faults = faults_law.after_lines line run is some most size;
+    decided = decided_law.after_lines line run is some most size;
+    failures = failures_law.after_lines line run is some most size;
+    failing = failing_law.after_lines line run is some most size;
     announced = announced_law.after_lines line run is some most size;
   };
   between = λ line run is some most size next deliveries told may. record {
@@ -29,6 +35,9 @@ turns_law = record {
     cleared = cleared_law.between line run is some most size next deliveries told may;
     packets = packets_run_law.between line run is some most size next deliveries told may;
     faults = faults_law.between line run is some most size next deliveries told may;
+    decided = decided_law.between line run is some most size next deliveries told may;
+    failures = failures_law.between line run is some most size next deliveries told may;
+    failing = failing_law.between line run is some most size next deliveries told may;
     announced = announced_law.between line run is some most size next deliveries told may;
   };
 }

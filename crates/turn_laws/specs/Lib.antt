@@ -6,6 +6,9 @@ pub mod Faults
 pub mod Ordered
 pub mod Logins
 pub mod Decisions
+pub mod Decided
+pub mod Failures
+pub mod Failing
 pub mod Login
 pub mod Packets
 pub mod Judgement

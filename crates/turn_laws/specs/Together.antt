@@ -3,6 +3,7 @@ use Rattle.std.specs.Prelude.{List}
 use Rattle.rbc_disk.specs.Disk.{Disk}
 use Rattle.sbp_journal.specs.Run.{Moment}
 use Rattle.sbp_laws.specs.ActionLaw.{Ordered}
+use Rattle.sbp_laws.specs.Decided.{DecisionStands}
 use Rattle.sbp_laws.specs.JudgementLaw.{JudgementLaw}
 use Rattle.sbp_laws.specs.LoginLaw.{LoginLaw}
 use Rattle.sbp_laws.specs.SentPackets.{SentAt}
@@ -10,6 +11,8 @@ use Rattle.sbp_laws.specs.Turns.{EachMoment, EachTurn}
 use Rattle.turn_laws.specs.Announced.{AnnouncesWhereDue}
 use Rattle.turn_laws.specs.Cleared.{ClearsWhereDue}
 use Rattle.turn_laws.specs.Cuts.{CutsWhereDue}
+use Rattle.turn_laws.specs.Failing.{FailsByRows}
+use Rattle.turn_laws.specs.Failures.{FailsWhereDue}
 use Rattle.turn_laws.specs.Faults.{DiesBeforeFaults}
 use Rattle.turn_laws.specs.Runs.{OfEveryRun}
 
@@ -21,6 +24,9 @@ pub record LawfulInTurns (start : List Disk) (past : List Moment) : Type 0 where
   pub cleared : EachTurn (ClearsWhereDue start) past
   pub packets : EachMoment SentAt past
   pub faults : EachTurn DiesBeforeFaults past
+  pub decided : EachTurn (DecisionStands start) past
+  pub failures : EachTurn (FailsWhereDue start) past
+  pub failing : EachTurn (FailsByRows start) past
   pub announced : EachTurn (AnnouncesWhereDue start) past
 
 abbrev pub TurnsLaw : Type 0

@@ -2,6 +2,9 @@
 ghost use Rattle.turn_laws.specs.Announced.{AnnouncedLaw};
 ghost use Rattle.turn_laws.specs.Cleared.{ClearedLaw};
 ghost use Rattle.turn_laws.specs.Cuts.{CutsLaw};
+ghost use Rattle.turn_laws.specs.Decided.{DecidedLaw};
+ghost use Rattle.turn_laws.specs.Failing.{FailingLaw};
+ghost use Rattle.turn_laws.specs.Failures.{FailuresLaw};
 ghost use Rattle.turn_laws.specs.Faults.{FaultsLaw};
 ghost use Rattle.turn_laws.specs.Judgement.{JudgementRunLaw};
 ghost use Rattle.turn_laws.specs.Login.{LoginRunLaw};
@@ -40,6 +43,15 @@ pub fn faults_follow_deaths()
     ensures { FaultsLaw }
 {}
 
+/// In each turn of every run, whatever anybody injected, what a decision brings is what its note says. With
+/// status 00 the open lists of the login that it names, of its unit, or all are cut; the unit is cleared, or
+/// each; the login comes back or leaves. With another status nothing is cut, cleared or moved: `decided` of
+/// the cause law.
+#[tactic(auto, using(crate::proofs::DecisionRuns::decided_law))]
+pub fn decisions_stand_as_told()
+    ensures { DecidedLaw }
+{}
+
 /// The login law holds of every run, whatever anybody injected: in each turn the decisions stand that are
 /// due, each with the status of the first row that holds, and `held`, `expired`, `back` and `left` exactly
 /// where a reset that the target sees, a second or a decision has them.
@@ -71,4 +83,20 @@ pub fn judgements_are_lawful()
 #[tactic(auto, using(crate::proofs::Announcing::announced_law))]
 pub fn discs_are_announced_where_due()
     ensures { AnnouncedLaw }
+{}
+
+/// In each turn of every run, whatever anybody injected, a failure of the management operation is told exactly
+/// where a reply fails it, or its request finds no label to its initiator, with that cause: `failures` of the
+/// cause law.
+#[tactic(auto, using(crate::proofs::FailureNotes::failures_law))]
+pub fn operations_fail_where_due()
+    ensures { FailuresLaw }
+{}
+
+/// In each turn of every run, whatever anybody injected, a failure of the management operation has its row: its
+/// request timed out, finds no label, was answered by another rcode than 0, or brought a payload of another
+/// length than it asked for: `failing` of the cause law.
+#[tactic(auto, using(crate::proofs::FailingRuns::failing_law))]
+pub fn failures_have_rows()
+    ensures { FailingLaw }
 {}

@@ -73,11 +73,11 @@ lost_fails (Some operation) m table keys e = by operation.phase
     by (phases.Response fifo) = refl
     by phases.Status = refl
 
-unlabelled_fails : (m : management.Machine) (table : Table) (keys : List (List ℕ)) → is_some m.operation ≡ true → (management.reply_step m table keys NoLabel).0.failed ≡ Some causes.Label
+pub unlabelled_fails : (m : management.Machine) (table : Table) (keys : List (List ℕ)) → is_some m.operation ≡ true → (management.reply_step m table keys NoLabel).0.failed ≡ Some causes.Label
 unfolding management.reply_step
 unlabelled_fails m table keys e = lost_fails m.operation m table keys e
 
-has_source : (operation : Option Operation) (source : ℕ) → management.source_in operation ≡ Some source → is_some operation ≡ true
+pub has_source : (operation : Option Operation) (source : ℕ) → management.source_in operation ≡ Some source → is_some operation ≡ true
 has_source None source e = absurd (let no : None ≡ Some source = e in cc)
 has_source (Some operation) source e = refl
 
