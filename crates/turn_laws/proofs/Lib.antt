@@ -14,6 +14,16 @@ pub mod Cuts
 pub mod FaultSteps
 pub mod FaultSides
 pub mod Faults
+pub mod FollowEnds
+pub mod EndTries
+pub mod AgentLabels
+pub mod AskedLabels
+pub mod EndShapes
+pub mod FollowSides
+pub mod EndNotes
+pub mod EndFound
+pub mod AgentEnds
+pub mod AgentDue
 pub mod OrderRanks
 pub mod OrderHanded
 pub mod OrderOwn

@@ -24,7 +24,7 @@ use Rattle.rbc_disk.specs.Units.{PlainDisk}
 use Rattle.sbp_bus.specs.Requests.{find}
 use Rattle.sbp_bus.specs.declared.requests.Request.{Request as BusRequest}
 use Rattle.sbp_journal.specs.Run.{Moment}
-use Rattle.sbp_journal.specs.Transactions.{Transaction}
+use Rattle.sbp_journal.specs.Transactions.{Sending, Transaction}
 use Rattle.sbp_journal.specs.Wire.{Terms, terms, waits}
 use Rattle.sbp_journal.specs.declared.note.Note.TheVariants as notes
 use Rattle.sbp_journal.specs.declared.side.Side.{Side}
@@ -174,17 +174,23 @@ module _ (units ready : ℕ) (has : 0 < units) (start : List Disk) {past : List 
     waiting : Waits (t.held mine)
     waiting = held_waits (t.held mine) expiring.kind (sym (ap shape state_is) ∙ labels units ready has start w h entered.to number)
 
-    record Asked : Type 0 where
+    pub record Asked : Type 0 where
       waits_there : t.held mine ≡ waits waiting.kind serial
+      pub packet : Sending
+      pub there : t.sent serial ≡ Some packet
+      pub from : packet.from ≡ 0
       lapses : (now : NodeState) → term_in start past (lapsed_world now) ≡ replied_to (purpose_of own_terms serial) Expired own_terms
 
-    asked : Asked
+    pub asked : Asked
     asked =
         let two = goes_on.awaited stands.wire mine waiting.kind waiting.serial stands.reached (ap (λ (x : Terms). x.held mine) (past_terms w stands) ∙ waiting.is) in
         let serial_is : waiting.serial ≡ serial = two.current ∙ ap (λ x. (terms stands.wire.past).current x) (sym asked_is_mine) ∙ entered.current_is in
         let there : t.sent serial ≡ Some two.packet = ap (λ (x : Terms). x.sent serial) (sym (past_terms w stands)) ∙ ap (λ n. (terms stands.wire.past).sent n) (sym serial_is) ∙ two.sent in
         record {
           waits_there = waiting.is ∙ ap (waits waiting.kind) serial_is;
+          packet = two.packet;
+          there = there;
+          from = from_asked start w stands G L h.at serial request found two.packet there ∙ zero_is;
           lapses = λ now. lapsed_here start (hist past w) serial two.packet there (from_asked start w stands G L h.at serial request found two.packet there ∙ zero_is);
         }
 
@@ -203,17 +209,17 @@ module _ (units ready : ℕ) (has : 0 < units) (start : List Disk) {past : List 
         (quiet_begins (office_replied Expired own_office) (managed Expired own_office own_terms.agents) told y (managed_idle (manager_step own_terms Expired) Expired own_terms (over_idle (before units ready has start w h))).reply (notes_law.manages Expired own_terms) (managed_office (manager_step own_terms Expired) Expired own_terms))
 
     module _ (requests : List Request) (are : AreOf requests own_terms.agents w.target) (known : AreKnown requests w.target w.requests) where
-      handed : IsHanded own_terms w.target purpose (ids entered.to) number serial
+      pub handed : IsHanded own_terms w.target purpose (ids entered.to) number serial
       handed = (are_handed units ready has start w h).all requests entered.to number waiting.kind serial purpose are known asked.waits_there under_there
 
       module _ (place : ℕ) (own : purpose ≡ Some (purposes.Agent place)) where
-        small : place < 8
+        pub small : place < 8
         small = L.places place (ids entered.to) number (subst (λ p. IsUnderWay w.target.layer p (ids entered.to) number) own under_there)
 
-        for_it : IsForAgent own_terms w.target place (ids entered.to) number serial
+        pub for_it : IsForAgent own_terms w.target place (ids entered.to) number serial
         for_it = handed.agent place own
 
-        serving_it : IsServing w.target place (sent_to request.peer request.label) for_it.which
+        pub serving_it : IsServing w.target place (sent_to request.peer request.label) for_it.which
         serving_it =
             let k = for_it.kept in
             serves_it units ready has start w h place small (sent_to request.peer request.label) for_it.which
