@@ -126,10 +126,10 @@ module _ (q : ℕ) (b : q < 8) (node : NodeState) (size : length node.desks ≡ 
       follow_tells q b node l.1 login l.0 t (stepped_holds which l.1 t.node refl) (lost_shaped (desk_at node q).agent which causes.Timeout)
 
 -- ---- a pointer and a doorbell: the agent asks behind the answer
-abbrev Asks : Ask → Machine → Type 0
+abbrev pub Asks : Ask → Machine → Type 0
 Asks ask m = IsShapedStep (asks ask, m)
 
-abbrev AsksIf : Result Ask PointRefusal × Machine → Type 0
+abbrev pub AsksIf : Result Ask PointRefusal × Machine → Type 0
 AsksIf (Ok ask, m) = Asks ask m
 AsksIf (Err refusal, m) = Unit {0}
 

@@ -24,6 +24,10 @@ pub mod EndNotes
 pub mod EndFound
 pub mod AgentEnds
 pub mod AgentDue
+pub mod FoundLabels
+pub mod AgentHere
+pub mod RestRuns
+pub mod RequestEvents
 pub mod OrderRanks
 pub mod OrderHanded
 pub mod OrderOwn
