@@ -124,9 +124,13 @@ module _ (finds_first finds : Body → Bool) (fifo : ℕ) where
   notes_tried i list one step m body = ap (λ b. brought_notes i list one b) (tried_brings step m body)
 
 -- ---- and as the target tells it
--- A step that ends an ORB writes its status, which ends nothing more; and in one that asks and ends none no agent died.
+-- A step that ends an ORB writes its status, the last one where the agent died, which ends nothing more.
+abbrev pub IsAlive : Option FailCause → Type 0
+IsAlive None = Unit {0}
+IsAlive (Some cause) = ⊥
+
 abbrev pub IsShaped : Option StatusKind → Option FailCause → Phase → Type 0
-IsShaped (Some kind) dead phases.WritingStatus = Unit {0}
+IsShaped (Some kind) dead phases.WritingStatus = IsAlive dead
 IsShaped (Some kind) dead phases.WritingLastStatus = Unit {0}
 IsShaped (Some kind) dead phase = ⊥
 IsShaped None dead phase = Unit {0}

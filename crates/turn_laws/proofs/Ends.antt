@@ -1,5 +1,5 @@
 -- In each turn of every run exactly the deaths and ends stand that the step of an agent brings.
-use Rattle.std.proofs.Common.{arith, ◌≡◌, ◌∙◌, refl, sym, ap, subst, ℕ, suc, ◌+◌, ◌<◌, nat_eq, nat_lt, Bool, true, false, cond, List, [], ◌∷◌, length, Option, Some, None, Result, Ok, Err}
+use Rattle.std.proofs.Common.{arith, ◌≡◌, ◌∙◌, refl, sym, ap, subst, ℕ, suc, ◌+◌, ◌<◌, nat_eq, nat_lt, Bool, true, false, cond, List, [], ◌∷◌, length, map, Option, Some, None, Result, Ok, Err}
 use Rattle.label_table.specs.declared.reply.Stale.{Stale}
 use Rattle.packet_store.specs.declared.sent.Sent.{Sent}
 use Rattle.packet_store.specs.Kept.{found_sent}
@@ -8,6 +8,14 @@ use Rattle.sbp_bus.specs.Generations.{id_of}
 use Rattle.sbp_bus.specs.Packets.{end_note, judged_note}
 use Rattle.sbp_bus.specs.Requests.{find}
 use Rattle.sbp_bus.specs.declared.requests.Request.{Request}
+use Rattle.sbp_initiator.specs.Receiving.{receive_step}
+use Rattle.sbp_journal.specs.Outgoings.{empty_outbox}
+use Rattle.sbp_journal.specs.declared.side.Side.{Side}
+use Rattle.sbp_journal.specs.declared.side.Side.TheVariants as sides
+use Rattle.sbp_target.specs.Histories.Sides.{reset_changes}
+use Rattle.sbp_target.specs.Receiving.{seen, ticked}
+use Rattle.sbp_world.specs.Delivering.{marked}
+use Rattle.sbp_world.specs.Nodes.{told_seen, with_seen}
 use Rattle.sbp_journal.specs.Run.{Moment, asked, said}
 use Rattle.sbp_journal.specs.Wire.{Terms, terms}
 use Rattle.sbp_journal.specs.declared.cause.Judged.{Judged}
@@ -30,7 +38,7 @@ use Rattle.sbp_target.specs.Nodes as target
 use Rattle.sbp_target.proofs.Histories.Told.{side_law}
 use Rattle.sbp_world.specs.Hosts.Handing.{AreOthers}
 use Rattle.sbp_world.specs.Lines.{weight_in}
-use Rattle.sbp_world.specs.Worlds.{Scene, with_note, with_target}
+use Rattle.sbp_world.specs.Worlds.{Scene, initiator_at, with_initiator, with_note, with_target}
 use Rattle.sbp_world.proofs.Agents.Management.Still.{hist}
 use Rattle.turn_laws.specs.Ends.{EndsLaw, EndsWhereDue}
 use Rattle.turn_laws.proofs.Calls.{Brings, Cases, calls, injects, loses, refuses, refuses_action, resets, sets_key}
@@ -79,6 +87,9 @@ own_got units ready has start past s here serial one found i to_is judgements.Go
 own_got units ready has start past s here serial one found i to_is (judgements.Ignored cause) rest = refl
 
 -- ---- the turns of the calls
+abbrev expiries : List ℕ → List Side
+expiries ids = map (λ login. sides.Expired login) ids
+
 line_ends : (start : List Disk) (line : ℕ) (s : Scene) (past : List Moment) (event : LineEvent) (rest : List Note) → Brings line s event rest → EndsWhereDue start (turn past (asked line event) rest)
 line_ends start line s past event rest (calls is_event c) = refl
 line_ends start line s past event rest (refuses is_event number) = refl
@@ -96,19 +107,26 @@ module _ (units ready : ℕ) (has : 0 < units) (start : List Disk) where
   pub ends_cases : Cases units ready start (EndsWhereDue start)
   ends_cases = record {
     heard = λ past s serial again run one found zero_to may others here behind judged. called_ends units ready has start past s here serial again run one found zero_to may others judged;
-    heard_own = λ past s serial again one i found to_is inside own here behind judged. own_ends (suc i) 0 _ _ own ∙ sym (own_got units ready has start past s here serial one found i to_is _ _);
+    heard_own = λ past s serial again one i found to_is inside own here behind judged.
+        let x = receive_step one.generation one.bytes empty_outbox (initiator_at s.world i) in
+        let v = with_note (judged_note serial x.0) (marked serial again (with_initiator i x.1.1 s.world)) in
+        own_ends (suc i) 0 x.1.0 v own ∙ sym (own_got units ready has start past s here serial one found i to_is x.0 (handed (suc i) 0 x.1.0 v));
     late = λ past s serial request done t found node_is e others here behind judged.
         subst (Expires units ready has start past s here serial request found node_is) e (late_ends units ready has start past s here serial request found node_is) others;
-    late_own = λ past s serial request i outbox state found node_is inside e own here behind judged. own_ends (suc i) 0 outbox _ own ∙ sym (own_late units ready has start past s here serial request found i node_is _);
+    late_own = λ past s serial request i outbox state found node_is inside e own here behind judged.
+        let v = with_note (notes.TimedOut serial) (with_initiator i state s.world) in
+        own_ends (suc i) 0 outbox v own ∙ sym (own_late units ready has start past s here serial request found i node_is (handed (suc i) 0 outbox v));
     sees = λ past s others here behind judged.
         let g = s.world.generations.latest in
         let told = side_law.sights g.generation (id_of g 0) s.world.target in
         let b = nat_lt s.world.target.layer.generation g.generation in
-        none_handed _ _ others (subst NoEnds (sym told) (low_ranks _ 0 (rises_above side_rank _ 0 2 4 (omega arith) (reset_ranks b s.world.target))));
+        let x = (seen g.generation (id_of g 0) (target.scene s.world.target empty_outbox)).1 in
+        none_handed x.outbox (with_target x.node (with_seen 0 (told_seen 0 s.world))) others (subst NoEnds (sym told) (low_ranks (cond b (reset_changes s.world.target) []) 0 (rises_above side_rank (cond b (reset_changes s.world.target) []) 0 2 4 (omega arith) (reset_ranks b s.world.target))));
     sees_own = λ past s i inside own here behind judged. own_ends (suc i) 0 _ _ own;
     ticks = λ past s others here behind judged.
         let told = side_law.seconds s.world.target in
-        none_handed _ _ others (subst NoEnds (sym told) (low_ranks _ 2 (rises_above side_rank _ 2 2 4 (omega arith) (expired_ranks (expired_ids s.world.target.logins.places)))));
+        let x = ticked (target.scene s.world.target empty_outbox) in
+        none_handed x.outbox (with_target x.node (with_note notes.Tick s.world)) others (subst NoEnds (sym told) (low_ranks (expiries (expired_ids s.world.target.logins.places)) 2 (rises_above side_rank (expiries (expired_ids s.world.target.logins.places)) 2 2 4 (omega arith) (expired_ranks (expired_ids s.world.target.logins.places)))));
     ends = λ past s done here behind. end_ends start (hist past s.world) done;
     acts = λ past s line i action outbox state inside e own here behind. own_ends (i + 1) (weight_in action) outbox _ own;
     lines = λ past s line event rest behind brings fresh here there. line_ends start line s (hist past s.world) event rest brings;

@@ -34,8 +34,10 @@ use Rattle.sbp_laws.specs.NoteKinds.{is_end_note, of_kind}
 use Rattle.sbp_laws.specs.Packets.{finds_label}
 use Rattle.sbp_laws.specs.Targets.{Reply, Target, agent_at, initiator_at, login_at, plain_for}
 use Rattle.sbp_laws.specs.Turns.{EachTurnBefore, Turn, turn}
+use Rattle.sbp_world.specs.Histories.{history_of}
 use Rattle.turn_laws.specs.Ends.{EndsWhereDue}
 use Rattle.turn_laws.specs.Once.{DiesOnce, OnceLaw}
+use Rattle.turn_laws.specs.Runs.{history_between}
 use Rattle.turn_laws.proofs.Ends.{ends_law}
 use Rattle.turn_laws.proofs.EndShapes.{reply_shaped}
 use Rattle.turn_laws.proofs.EndTries.{Brought, IsShaped, brings, brought, brought_notes, brought_unsent, dead_in, found_by, notes_tried}
@@ -260,6 +262,6 @@ once_of start t h =
 
 pub once_law : OnceLaw
 once_law = record {
-  after_lines = λ line run is some most size. each_turn (EndsWhereDue run.start.disks) (DiesOnce run.start.disks) (once_of run.start.disks) _ [] (ends_law.after_lines line run is some most size);
-  between = λ line run is some most size next deliveries told may. each_turn (EndsWhereDue run.start.disks) (DiesOnce run.start.disks) (once_of run.start.disks) _ [] (ends_law.between line run is some most size next deliveries told may);
+  after_lines = λ line run is some most size. each_turn (EndsWhereDue run.start.disks) (DiesOnce run.start.disks) (once_of run.start.disks) (history_of line run) [] (ends_law.after_lines line run is some most size);
+  between = λ line run is some most size next deliveries told may. each_turn (EndsWhereDue run.start.disks) (DiesOnce run.start.disks) (once_of run.start.disks) (history_between line run next deliveries told) [] (ends_law.between line run is some most size next deliveries told may);
 }

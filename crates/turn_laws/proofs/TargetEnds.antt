@@ -58,6 +58,9 @@ use Rattle.turn_laws.proofs.RequestEnds.{answered_sides, request_ends}
 differ : (p q : Packet) (label : LabelParts) (purpose : Option Purpose) → ◌≡◌ {A = Finding Purpose} (of_request p) (of_response q label purpose) → ⊥
 differ p q label purpose e = cc
 
+none_told : NoEnds []
+none_told = tt
+
 module _ (units ready : ℕ) (has : 0 < units) (start : List Disk) (past : List Moment) (s : Scene) (here : Place units ready start past s) (serial : ℕ) (again : Bool) (run : Option Told) (one : Sent) (found : found_sent serial s.world.store.kept ≡ Some one) (zero_to : one.to ≡ 0) (may : MayTell run one s.world.target s.media) where
   abbrev w : WorldState
   w = s.world
@@ -122,11 +125,12 @@ module _ (units ready : ℕ) (has : 0 < units) (start : List Disk) (past : List 
 
   by_finding : (f : Finding Purpose) (layer : Layer Purpose) → judging_step node.layer one.generation one.bytes ≡ (f, layer) → IsFound f node.layer layer one.bytes → IfCalled (Given f layer)
   unfolding request_step is_barred
-  by_finding of_generation layer e f = λ others judged runs. ignored_ends causes.Generation _ _ others tt
-  by_finding of_grammar layer e f = λ others judged runs. ignored_ends causes.Grammar _ _ others tt
-  by_finding of_label layer e f = λ others judged runs. ignored_ends causes.Label _ _ others tt
+  by_finding of_generation layer e f = λ others judged runs. let x = (Given of_generation layer).1 in ignored_ends causes.Generation x.node x.outbox others none_told
+  by_finding of_grammar layer e f = λ others judged runs. let x = (Given of_grammar layer).1 in ignored_ends causes.Grammar x.node x.outbox others none_told
+  by_finding of_label layer e f = λ others judged runs. let x = (Given of_label layer).1 in ignored_ends causes.Label x.node x.outbox others none_told
   by_finding (of_again p rcode) layer e f = λ others judged runs.
-      ignored_ends causes.Again _ _ others (subst NoEnds (sym (answered_sides p one.bytes rcode [] (scene (record node { layer = layer }) empty_outbox))) tt)
+      let x = (Given (of_again p rcode) layer).1 in
+      ignored_ends causes.Again x.node x.outbox others (subst NoEnds (sym (answered_sides p one.bytes rcode [] (scene (record node { layer = layer }) empty_outbox))) tt)
   by_finding (of_response p label None) layer e f = λ others judged runs.
       let x = (Given (of_response p label None) layer).1 in
       nobody_ends units ready has start past s here serial again one found zero_to judged run may p f.read f.kind label layer e x.node x.outbox refl others

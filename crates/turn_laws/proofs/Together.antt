@@ -3,6 +3,7 @@ use Rattle.turn_laws.specs.Together.{TurnsLaw}
 use Rattle.turn_laws.proofs.Announcing.{announced_law}
 use Rattle.turn_laws.proofs.Cleared.{cleared_law}
 use Rattle.turn_laws.proofs.Cuts.{cuts_law}
+use Rattle.turn_laws.proofs.Ends.{ends_law}
 use Rattle.turn_laws.proofs.Faults.{faults_law}
 use Rattle.turn_laws.proofs.Judgements.{judgement_run_law}
 use Rattle.turn_laws.proofs.LoginRuns.{login_run_law}
@@ -18,6 +19,7 @@ turns_law = record {
     cuts = cuts_law.after_lines line run is some most size;
     cleared = cleared_law.after_lines line run is some most size;
     packets = packets_run_law.after_lines line run is some most size;
+    ends = ends_law.after_lines line run is some most size;
     faults = faults_law.after_lines line run is some most size;
     announced = announced_law.after_lines line run is some most size;
   };
@@ -28,6 +30,7 @@ turns_law = record {
     cuts = cuts_law.between line run is some most size next deliveries told may;
     cleared = cleared_law.between line run is some most size next deliveries told may;
     packets = packets_run_law.between line run is some most size next deliveries told may;
+    ends = ends_law.between line run is some most size next deliveries told may;
     faults = faults_law.between line run is some most size next deliveries told may;
     announced = announced_law.between line run is some most size next deliveries told may;
   };

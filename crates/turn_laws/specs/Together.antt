@@ -10,6 +10,7 @@ use Rattle.sbp_laws.specs.Turns.{EachMoment, EachTurn}
 use Rattle.turn_laws.specs.Announced.{AnnouncesWhereDue}
 use Rattle.turn_laws.specs.Cleared.{ClearsWhereDue}
 use Rattle.turn_laws.specs.Cuts.{CutsWhereDue}
+use Rattle.turn_laws.specs.Ends.{EndsWhereDue}
 use Rattle.turn_laws.specs.Faults.{DiesBeforeFaults}
 use Rattle.turn_laws.specs.Runs.{OfEveryRun}
 
@@ -20,6 +21,7 @@ pub record LawfulInTurns (start : List Disk) (past : List Moment) : Type 0 where
   pub cuts : EachTurn (CutsWhereDue start) past
   pub cleared : EachTurn (ClearsWhereDue start) past
   pub packets : EachMoment SentAt past
+  pub ends : EachTurn (EndsWhereDue start) past
   pub faults : EachTurn DiesBeforeFaults past
   pub announced : EachTurn (AnnouncesWhereDue start) past
 

@@ -2,6 +2,7 @@
 ghost use Rattle.turn_laws.specs.Announced.{AnnouncedLaw};
 ghost use Rattle.turn_laws.specs.Cleared.{ClearedLaw};
 ghost use Rattle.turn_laws.specs.Cuts.{CutsLaw};
+ghost use Rattle.turn_laws.specs.Ends.{EndsLaw};
 ghost use Rattle.turn_laws.specs.Faults.{FaultsLaw};
 ghost use Rattle.turn_laws.specs.Judgement.{JudgementRunLaw};
 ghost use Rattle.turn_laws.specs.Login.{LoginRunLaw};
@@ -38,6 +39,15 @@ pub fn lists_are_cut_where_due()
 #[tactic(auto, using(crate::proofs::Faults::faults_law))]
 pub fn faults_follow_deaths()
     ensures { FaultsLaw }
+{}
+
+/// In each turn of every run exactly the deaths of agents and the ends of ORBs stand that the step of an agent
+/// brings, at a reply, a time-out, a pointer or a doorbell, or where its first request finds no label, whatever
+/// anybody injected: each of the initiator, the list and the ORB that the history names, a death before the end
+/// that it brings or behind the one whose status write finds no label: `ends` of the cause law.
+#[tactic(auto, using(crate::proofs::Ends::ends_law))]
+pub fn orbs_end_where_due()
+    ensures { EndsLaw }
 {}
 
 /// The login law holds of every run, whatever anybody injected: in each turn the decisions stand that are
