@@ -21,7 +21,7 @@ module _ {A : Type 0} (rank : A → ℕ) where
   Rises r [] top = r ≤ top
   Rises r (x ∷ later) top = (r ≤ rank x) × Rises (rank x) later top
 
-  rises_within : (xs : List A) (r top : ℕ) → Rises r xs top → r ≤ top
+  pub rises_within : (xs : List A) (r top : ℕ) → Rises r xs top → r ≤ top
   rises_within [] r top h = h
   rises_within (x ∷ later) r top h = let f : r ≤ rank x = h.0 in let i = rises_within later (rank x) top h.1 in omega (arith, f, i)
 

@@ -95,7 +95,7 @@ held_ranks (Some login) = by (is_live login)
     by true = (same_rank 2, same_rank 2)
     by false = same_rank 2
 
-reset_ranks : (b : Bool) (node : NodeState) → InRanks 0 (cond b (reset_changes node) []) 2
+pub reset_ranks : (b : Bool) (node : NodeState) → InRanks 0 (cond b (reset_changes node) []) 2
 reset_ranks true node =
     rises_both side_rank (by_place (cut_of cuts.Reset node)) (by_place (held_of node)) 0 0 2 (from_ranks (cut_of cuts.Reset node) 0 (λ place. cut_ranks _ cuts.Reset place) 8 0)
     (rises_below side_rank (by_place (held_of node)) 0 2 2 (omega arith) (from_ranks (held_of node) 2 (λ place. held_ranks (login_at node place)) 8 0))
@@ -106,7 +106,7 @@ sight_in_ranks generation id node =
     let b = nat_lt node.layer.generation generation in
     rises_above side_rank (seen generation id (scene node empty_outbox)).1.outbox.sides 0 2 7 (omega arith) (subst (λ told. InRanks 0 told 2) (sym (side_law.sights generation id node)) (reset_ranks b node))
 
-expired_ranks : (ids : List ℕ) → InRanks 2 (map (λ login. sides.Expired login) ids) 2
+pub expired_ranks : (ids : List ℕ) → InRanks 2 (map (λ login. sides.Expired login) ids) 2
 expired_ranks [] = same_rank 2
 expired_ranks (id ∷ ids) = (same_rank 2, expired_ranks ids)
 

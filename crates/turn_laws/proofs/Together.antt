@@ -6,6 +6,7 @@ use Rattle.turn_laws.proofs.Cuts.{cuts_law}
 use Rattle.turn_laws.proofs.DecisionRuns.{decided_law}
 use Rattle.turn_laws.proofs.FailingRuns.{failing_law}
 use Rattle.turn_laws.proofs.FailureNotes.{failures_law}
+use Rattle.turn_laws.proofs.Ends.{ends_law}
 use Rattle.turn_laws.proofs.Faults.{faults_law}
 use Rattle.turn_laws.proofs.Judgements.{judgement_run_law}
 use Rattle.turn_laws.proofs.LoginRuns.{login_run_law}
@@ -21,6 +22,7 @@ turns_law = record {
     cuts = cuts_law.after_lines line run is some most size;
     cleared = cleared_law.after_lines line run is some most size;
     packets = packets_run_law.after_lines line run is some most size;
+    ends = ends_law.after_lines line run is some most size;
     faults = faults_law.after_lines line run is some most size;
     decided = decided_law.after_lines line run is some most size;
     failures = failures_law.after_lines line run is some most size;
@@ -34,6 +36,7 @@ turns_law = record {
     cuts = cuts_law.between line run is some most size next deliveries told may;
     cleared = cleared_law.between line run is some most size next deliveries told may;
     packets = packets_run_law.between line run is some most size next deliveries told may;
+    ends = ends_law.between line run is some most size next deliveries told may;
     faults = faults_law.between line run is some most size next deliveries told may;
     decided = decided_law.between line run is some most size next deliveries told may;
     failures = failures_law.between line run is some most size next deliveries told may;

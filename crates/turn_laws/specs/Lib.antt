@@ -3,6 +3,7 @@ pub mod Cleared
 pub mod Cuts
 pub mod Announced
 pub mod Faults
+pub mod Ends
 pub mod Ordered
 pub mod Logins
 pub mod Decisions

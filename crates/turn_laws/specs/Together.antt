@@ -13,6 +13,7 @@ use Rattle.turn_laws.specs.Cleared.{ClearsWhereDue}
 use Rattle.turn_laws.specs.Cuts.{CutsWhereDue}
 use Rattle.turn_laws.specs.Failing.{FailsByRows}
 use Rattle.turn_laws.specs.Failures.{FailsWhereDue}
+use Rattle.turn_laws.specs.Ends.{EndsWhereDue}
 use Rattle.turn_laws.specs.Faults.{DiesBeforeFaults}
 use Rattle.turn_laws.specs.Runs.{OfEveryRun}
 
@@ -23,6 +24,7 @@ pub record LawfulInTurns (start : List Disk) (past : List Moment) : Type 0 where
   pub cuts : EachTurn (CutsWhereDue start) past
   pub cleared : EachTurn (ClearsWhereDue start) past
   pub packets : EachMoment SentAt past
+  pub ends : EachTurn (EndsWhereDue start) past
   pub faults : EachTurn DiesBeforeFaults past
   pub decided : EachTurn (DecisionStands start) past
   pub failures : EachTurn (FailsWhereDue start) past

@@ -5,6 +5,7 @@ ghost use Rattle.turn_laws.specs.Cuts.{CutsLaw};
 ghost use Rattle.turn_laws.specs.Decided.{DecidedLaw};
 ghost use Rattle.turn_laws.specs.Failing.{FailingLaw};
 ghost use Rattle.turn_laws.specs.Failures.{FailuresLaw};
+ghost use Rattle.turn_laws.specs.Ends.{EndsLaw};
 ghost use Rattle.turn_laws.specs.Faults.{FaultsLaw};
 ghost use Rattle.turn_laws.specs.Judgement.{JudgementRunLaw};
 ghost use Rattle.turn_laws.specs.Login.{LoginRunLaw};
@@ -50,6 +51,13 @@ pub fn faults_follow_deaths()
 #[tactic(auto, using(crate::proofs::DecisionRuns::decided_law))]
 pub fn decisions_stand_as_told()
     ensures { DecidedLaw }
+/// In each turn of every run exactly the deaths of agents and the ends of ORBs stand that the step of an agent
+/// brings, at a reply, a time-out, a pointer or a doorbell, or where its first request finds no label, whatever
+/// anybody injected: each of the initiator, the list and the ORB that the history names, a death before the end
+/// that it brings or behind the one whose status write finds no label: `ends` of the cause law.
+#[tactic(auto, using(crate::proofs::Ends::ends_law))]
+pub fn orbs_end_where_due()
+    ensures { EndsLaw }
 {}
 
 /// The login law holds of every run, whatever anybody injected: in each turn the decisions stand that are

@@ -214,13 +214,13 @@ module _ (units ready : ℕ) (has : 0 < units) (start : List Disk) {past : List 
       handed = (are_handed units ready has start w h).all requests entered.to number waiting.kind serial purpose are known asked.waits_there under_there
 
       module _ (place : ℕ) (own : purpose ≡ Some (purposes.Agent place)) where
-        small : place < 8
+        pub small : place < 8
         small = L.places place (ids entered.to) number (subst (λ p. IsUnderWay w.target.layer p (ids entered.to) number) own under_there)
 
-        for_it : IsForAgent own_terms w.target place (ids entered.to) number serial
+        pub for_it : IsForAgent own_terms w.target place (ids entered.to) number serial
         for_it = handed.agent place own
 
-        serving_it : IsServing w.target place (sent_to request.peer request.label) for_it.which
+        pub serving_it : IsServing w.target place (sent_to request.peer request.label) for_it.which
         serving_it =
             let k = for_it.kept in
             serves_it units ready has start w h place small (sent_to request.peer request.label) for_it.which

@@ -167,10 +167,10 @@ module _ (units ready : ℕ) (has : 0 < units) (start : List Disk) {past : List 
         pub a : IsAnswer wire serial q p
         a = answers wire serial q p was_it read some (judged.0 q was_it)
 
-        hand : IsHanded T w.target purpose (wire.ids (wire.generation 0) sent.from) (header_in p).label a.own
+        pub hand : IsHanded T w.target purpose (wire.ids (wire.generation 0) sent.from) (header_in p).label a.own
         hand = handed units ready has start w h serial false sent found zero_to p read some label purpose layer e a site.agents.requests site.agents.are site.agents.known
 
-        event_for : (for : TermPurpose) → purpose_of T a.own ≡ for → agent_event start t ≡ reply_to for (answer_in p)
+        pub event_for : (for : TermPurpose) → purpose_of T a.own ≡ for → agent_event start t ≡ reply_to for (answer_in p)
         event_for for f =
             event_to true to_it ∙ ap (λ own. got_in own T wire serial) a.answered ∙ ap (λ x. reply_to x (term_answer (packet_at wire serial))) f
             ∙ ap (λ x. reply_to for x) (answer_same units ready has start w h serial false sent found zero_to p read some label purpose layer e a)
@@ -215,10 +215,10 @@ module _ (units ready : ℕ) (has : 0 < units) (start : List Disk) {past : List 
             abbrev own_step : Option Told → AgentStep × Machine
             own_step run = reply_step (desk_at w.target place).agent place plain run which answer
 
-            event_is : agent_event start t ≡ replies reply
+            pub event_is : agent_event start t ≡ replies reply
             event_is = event_for (for_agent place its.which) its.is ∙ ap (λ k. replies (record { place = place; which = k; answer = answer })) (some_same (sym serve.which_is ∙ is_which))
 
-            plain_is : plain_for T reply ≡ plain
+            pub plain_is : plain_for T reply ≡ plain
             plain_is = plain_there units ready has start w h s.media.disks units_are place login there
 
             abbrev due_by : AgentStep × Machine → List Run
@@ -228,7 +228,7 @@ module _ (units ready : ℕ) (has : 0 < units) (start : List Disk) {past : List 
             due_is told f =
                 due_as (replies reply) event_is ∙ ap (λ x. due_by (step_by x (told_among (initiator_at T wire place) rest x))) plain_is ∙ ap (λ y. due_by (step_by plain y)) f
 
-            alike : (v : Bool) (told run : Option Told) → TellsAlike v (told_or told) (told_or run) → StepsAlike A.untold v (step_by plain told) (own_step run)
+            pub alike : (v : Bool) (told run : Option Told) → TellsAlike v (told_or told) (told_or run) → StepsAlike A.untold v (step_by plain told) (own_step run)
             alike v told run tells = reply_alike A.untold v A.machine (desk_at w.target place).agent place plain told run which answer (site.agents.are.each place inside).machine tells
 
             -- the target's runs none

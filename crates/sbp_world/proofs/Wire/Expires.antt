@@ -74,7 +74,7 @@ module _ {P : Type 0} {past : List Moment} {layers : ℕ → Node} (w : WorldSta
   abbrev pub Aims : Type 0
   Aims = request.label.generation ≡ (h.wire.layer request.node).generation → id_for h.wire request.node latest.to ≡ id
 
-  timed_out_as : Aims → (purpose : Option P) (new : Layer P) → expiring_step layer id request.label ≡ (Ok purpose, new) → StandsAt past (upd layers request.node (bare new)) None (with_note (notes.TimedOut serial) w)
+  pub timed_out_as : Aims → (purpose : Option P) (new : Layer P) → expiring_step layer id request.label ≡ (Ok purpose, new) → StandsAt past (upd layers request.node (bare new)) None (with_note (notes.TimedOut serial) w)
   timed_out_as aims purpose new e =
       let wire = h.wire in
       let t : Terms = terms wire.past in

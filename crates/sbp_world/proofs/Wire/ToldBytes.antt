@@ -68,7 +68,7 @@ in_fits told (of_again p rcode) w before now t = none_fits told t.0
 in_fits told (of_request p) w before now t = none_fits told t.0
 
 -- ---- a delivery
-told_fits : (b : Bool) (told : Option Told) (sent : Sent) (s : Scene) → MayTold b told sent s → BytesTold told
+pub told_fits : (b : Bool) (told : Option Told) (sent : Sent) (s : Scene) → MayTold b told sent s → BytesTold told
 unfolding MayTell
 told_fits true told sent s m =
     let j = judged_target sent s.world.target s.media in

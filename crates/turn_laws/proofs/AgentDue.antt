@@ -1,0 +1,109 @@
+-- The deaths and ends of an agent's turn are due, where the turn's step at the target and at the terms is one: the notes name whom and what the laws name, and the first request finds a label by both.
+use Rattle.std.proofs.Common.{arith, ◌≡◌, ◌∙◌, refl, sym, ap, subst, ℕ, suc, ◌<◌, ◌^◌, is_some, Bool, true, false, cond, List, [], ◌∷◌, ◌++◌, length, Option, Some, None}
+use Rattle.bus_transactions.specs.Fitting.{FitsRequest}
+use Rattle.label_table.specs.Bodies.{Body}
+use Rattle.label_table.specs.Layer.{Layer}
+use Rattle.login_table.specs.declared.login.Login.{Login}
+use Rattle.orb_list.specs.Tickets.{TicketParts}
+use Rattle.command_agent.specs.Machine.{Machine, has_present}
+use Rattle.command_agent.specs.declared.phase.Phase.{Phase}
+use Rattle.command_agent.specs.declared.phase.Phase.TheVariants as phases
+use Rattle.command_agent.specs.declared.step.AgentStep.{AgentStep}
+use Rattle.rbc_disk.specs.Disk.{Disk}
+use Rattle.sbp_bus.specs.declared.places.Holder.{Holder}
+use Rattle.sbp_journal.specs.Run.{Moment, said}
+use Rattle.sbp_journal.specs.Wire.{Terms, terms}
+use Rattle.sbp_journal.specs.declared.side.Side.{Side}
+use Rattle.sbp_laws.specs.Agents.{AgentTurn, agent_notes_for, body_of, fifo_in, list_taken, wire_after, wire_before}
+use Rattle.sbp_laws.specs.Lists.{Orb, named}
+use Rattle.sbp_laws.specs.NoteKinds.{is_end_note, of_kind}
+use Rattle.sbp_laws.specs.Packets.{finds_label}
+use Rattle.sbp_laws.specs.Targets.{Target, initiator_at, login_at}
+use Rattle.sbp_laws.specs.Turns.{Turn}
+use Rattle.sbp_target.specs.declared.purpose.Purpose.{Purpose}
+use Rattle.sbp_target.specs.Agents.{agent_body}
+use Rattle.sbp_target.specs.Telling.{or_zero, orb_of}
+use Rattle.sbp_target.proofs.Histories.Stepped.{Carries}
+use Rattle.sbp_world.specs.Agents.Alike.{Alike, has_list}
+use Rattle.sbp_world.specs.Hosts.Rows.{name_in}
+use Rattle.sbp_world.proofs.FitTarget.Nodes.{IfBody}
+use Rattle.turn_laws.proofs.AgentEnds.{found_at}
+use Rattle.turn_laws.proofs.StepLabels.{finds_in, same_found}
+use Rattle.turn_laws.proofs.EndFound.{body_same, ends_tried}
+use Rattle.turn_laws.proofs.EndNotes.{brought_noted, ends_noted}
+use Rattle.turn_laws.proofs.EndShapes.{IsShapedStep}
+use Rattle.turn_laws.proofs.EndTries.{brought, brought_notes, brought_sides, found_by}
+
+-- an ORB that is there is that of a list
+listed : (phase : Phase) → has_present phase ≡ true → has_list phase ≡ true
+listed phases.Fetching e = refl
+listed phases.ReadingTable e = refl
+listed (phases.ReadingData wanted) e = refl
+listed phases.Answering e = refl
+listed phases.WritingStatus e = refl
+listed phases.WritingLastStatus e = refl
+listed phases.Reset e = absurd (let no : false ≡ true = e in cc)
+listed phases.ReadingNext e = refl
+listed phases.Suspended e = refl
+listed phases.Dead e = absurd (let no : false ≡ true = e in cc)
+
+-- What is known of such a turn: the agent's step at the target, with its request at this layer; and the notes that it tells, by who has the places.
+pub record IsTurnOf (start : List Disk) (T : Target) (t : Turn) (a : AgentTurn) (step : AgentStep) (m : Machine) (login : Login) (layer : Layer Purpose) : Type 0 where
+  pub step_is : a.step ≡ step
+  pub alike : Alike a.untold a.machine m
+  pub shaped : IsShapedStep (step, m)
+  pub carried : Carries step.ask m.outgoing
+  pub fits : IfBody (agent_body step.ask (is_some step.ended) login.fifo m.outgoing)
+  pub fifo : fifo_in (login_at T a.place) ≡ login.fifo
+  pub finds : (body : Body) → FitsRequest body → finds_in a.place layer login body ≡ finds_label (wire_after t) 0 (suc (initiator_at T (wire_before t) a.place)) body
+  pub holders : ℕ → Holder
+  pub tickets : ℕ → ℕ → Option TicketParts
+  pub told : of_kind is_end_note t.rest ≡ ends_noted holders tickets (brought_sides a.place m (brought (found_at a.place layer login step m) step m.phase))
+  pub initiator : (holders a.place).initiator ≡ initiator_at T (wire_before t) a.place
+  pub list : (holders a.place).list ≡ list_taken start (t.start ∷ t.past) a.place
+  pub names : (orb : ℕ) → name_in (tickets a.place orb) ≡ named t.past (initiator_at T (wire_before t) a.place) orb
+
+module _ (start : List Disk) (T : Target) (t : Turn) (a : AgentTurn) (step : AgentStep) (m : Machine) (login : Login) (layer : Layer Purpose) (h : IsTurnOf start T t a step m login layer) where
+  abbrev q : ℕ
+  q = a.place
+
+  abbrev i : ℕ
+  i = initiator_at T (wire_before t) q
+
+  abbrev list : Option ℕ
+  list = list_taken start (t.start ∷ t.past) q
+
+  abbrev found : Bool
+  found = found_at q layer login step m
+
+  abbrev own : Option Body
+  own = body_of step.ask m step.ended (fifo_in (login_at T q))
+
+  own_is : agent_body step.ask (is_some step.ended) login.fifo m.outgoing ≡ own
+  own_is = body_same step.ask step.ended login.fifo m h.carried ∙ ap (body_of step.ask m step.ended) (sym h.fifo)
+
+  of_own : (body : Body) → own ≡ Some body → FitsRequest body
+  of_own body e = subst IfBody (own_is ∙ e) h.fits
+
+  found_is : found ≡ found_by (finds_in q layer login) own
+  found_is = ap (found_by (finds_in q layer login)) own_is
+
+  law_found : found_by (finds_label (wire_after t) 0 (suc i)) own ≡ found
+  law_found = sym (found_is ∙ same_found (finds_in q layer login) (finds_label (wire_after t) 0 (suc i)) own (λ body e. h.finds body (of_own body e)))
+
+  -- the name of its ORB
+  abbrev one : Option Orb
+  one = name_in (h.tickets q (orb_of m))
+
+  named_alike : has_present m.phase ≡ true → named t.past i a.machine.present ≡ one
+  named_alike e =
+      ap (named t.past i) (h.alike.present (listed m.phase e) ∙ sym (ap (λ b. or_zero (cond b (Some m.present) None)) e)) ∙ sym (h.names (orb_of m))
+
+  told_is : of_kind is_end_note t.rest ≡ brought_notes i list one (brought found step m.phase)
+  told_is =
+      let b = brought found step m.phase in
+      h.told ∙ (brought_noted h.holders h.tickets q m b
+      ∙ (ap (λ n. brought_notes n (h.holders q).list one b) h.initiator ∙ ap (λ l. brought_notes i l one b) h.list))
+
+  pub agent_due : of_kind is_end_note t.rest ≡ agent_notes_for start T t a
+  agent_due = ends_tried T t a step m h.step_is h.alike h.shaped found list one told_is (finds_in q layer login) (named t.past i a.machine.present) found_is law_found named_alike

@@ -1,0 +1,131 @@
+-- A request of a node finds a label exactly where the history says so: at any wire that stands and owes no answer, so also between two moves of a turn, and for any layer of the node whatever
+-- its transactions are for.
+use Rattle.std.proofs.Common.{arith, ◌≡◌, refl, sym, ◌∙◌, ap, subst, ℕ, zero, suc, ◌+◌, ◌<◌, ◌≤◌, is_some, Bool, false, cond, List, Option, Some, None, length}
+use Rattle.async_packet.specs.Canon.{IsValid, canon}
+use Rattle.async_packet.proofs.RoundTrip.{canon_spells}
+use Rattle.bus_transactions.specs.Bare.{bare, bare_after, same}
+use Rattle.bus_transactions.specs.May.{MayAsk}
+use Rattle.bus_transactions.specs.Sent.{LabelsLaw, bare_request}
+use Rattle.bus_transactions.specs.Sent as sent
+use Rattle.bus_transactions.specs.Wire.{Node, Wire, id_for, transaction}
+use Rattle.bus_transactions.proofs.Bares.{takes_steps}
+use Rattle.bus_transactions.proofs.MoveAsk.{asked_bytes}
+use Rattle.bus_transactions.proofs.SentLaws.{asked_own, labels_always}
+use Rattle.bus_transactions.proofs.Stands.{Stands as Holds}
+use Rattle.bus_transactions.proofs.Steps.{AskedAs, asks}
+use Rattle.label_table.specs.declared.judgement.Asked.{Asked}
+use Rattle.label_table.specs.Bodies.{Body, header_to, request_with}
+use Rattle.label_table.specs.Layer.{Layer, asking_step, unlabelled}
+use Rattle.label_table.specs.Requests.{with_label}
+use Rattle.label_table.proofs.Requests.{least_spelled}
+use Rattle.label_table.proofs.Rewritten.{writes_labels}
+use Rattle.sbp_journal.specs.Run.{Moment}
+use Rattle.sbp_journal.specs.Wire.{Terms, terms}
+use Rattle.sbp_laws.specs.Packets.{finds_label, label_for, lowest_from, request_bytes, serves}
+use Rattle.sbp_world.specs.Hosts.Labels.{label_in}
+use Rattle.sbp_world.specs.Wire.Wires.{StandsAt}
+use Rattle.sbp_world.specs.Worlds.{WorldState}
+use Rattle.sbp_world.proofs.Agents.Management.Still.{hist}
+use Rattle.sbp_world.proofs.Hosts.Labels.{first_found, serves_same}
+use Rattle.sbp_world.proofs.Wire.Bus.{holds}
+
+none_found : (tries label : ℕ) (test : ℕ → Bool) → ((m : ℕ) → m < label + tries → test m ≡ false) → lowest_from tries test label ≡ None
+unfolding lowest_from
+none_found zero label test h = refl
+none_found (suc tries) label test h =
+    ap (λ b. cond b (Some label) (lowest_from tries test (label + 1))) (h label (omega arith)) ∙ none_found tries (label + 1) test (λ m l. h m (omega arith))
+
+found_by : (t : Terms) (node peer : ℕ) (body : Body) (o : Option ℕ) → label_for t node peer (request_bytes t node peer body) ≡ o → finds_label t node peer body ≡ is_some o
+found_by t node peer body None e = rw e refl
+found_by t node peer body (Some label) e = rw e refl
+
+some_label : (o : Option Asked) → is_some (label_in o) ≡ is_some o
+some_label None = refl
+some_label (Some asked) = refl
+
+module _ {P : Type 0} {past : List Moment} {layers : ℕ → Node} (w : WorldState) (stands : StandsAt past layers None w) (node peer : ℕ) (node_there : node ≤ length w.initiators) (peer_there : peer ≤ length w.initiators) (layer : Layer P) (own_is : layers node ≡ bare layer) (id : ℕ) (id_is : id_for stands.wire node peer ≡ id) (body : Body) (valid : IsValid (request_with (header_to layer.node id 0) body)) where
+  abbrev wire : Wire
+  wire = stands.wire
+
+  abbrev T : Terms
+  T = terms wire.past
+
+  abbrev own : Layer (Unit {0}) → ℕ → Option Asked
+  own l to = (asking_step l to body tt).0
+
+  wire_holds : Holds wire
+  wire_holds = holds wire stands.reached
+
+  layer_is : wire.layer node ≡ bare layer
+  layer_is = stands.is.layers_are node node_there ∙ own_is
+
+  bare_first : (r : Option Asked × Layer P) → (bare_after same r).0 ≡ r.0
+  bare_first (asked, after) = refl
+
+  asks_same : (purpose : P) → (asking_step layer id body purpose).0 ≡ own (wire.layer node) (id_for wire node peer)
+  asks_same purpose =
+      sym (ap (λ l. own l (id_for wire node peer)) layer_is
+      ∙ (ap (own (bare layer)) id_is
+      ∙ (ap (λ r. r.0) ((takes_steps P).asks layer id body purpose)
+      ∙ bare_first (asking_step layer id body purpose))))
+
+  may : MayAsk wire node peer body
+  may = record {
+    free = stands.is.due_is;
+    node_small = let f = stands.is.few in omega (arith, f, node_there);
+    peer_small = let f = stands.is.few in omega (arith, f, peer_there);
+    valid =
+        subst (λ (l : Node). IsValid (request_with (header_to l.node (id_for wire node peer) 0) body)) (sym layer_is)
+        (subst (λ n. IsValid (request_with (header_to layer.node n 0) body)) (sym id_is) valid);
+  }
+
+  -- the bytes of the request, as the history spells them
+  abbrev bytes : List ℕ
+  bytes = bare_request T node peer body
+
+  bytes_are : unlabelled (wire.layer node) (id_for wire node peer) body ≡ bytes
+  bytes_are =
+      let n = wire_holds.nodes node in
+      ap (λ x. canon (request_with (header_to x (id_for wire node peer) 0) body)) n.id
+      ∙ ap (λ g. canon (request_with (header_to (T.ids (T.generation node) node) (T.ids g peer) 0) body)) n.generation
+
+  least : 12 ≤ length bytes
+  least =
+      let p = request_with (header_to (wire.layer node).node (id_for wire node peer) 0) body in
+      subst (λ (bs : List ℕ). 12 ≤ length bs) bytes_are (least_spelled (canon p) p (canon_spells p may.valid))
+
+  none_serves : own (wire.layer node) (id_for wire node peer) ≡ None → label_for T node peer bytes ≡ None
+  unfolding label_for
+  none_serves e =
+      let law : LabelsLaw wire = subst LabelsLaw (sym stands.reached.is) (labels_always stands.reached.moves stands.reached.may) in
+      none_found 64 0 (serves T node peer bytes) (λ m l. serves_same T node peer bytes m least ∙ law node peer m body may e (omega arith))
+
+  one_serves : (asked : Asked) (new : Node) → AskedAs (wire.layer node) (id_for wire node peer) (unlabelled (wire.layer node) (id_for wire node peer) body) (Some asked, new) → label_for T node peer bytes ≡ Some asked.label.number
+  unfolding label_for
+  one_serves asked new a =
+      let n = asked.label.number in
+      let b = asked_bytes (wire.layer node).node (id_for wire node peer) n body asked.bytes may.valid a.small a.labelled in
+      let lowest = (asked_own wire wire_holds node peer body may asked new a).lowest n b.kind b.part in
+      let spelled : asked.bytes ≡ with_label n bytes = a.labelled ∙ ap (with_label n) bytes_are in
+      let small = a.small in
+      first_found 64 0 n (serves T node peer bytes) (omega arith) (omega arith)
+      (serves_same T node peer bytes n least ∙ (sym (ap (sent.serves T (transaction (T.generation node) node peer n)) spelled) ∙ lowest.takes))
+      (λ m l. serves_same T node peer bytes m least
+      ∙ (ap (sent.serves T (transaction (T.generation node) node peer m)) (sym (ap (with_label m) spelled ∙ writes_labels.last bytes m n))
+      ∙ lowest.lower m l))
+
+  label_by : (r : Option Asked × Node) → AskedAs (wire.layer node) (id_for wire node peer) (unlabelled (wire.layer node) (id_for wire node peer) body) r → (r.0 ≡ None → label_for T node peer bytes ≡ None) → label_in r.0 ≡ label_for T node peer bytes
+  label_by (None, new) a h = sym (h refl)
+  label_by (Some asked, new) a h = sym (one_serves asked new a)
+
+  pub label_at : (purpose : P) → (let t = terms (hist past w) in label_in (asking_step layer id body purpose).0 ≡ label_for t node peer (request_bytes t node peer body))
+  label_at purpose =
+      ap label_in (asks_same purpose)
+      ∙ (label_by (asking_step (wire.layer node) (id_for wire node peer) body tt) (asks (wire.layer node) (id_for wire node peer) body (wire_holds.nodes node).places) none_serves
+      ∙ ap (λ ms. label_for (terms ms) node peer (request_bytes (terms ms) node peer body)) stands.is.past_is)
+
+  pub finds_at : (purpose : P) → is_some (asking_step layer id body purpose).0 ≡ finds_label (terms (hist past w)) node peer body
+  finds_at purpose =
+      let t = terms (hist past w) in
+      sym (some_label (asking_step layer id body purpose).0)
+      ∙ (ap (λ o. is_some o) (label_at purpose) ∙ sym (found_by t node peer body (label_for t node peer (request_bytes t node peer body)) refl))
