@@ -20,7 +20,7 @@ use Rattle.sbp_world.specs.Hosts.Handing.{AreOthers, IsOther}
 use Rattle.sbp_world.specs.Hosts.Rows.{name_in}
 use Rattle.sbp_world.specs.Telling.{holder, ticket_at, told}
 use Rattle.sbp_world.specs.Worlds.{WorldState}
-use Rattle.sbp_world.proofs.Agents.Management.Owned.{AreOwn, IsNoRun}
+use Rattle.sbp_world.proofs.Formed.{AreOwn, IsNoRun}
 use Rattle.sbp_world.proofs.Lists.DueRuns.{list_same, number_same}
 use Rattle.turn_laws.proofs.EndTries.{Brought, brought_notes, brought_sides}
 use Rattle.turn_laws.proofs.FollowEnds.{dead_side, ended_side, ends_in}

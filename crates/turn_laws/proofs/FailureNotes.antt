@@ -63,7 +63,7 @@ use Rattle.sbp_world.proofs.Agents.CrewFirsts.{access_there, agrees}
 use Rattle.sbp_world.proofs.Agents.CrewLapse.{asked as lapse_asked, handed as lapse_handed}
 use Rattle.sbp_world.proofs.Agents.Management.Holding.{good_of, ours}
 use Rattle.sbp_world.proofs.Agents.Management.Lapse.{from_asked}
-use Rattle.sbp_world.proofs.Agents.Management.Owned.{IsNoRun}
+use Rattle.sbp_world.proofs.Formed.{IsNoRun}
 use Rattle.sbp_world.proofs.Agents.Management.Still.{hist}
 use Rattle.sbp_world.proofs.Agents.Purposes.{g, law}
 use Rattle.sbp_world.proofs.FitTarget.Demands.{FitsDemand, answer_small, demand_fits}
