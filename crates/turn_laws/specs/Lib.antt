@@ -8,5 +8,6 @@ pub mod Logins
 pub mod Decisions
 pub mod Login
 pub mod Packets
+pub mod Operations
 pub mod Judgement
 pub mod Together

@@ -5,6 +5,6 @@ mod laws;
 
 pub use laws::{
     discs_are_announced_where_due, faults_follow_deaths, judgements_are_lawful,
-    lists_are_cut_where_due, logins_are_lawful, packets_are_lawful, turns_are_in_order,
-    units_are_cleared_where_due,
+    lists_are_cut_where_due, logins_are_lawful, packets_are_lawful, statuses_end_operations,
+    turns_are_in_order, units_are_cleared_where_due,
 };
