@@ -35,6 +35,7 @@ pub mod OwnNotes
 pub mod OwnBlocks
 pub mod OwnTies
 pub mod OwnAnswers
+pub mod OwnFacts
 pub mod OwnActs
 pub mod OwnTurns
 pub mod OwnCases

@@ -1,5 +1,5 @@
 -- In each turn the notes of operations, lists and sessions are those that are due, where at each place the transactions of initiators are tied to the terms of their requests.
-use Rattle.std.proofs.Common.{[], arith, ◌<◌, ◌^◌, ◌∙◌, ◌∷◌, ◌≡◌, ◌≤◌, ◌==◌, ◌&&◌, ◌++◌, Bool, Err, List, None, Ok, Option, Result, Some, ap, cond, false, is_some, length, nat_eq, nat_lt, not, refl, subst, suc, sym, true, ℕ}
+use Rattle.std.proofs.Common.{[], arith, ◌+◌, ◌<◌, ◌^◌, ◌∙◌, ◌∷◌, ◌≡◌, ◌≤◌, ◌==◌, ◌&&◌, ◌++◌, Bool, Err, List, None, Ok, Option, Result, Some, ap, cond, false, is_some, length, nat_eq, nat_lt, not, refl, subst, suc, sym, true, ℕ}
 use Rattle.std.proofs.lemmas.Bool.Decides.{nat_tests}
 use Rattle.async_packet.specs.Labels.{LabelParts}
 use Rattle.async_packet.specs.Packet.{Packet, header_in}
@@ -88,7 +88,6 @@ pub record AreTies (past : List Moment) (i : ℕ) (s : InitiatorState) : Type 0 
   pub ends : (from number : ℕ) (purpose : Option Purpose) (kind : Kind) (serial : ℕ) → At s.layer ((terms past).ids ((terms past).generation (suc i)) from) number purpose → (terms past).held (transaction ((terms past).generation (suc i)) (suc i) from number) ≡ waits kind serial
       → IsTied (host_at past i) (present_list past i) (access_at (terms past) serial) serial s.operation s.seat s.quads s.lists.slots.present purpose kind
   pub resets : AreReset (host_at past i).operation s.operation (host_at past i).reads s.states
-  pub buffers : AreBuffers (host_at past i).responses s.lists.memory
   pub goes_on : (generation : ℕ) (bytes : List ℕ) (p : Packet) (label : LabelParts) (act : ℕ) → (judging_step s.layer generation bytes).0 ≡ of_response p label (Some (purposes.Rom act)) → GoesOn (record s { layer = (judging_step s.layer generation bytes).1 }) act
 
 -- the list that is dropped is the present one
@@ -303,7 +302,7 @@ module _ (units ready : ℕ) (start : List Disk) (past : List Moment) (s : Scene
     pub heard_due : AreTies ms i old → Judgement heard → RowFor wire q old.layer.node (judging_step old.layer one.generation one.bytes) → IsDue heard
     unfolding receive_step
     heard_due ties judged row =
-        heard_by ties.buffers
+        heard_by (here.holding i inside).responses
         (λ p label purpose l e j. response_due p label purpose (ap (λ (r : Finding Purpose × Layer Purpose). r.0) e) j ties l (ap (λ (r : Finding Purpose × Layer Purpose). r.1) e))
         (judging_step old.layer one.generation one.bytes) refl row judged
 
