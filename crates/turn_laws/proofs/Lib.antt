@@ -32,10 +32,10 @@ pub mod EveryPlace
 pub mod OwnEnds
 pub mod OwnStates
 pub mod OwnNotes
+pub mod OwnFacts
 pub mod OwnBlocks
 pub mod OwnTies
 pub mod OwnAnswers
-pub mod OwnFacts
 pub mod OwnActs
 pub mod OwnTurns
 pub mod OwnCases

@@ -1,5 +1,5 @@
 -- An action of an initiator ends no operation, drops no list and makes no session stuck: it tells the steps of its list alone.
-use Rattle.std.proofs.Common.{[], Bool, List, None, Option, Some, ap, cond, false, refl, true, ℕ, ◌++◌, ◌∙◌, ◌∷◌, ◌≡◌}
+use Rattle.std.proofs.Common.{[], List, None, Option, Some, ap, cond, false, refl, true, ℕ, ◌++◌, ◌∙◌, ◌∷◌, ◌≡◌}
 use Rattle.label_table.specs.Layer.{Layer}
 use Rattle.label_table.specs.declared.judgement.Asked.{Asked}
 use Rattle.orb_list.specs.Lists.{ListState, high_lists, low_lists}

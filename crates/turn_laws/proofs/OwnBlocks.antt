@@ -1,15 +1,12 @@
 -- What an initiator tells of its operations and its list as it gets a request is what the laws say: the status block of the management ORB of its operation ends that one, and no other request ends anything.
-use Rattle.std.proofs.Common.{[], arith, ◌%◌, ◌&&◌, ◌==◌, ◌||◌, ◌^◌, ◌*◌, ◌+◌, ◌<◌, ◌≤◌, Bool, Err, List, None, Ok, Option, Result, Some, ap, cond, false, length, nat_le, nat_lt, not, refl, subst, sym, true, ℕ, ◌++◌, ◌∙◌, ◌∷◌, ◌≡◌}
+use Rattle.std.proofs.Common.{[], arith, ◌%◌, ◌&&◌, ◌==◌, ◌^◌, ◌*◌, ◌+◌, ◌≤◌, Bool, Err, List, None, Ok, Option, Result, Some, ap, cond, false, length, nat_le, nat_lt, refl, subst, sym, true, ℕ, ◌∙◌, ◌∷◌, ◌≡◌}
 use Rattle.std.proofs.lemmas.Bool.Decides.{nat_tests}
 use Rattle.std.specs.Prelude.{slice_index_or, unwrap_or}
 use Rattle.async_packet.specs.declared.packet.Header.{Header}
 use Rattle.async_packet.specs.Packet.{Packet, lock, lock_response, read_block_response, read_quadlet, read_quadlet_response, write_block, write_quadlet, write_response}
 use Rattle.async_packet.specs.Packet.{read_block as reads_block}
-use Rattle.bus_memory.specs.Access.{read_step}
 use Rattle.bus_memory.specs.Memory.{place_at}
-use Rattle.bus_memory.specs.Windows.{is_fifo, start}
-use Rattle.bus_memory.specs.declared.window.Window.TheVariants as windows
-use Rattle.initiator_base.specs.Fifos.{fifo_at}
+use Rattle.bus_memory.specs.Windows.{is_fifo}
 use Rattle.initiator_base.specs.Places.{is_managed_orb, names_place}
 use Rattle.initiator_base.specs.declared.fifos.Fifo.{Fifo}
 use Rattle.initiator_base.specs.declared.fifos.Fifo.TheVariants as fifos
@@ -25,8 +22,8 @@ use Rattle.orb_list.specs.Lists.{ListState, drop_lists, take_lists, write_lists}
 use Rattle.orb_list.specs.Tickets.{TicketParts}
 use Rattle.sbp_base.specs.Quadlets.{quad}
 use Rattle.sbp_initiator.specs.Effects.{Turn, managed_step, response_of, told}
-use Rattle.sbp_initiator.specs.Receiving.{address_error, addressed, answer_of, block_at, block_by, block_step, called, fifo_of, got_step, ignored_step, is_foreign, managed_for, present_for, quadlet_at, read_as, request_step, respond_step, responded_as, serve_step, status_step, taken_as, taken_by, written_as}
-use Rattle.sbp_initiator.specs.States.{is_orb_of, is_present_orb, place_of, place_in, status_in}
+use Rattle.sbp_initiator.specs.Receiving.{address_error, addressed, answer_of, block_at, block_by, block_step, called, fifo_of, got_step, ignored_step, is_foreign, managed_for, present_for, quadlet_at, read_as, request_step, respond_step, status_step, taken_as, taken_by, written_as}
+use Rattle.sbp_initiator.specs.States.{is_present_orb, place_of, status_in}
 use Rattle.sbp_initiator.specs.declared.purpose.Running.{Running}
 use Rattle.sbp_initiator.specs.declared.state.InitiatorState.{InitiatorState}
 use Rattle.sbp_journal.specs.Addresses.{Access, access_of}
@@ -37,7 +34,6 @@ use Rattle.sbp_journal.specs.declared.cause.Judged.{Judged}
 use Rattle.sbp_journal.specs.declared.cause.Judged.TheVariants as judgements
 use Rattle.sbp_journal.specs.declared.note.Note.{Note}
 use Rattle.sbp_journal.specs.declared.note.Note.TheVariants as notes
-use Rattle.sbp_journal.specs.declared.operation.Operation.{Operation}
 use Rattle.sbp_laws.specs.Hosts.{Host, Underway, is_management}
 use Rattle.sbp_laws.specs.Hosts as terms
 use Rattle.sbp_laws.specs.JudgementLaw as judging
@@ -45,11 +41,12 @@ use Rattle.sbp_laws.specs.JudgementLaw.{is_managed}
 use Rattle.sbp_laws.specs.Operations.{End, end_by_write, end_notes, ends_by_block, ends_by_status, is_of, names_management, status_ends, told_status}
 use Rattle.sbp_session.specs.Seats.{is_out_seat}
 use Rattle.sbp_world.proofs.Hosts.Answering.{asks_block, asks_quadlet, locks, writes_block}
-use Rattle.sbp_world.proofs.Hosts.Statuses.Blocks.{IsManaged, command_is, is_read_by, managed_kind}
-use Rattle.sbp_world.specs.Hosts.Core.{operation_by, placed, work_in, work_of}
+use Rattle.sbp_world.proofs.Hosts.Statuses.Blocks.{command_is, is_read_by, managed_kind}
+use Rattle.sbp_world.specs.Hosts.Core.{placed, work_in, work_of}
 use Rattle.sbp_world.specs.Sessions.Holding.{AreBuffers}
 use Rattle.turn_laws.proofs.HostFacts.{AtFifo, fifo_is, managed_same, none_there, open_test, place_by}
 use Rattle.turn_laws.proofs.OwnEnds.{Says, own, untrue}
+use Rattle.turn_laws.proofs.OwnFacts.{operation_same}
 use Rattle.turn_laws.proofs.OwnNotes.{Ops, end_kept}
 use Rattle.turn_laws.proofs.OwnStates.{status_due}
 
@@ -151,7 +148,7 @@ module _ (s : InitiatorState) (host : Host) (present : Option ℕ) (work : work_
   status_by false underway running block status access p at is same e kind law = nothing_by access p (judgements.Ignored _) 0 [] (empty_outbox, s) refl refl
   status_by true underway running block status access p at is same e kind law =
       let manages : is_management underway.operation ≡ true = first_true (is_management underway.operation) _ e in
-      let operation_is : underway.operation ≡ running.operation = (let z : Some underway.operation ≡ Some running.operation = ap operation_by same in cc) in
+      let operation_is : underway.operation ≡ running.operation = operation_same underway running same in
       let responses = response_is underway running running.managed at manages (ap place_by same) refl in
       let end_is : end_by_write host (Some access) ≡ status_ends running.operation status (response_of running s) =
       law ∙ ap (λ k. ends_by_status (told_status k) underway.operation response) kind ∙ ap (λ x. status_ends x status response) operation_is ∙ ap (status_ends running.operation status) responses in

@@ -1,5 +1,5 @@
 -- The operations of initiators, over the pass: `op`, `drop` and `stuck` stand in each turn exactly where they are due, where at each place the transactions of initiators are tied to their requests.
-use Rattle.std.proofs.Common.{[], arith, ◌+◌, ◌<◌, ◌∙◌, ◌∷◌, ◌≡◌, ◌≤◌, Bool, List, None, Ok, Option, Result, Some, ap, false, length, nat_eq, refl, subst, suc, sym, true, zero, ℕ}
+use Rattle.std.proofs.Common.{[], arith, ◌+◌, ◌<◌, ◌∙◌, ◌≡◌, ◌≤◌, Bool, List, None, Ok, Option, Result, Some, ap, false, length, nat_eq, refl, subst, suc, sym, true, zero, ℕ}
 use Rattle.std.proofs.lemmas.Bool.Decides.{nat_tests}
 use Rattle.bus_transactions.specs.Wire.{as_sending}
 use Rattle.label_table.specs.declared.reply.Stale.{Stale}

@@ -5,7 +5,7 @@ use Rattle.orb_list.specs.declared.list.PresentList.{PresentList}
 use Rattle.sbp_initiator.specs.States.{counts_for}
 use Rattle.sbp_initiator.specs.declared.purpose.Running.{Running}
 use Rattle.sbp_journal.specs.Addresses.{access_of}
-use Rattle.sbp_journal.specs.Transactions.{Kind, locking, part_in, reading_block, reading_quadlet, request as request_part, response, writing}
+use Rattle.sbp_journal.specs.Transactions.{Kind, locking, part_in, reading_block, reading_quadlet, request as request_part, response as response_part, writing}
 use Rattle.sbp_laws.specs.Hosts.{Host, Underway, is_present, is_stuck}
 use Rattle.sbp_laws.specs.OnceLaw.{is_write_in}
 use Rattle.sbp_session.specs.Seats.{is_stuck_seat}
@@ -56,8 +56,8 @@ is_writing locking = false
 kind_of_request : (n l : ℕ) (k m : Kind) → request_part n k ≡ request_part l m → is_writing k ≡ is_writing m
 kind_of_request n l k m e = let same : k ≡ m = cc in ap is_writing same
 
-no_request : {A : Type 0} (n l : ℕ) (k m : Kind) → response n k ≡ request_part l m → A
-no_request n l k m e = absurd (let no : response n k ≡ request_part l m = e in cc)
+no_request : {A : Type 0} (n l : ℕ) (k m : Kind) → response_part n k ≡ request_part l m → A
+no_request n l k m e = absurd (let no : response_part n k ≡ request_part l m = e in cc)
 
 pub kind_writes : (p : Packet) (l : ℕ) (kind : Kind) → part_in p ≡ request_part l kind → is_write_in (access_of p) ≡ is_writing kind
 kind_writes (write_quadlet header offset value) l kind e = kind_of_request header.label l writing kind e

@@ -1,11 +1,11 @@
 -- What an initiator tells as a read of AGENT_STATE ends, as the status of its management ORB comes, and as it sees a reset, is what the laws say of its operation, its reads and its list, where the
 -- terms are tied to what it has.
-use Rattle.std.proofs.Common.{[], ◌&&◌, ◌==◌, Bool, List, None, Option, Some, ap, cond, false, length, map, not, refl, sym, true, ℕ, ◌++◌, ◌∙◌, ◌∷◌, ◌≡◌, nat_lt, nat_eq}
+use Rattle.std.proofs.Common.{[], ◌&&◌, ◌==◌, Bool, List, None, Option, Some, ap, cond, false, refl, sym, true, ℕ, ◌++◌, ◌∙◌, ◌∷◌, ◌≡◌, nat_lt}
 use Rattle.bus_memory.specs.Memory.{Memory, place_at}
 use Rattle.orb_layout.specs.Replies.{Answer, Expired, Payload, Refused}
 use Rattle.orb_list.specs.Lists.{ListState, drop_lists}
 use Rattle.sbp_base.specs.Quadlets.{quad}
-use Rattle.sbp_initiator.specs.Effects.{Turn, drop_list_step, drop_where, dropped_as, end_step, good_end, good_event, good_word, known_step, known_where, managed_step, moved, moves_session, response_of, state_ended, state_told, then_step, with_dead}
+use Rattle.sbp_initiator.specs.Effects.{Turn, drop_list_step, drop_where, dropped_as, end_step, good_end, good_event, good_word, known_where, managed_step, moved, moves_session, response_of, state_ended, state_told, then_step, with_dead}
 use Rattle.sbp_initiator.specs.Refusals as own_refusals
 use Rattle.sbp_initiator.specs.Seeing.{all_end, interrupted, reset_step, reset_told, resets_told, states_end}
 use Rattle.sbp_initiator.specs.States.{counts_for, place_in}
@@ -29,7 +29,7 @@ use Rattle.sbp_laws.specs.OnceLaw.{is_write_in}
 use Rattle.sbp_laws.specs.Operations as law
 use Rattle.sbp_laws.specs.Operations.{End, done_word, drop_note, end_notes, ends_as, gets_stuck, operation_answered, or_end, read_ends, reply_notes, reset_op, reset_ops, reset_reads, says_reset, state_word, status_ends, stuck_note}
 use Rattle.turn_laws.proofs.KindNotes.{join_same, none_behind}
-use Rattle.turn_laws.proofs.OwnEnds.{IsRead, Says, drop_says, drop_where_says, dropped_number, gives, lapses, none_answered, own, own_both, read_free, refuses, says_as, says_none, then_says, untrue, where_number}
+use Rattle.turn_laws.proofs.OwnEnds.{IsRead, Says, drop_says, drop_where_says, dropped_number, gives, lapses, none_answered, own, read_free, refuses, says_as, then_says, untrue, where_number}
 
 -- ---- a read of AGENT_STATE
 

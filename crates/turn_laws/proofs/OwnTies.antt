@@ -1,11 +1,10 @@
 -- Where a transaction of an initiator is tied to the terms of its request, what its end tells is what the laws say: that it is the latest request of the operation under way, or a read of
 -- AGENT_STATE that the terms have too, or neither; and that its request is a write, or none.
-use Rattle.std.proofs.Common.{[], arith, ◌&&◌, ◌==◌, ◌+◌, Bool, List, None, Option, Some, ap, cond, false, is_some, length, nat_eq, nat_le, nat_lt, not, refl, subst, suc, sym, true, ℕ, ◌++◌, ◌∙◌, ◌∷◌, ◌≡◌}
+use Rattle.std.proofs.Common.{[], arith, ◌==◌, Bool, List, None, Option, Some, ap, cond, false, is_some, length, nat_le, nat_lt, refl, subst, suc, sym, true, ℕ, ◌++◌, ◌∙◌, ◌∷◌, ◌≡◌}
 use Rattle.std.proofs.lemmas.Bool.Decides.{nat_tests}
-use Rattle.initiator_base.specs.Quads.{with_quad}
 use Rattle.label_table.specs.Layer.{Layer, asking_step}
 use Rattle.label_table.specs.declared.judgement.Asked.{Asked}
-use Rattle.orb_layout.specs.Replies.{Answer, Expired, Payload, Refused}
+use Rattle.orb_layout.specs.Replies.{Answer, Payload}
 use Rattle.orb_list.specs.Lists.{drop_lists}
 use Rattle.orb_list.specs.declared.list.PresentList.{PresentList}
 use Rattle.sbp_base.specs.Quadlets.{quad}
@@ -23,7 +22,7 @@ use Rattle.sbp_journal.specs.Transactions.{Kind, locking, reading_block, reading
 use Rattle.sbp_journal.specs.declared.operation.Operation.TheVariants as operations
 use Rattle.sbp_laws.specs.Hosts.{Host, is_latest, is_management, is_present}
 use Rattle.sbp_laws.specs.OnceLaw.{is_write_in}
-use Rattle.sbp_laws.specs.Operations.{rom_answered, rom_ends, reply_notes}
+use Rattle.sbp_laws.specs.Operations.{rom_ends, reply_notes}
 use Rattle.sbp_session.specs.declared.seat.Seat.{Seat}
 use Rattle.turn_laws.proofs.OwnEnds.{AreApart, IsRead, IsWrite, Mine, Under, doorbell_due, enable_due, gives, lapses, management_due, own, pointer_due, refuses, reset_due, rom_goes_on, rom_late, rom_read_due, rom_refused, untrue, write_answer}
 use Rattle.turn_laws.proofs.OwnStates.{IsListed, state_due}

@@ -1,6 +1,5 @@
 -- In each turn the notes of operations, lists and sessions are those that are due, where at each place the transactions of initiators are tied to the terms of their requests.
-use Rattle.std.proofs.Common.{[], arith, ◌+◌, ◌<◌, ◌^◌, ◌∙◌, ◌∷◌, ◌≡◌, ◌≤◌, ◌==◌, ◌&&◌, ◌++◌, Bool, Err, List, None, Ok, Option, Result, Some, ap, cond, false, is_some, length, nat_eq, nat_lt, not, refl, subst, suc, sym, true, ℕ}
-use Rattle.std.proofs.lemmas.Bool.Decides.{nat_tests}
+use Rattle.std.proofs.Common.{[], arith, ◌+◌, ◌<◌, ◌∙◌, ◌∷◌, ◌≡◌, ◌≤◌, ◌&&◌, ◌++◌, Bool, Err, List, None, Ok, Option, Result, Some, ap, false, is_some, length, nat_eq, not, refl, subst, suc, sym, true, ℕ}
 use Rattle.async_packet.specs.Labels.{LabelParts}
 use Rattle.async_packet.specs.Packet.{Packet, header_in}
 use Rattle.async_packet.specs.Reading.{reading}
@@ -13,23 +12,22 @@ use Rattle.label_table.specs.History.{IsFor, Life, not_begun, over, under_way}
 use Rattle.label_table.specs.History as layers
 use Rattle.label_table.specs.Judging.{by_request}
 use Rattle.label_table.specs.Layer.{Finding, Layer, expiring_step, judging_step, of_again, of_generation, of_grammar, of_label, of_request, of_response, seeing_step}
-use Rattle.label_table.specs.Requests.{reply_kind}
 use Rattle.label_table.specs.declared.reply.ReplyKind.{ReplyKind}
 use Rattle.label_table.specs.declared.reply.Stale.{Stale}
-use Rattle.orb_layout.specs.Replies.{Answer, Expired}
+use Rattle.orb_layout.specs.Replies.{Expired}
 use Rattle.orb_list.specs.Lists.{ListState, drop_lists}
-use Rattle.orb_list.specs.Table.{SlotTable, drop_for, drop_step}
+use Rattle.orb_list.specs.Table.{drop_for, drop_step}
 use Rattle.orb_list.specs.declared.list.PresentList.{PresentList}
 use Rattle.packet_store.specs.Kept.{found_sent}
 use Rattle.packet_store.specs.declared.sent.Sent.{Sent}
 use Rattle.rbc_disk.specs.Disk.{Disk}
 use Rattle.sbp_bus.specs.Generations.{id_of}
-use Rattle.sbp_bus.specs.Packets.{end_note, judged_note}
+use Rattle.sbp_bus.specs.Packets.{judged_note}
 use Rattle.sbp_bus.specs.Requests.{find}
 use Rattle.sbp_bus.specs.declared.requests.Request.{Request}
 use Rattle.sbp_initiator.specs.Effects.{Turn as Call, ended_for}
 use Rattle.sbp_initiator.specs.Receiving.{called, expire_step, expired_as, receive_step, received, request_step, respond_step}
-use Rattle.sbp_initiator.specs.Seeing.{reset_step, see_step, seen_as}
+use Rattle.sbp_initiator.specs.Seeing.{see_step, seen_as}
 use Rattle.sbp_initiator.specs.States.{ending_of}
 use Rattle.sbp_initiator.specs.declared.purpose.Ending.TheVariants as endings
 use Rattle.sbp_initiator.specs.declared.purpose.Purpose.{Purpose}
@@ -44,7 +42,6 @@ use Rattle.sbp_journal.specs.Transactions.{Kind, Sending, Transaction, asked_as,
 use Rattle.sbp_journal.specs.Wire.{Held, Terms, free, rests, terms, waits}
 use Rattle.sbp_journal.specs.declared.cause.Judged.{Judged}
 use Rattle.sbp_journal.specs.declared.cause.Judged.TheVariants as judgements
-use Rattle.sbp_journal.specs.declared.note.Note.{Note}
 use Rattle.sbp_journal.specs.declared.note.Note.TheVariants as notes
 use Rattle.sbp_laws.specs.Hosts.{Host, host_at}
 use Rattle.sbp_laws.specs.Lists.{present_list}
@@ -62,7 +59,7 @@ use Rattle.sbp_world.proofs.Pointers.Finds.{closes_at, expires_at}
 use Rattle.sbp_world.specs.Hosts.Core.{Core, work_in, work_of}
 use Rattle.sbp_world.specs.Hosts.Rows.{present_in}
 use Rattle.sbp_world.specs.Sessions.Holding.{AreBuffers}
-use Rattle.sbp_world.specs.Wire.Wires.{Stands, layers_of}
+use Rattle.sbp_world.specs.Wire.Wires.{Stands}
 use Rattle.sbp_world.specs.Worlds.{Scene, WorldState, initiator_at}
 use Rattle.bus_transactions.specs.Judging.{AreJudged}
 use Rattle.bus_transactions.specs.Reached.{IsAwaited}
@@ -75,7 +72,7 @@ use Rattle.sbp_world.proofs.Hosts.Shows.{shown_now}
 use Rattle.turn_laws.proofs.FoundRows.{Asks, RowFor}
 use Rattle.turn_laws.proofs.Handed.{handed}
 use Rattle.turn_laws.proofs.OwnAnswers.{packet_ends, read_small}
-use Rattle.turn_laws.proofs.OwnBlocks.{Expected, Tells, answer_silent, request_tells}
+use Rattle.turn_laws.proofs.OwnBlocks.{Expected, answer_silent, request_tells}
 use Rattle.turn_laws.proofs.OwnEnds.{lapses, untrue}
 use Rattle.turn_laws.proofs.OwnNotes.{Ops, own_are, reply_kept, sight_kept}
 use Rattle.turn_laws.proofs.OwnStates.{AreReset, sight_due}
