@@ -50,7 +50,7 @@ differ : false ≡ true → ⊥
 differ e = cc
 
 -- ---- the FIFO at an address: of one that is closed, the law's test for an open one fails
-abbrev AtFifo : Option Fifo → (at_fifo of_login is_open : Bool) → Type 0
+abbrev pub AtFifo : Option Fifo → (at_fifo of_login is_open : Bool) → Type 0
 AtFifo None f l o = (f ≡ false) × (l ≡ false)
 AtFifo (Some fifos.Closed) f l o = (l ≡ true) × (o ≡ false)
 AtFifo (Some fifos.Login) f l o = (f ≡ true) × (l ≡ true) × (o ≡ true)
@@ -62,14 +62,14 @@ fifo_test offset = (offset == 0x1200_2000) || (offset == 0x1200_2020) || (within
 abbrev login_test : ℕ → Bool
 login_test offset = fifo_test offset && not (offset == 0x12002000) && not (offset == 0x12002020)
 
-abbrev open_test : (logins : ℕ) (out : Bool) (offset : ℕ) → Bool
+abbrev pub open_test : (logins : ℕ) (out : Bool) (offset : ℕ) → Bool
 open_test logins out offset = not out && not (logins == 0) && (offset + 0x20 == login_fifo logins)
 
 -- which FIFO it is by the tests for a place, an open login and a login
 abbrev fifo_by : (first second is_open of_login : Bool) → Option Fifo
 fifo_by first second is_open of_login = cond (first || second) (Some fifos.Place) (cond is_open (Some fifos.Login) (cond of_login (Some fifos.Closed) None))
 
-fifo_is : (logins : ℕ) (out : Bool) (offset : ℕ) → logins ≤ 2 ^ 32 → AtFifo (fifo_at logins out offset) (is_fifo offset) (law.is_login_fifo offset) (open_test logins out offset)
+pub fifo_is : (logins : ℕ) (out : Bool) (offset : ℕ) → logins ≤ 2 ^ 32 → AtFifo (fifo_at logins out offset) (is_fifo offset) (law.is_login_fifo offset) (open_test logins out offset)
 unfolding fifo_at is_fifo
 fifo_is logins out offset few = by_tests (offset == place_fifo 0) (offset == place_fifo 1) (is_open_login logins out offset) (is_login_fifo offset) refl refl refl refl
   where
@@ -242,7 +242,7 @@ module _ (ms : List Moment) (i : ℕ) (slots : SlotTable) (rows : AreRows ms i s
   named_waits address (Some k) e = waits_same k (slot_of_law.begins address k e).0
 
 -- ---- the management ORB of the operation under way
-abbrev place_by : Option Work → Option ℕ
+abbrev pub place_by : Option Work → Option ℕ
 place_by None = None
 place_by (Some work) = work.place
 
@@ -258,14 +258,14 @@ module _ (block : StatusBlock) where
   by_place false place None e = refl
   by_place false place (Some m) e = absurd (let no : None ≡ Some (place_of m) = e in cc)
 
-  managed_same : (u : Option Underway) (r : Option Running) → work_of u ≡ work_in r → is_managed u block ≡ is_present_orb block.orb r
+  pub managed_same : (u : Option Underway) (r : Option Running) → work_of u ≡ work_in r → is_managed u block ≡ is_present_orb block.orb r
   managed_same None None e = refl
   managed_same None (Some running) e = absurd (let no : None ≡ Some _ = e in cc)
   managed_same (Some underway) None e = absurd (let no : Some _ ≡ None = e in cc)
   managed_same (Some underway) (Some running) e = by_place (is_management underway.operation) underway.place running.managed (ap place_by e)
 
   -- it stands in one of two places
-  none_there : (r : Option Running) → names_management block.orb ≡ false → is_present_orb block.orb r ≡ false
+  pub none_there : (r : Option Running) → names_management block.orb ≡ false → is_present_orb block.orb r ≡ false
   none_there None e = refl
   none_there (Some running) e = by_managed running.managed
     where

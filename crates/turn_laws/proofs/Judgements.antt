@@ -30,7 +30,7 @@ use Rattle.turn_laws.proofs.Verdicts.{follows}
 
 -- what the layer of a node finds of a packet is by the row of the law
 module _ {P : Type 0} {past : List Moment} (w : WorldState) (h : Stands past w) (serial : ℕ) (one : Sent) (found : found_sent serial w.store.kept ≡ Some one) (inside : one.to ≤ length w.initiators) (layer : Layer P) (is : layers_of w one.to ≡ bare layer) where
-  row_there : RowFor (terms (hist past w)) (as_sending one) layer.node (judging_step layer one.generation one.bytes)
+  pub row_there : RowFor (terms (hist past w)) (as_sending one) layer.node (judging_step layer one.generation one.bytes)
   row_there =
       let same = past_terms w h in
       subst (λ (t : Terms). RowFor t (as_sending one) layer.node (judging_step layer one.generation one.bytes)) same

@@ -68,6 +68,16 @@ pub mod DecisionRuns
 pub mod PushSides
 pub mod Announcing
 pub mod EveryPlace
+pub mod OwnEnds
+pub mod OwnStates
+pub mod OwnNotes
+pub mod OwnFacts
+pub mod OwnBlocks
+pub mod OwnTies
+pub mod OwnAnswers
+pub mod OwnActs
+pub mod OwnTurns
+pub mod OwnCases
 pub mod SentPackets
 pub mod FoundRows
 pub mod AnswerNotes

@@ -22,6 +22,7 @@ use Rattle.sbp_world.specs.Lists.Contents.{AreAsked}
 use Rattle.sbp_world.specs.Lists.Taken.{AreTaken}
 use Rattle.sbp_world.specs.Making.{ready_logins}
 use Rattle.sbp_world.specs.Runs.{AreEntries, Entry, Run, after, beginning}
+use Rattle.sbp_world.specs.Sessions.Holding.{HoldsLogin}
 use Rattle.sbp_world.specs.Settling.{MayAll, after_all}
 use Rattle.sbp_world.specs.Wire.Lines.{AreLines}
 use Rattle.sbp_world.specs.Worlds.{Scene, WorldState, begun, initiator_at, without_notes}
@@ -47,6 +48,7 @@ use Rattle.sbp_world.proofs.Lists.Courses.{more_than_one}
 use Rattle.sbp_world.proofs.Lists.OpenProved.{taken_lists_law}
 use Rattle.sbp_world.proofs.Lists.JoinLaws.{moments_same, lines_same}
 use Rattle.turn_laws.proofs.OperationAsked.{asked_opens}
+use Rattle.sbp_world.proofs.Sessions.HoldingRuns.{holding_law}
 
 -- an initiator is what a list of its calls makes of a new one
 pub record HasCalls (i : ℕ) (s : InitiatorState) : Type 0 where
@@ -74,6 +76,8 @@ pub record Place (units ready : ℕ) (start : List Disk) (past : List Moment) (s
   pub hosts : (i : ℕ) → i < length s.world.initiators → IsHost (hist past s.world) i (initiator_at s.world i)
   pub cores : (i : ℕ) → i < length s.world.initiators → host_core (host_at (hist past s.world) i) ≡ own_core (initiator_at s.world i)
   pub logins : (i : ℕ) → i < length s.world.initiators → (initiator_at s.world i).counts.logins ≤ 2 ^ 32
+  -- its login and its response buffers
+  pub holding : (i : ℕ) → i < length s.world.initiators → HoldsLogin (hist past s.world) i (initiator_at s.world i)
 
 -- an initiator uses one login number at most for each of its actions, and so one for each line
 few_logins : (ready : Bool) (past : List Moment) (i lines : ℕ) (s : InitiatorState) → Orbs ready past i s → s.counts.acts ≤ lines → lines + 1 ≤ 2 ^ 32 → s.counts.logins ≤ 2 ^ 32
@@ -133,6 +137,7 @@ module _ (line : ℕ) (run : Run) (few : run.initiators ≤ 4) (has : 0 < run.un
       hosts = λ i b. subst (λ ms. IsHost ms i (initiator_at here.world i)) same (run_law.rows line front is_run i (inside i b));
       cores = λ i b. subst (λ ms. host_core (host_at ms i) ≡ own_core (initiator_at here.world i)) same (host_law.core line front is_run i (inside i b));
       logins = λ i b. few_logins run.ready (history_of line front) i (length entries) (initiator_at here.world i) (orbs_of_runs line front is_run i (inside i b)) (h.sound.nodes.own.counts i b) (omega (arith, short));
+      holding = λ i b. subst (λ ms. HoldsLogin ms i (initiator_at here.world i)) same (holding_law.after_lines line front is_run i (inside i b));
     }
 
     -- between deliveries of a line that follows
@@ -181,6 +186,7 @@ module _ (line : ℕ) (run : Run) (few : run.initiators ≤ 4) (has : 0 < run.un
               hosts = λ i b. moved (λ ms. IsHost ms i (initiator_at w i)) (run_law.between line front is_run next most told m i (inside_there i b));
               cores = λ i b. moved (λ ms. host_core (host_at ms i) ≡ own_core (initiator_at w i)) (host_law.between line front is_run next most told m i (inside_there i b));
               logins = λ i b. few_logins run.ready _ i (length entries + 1) (initiator_at w i) (orbs_between line front is_run next most told m i (inside_there i b)) ((between_holds told m).sound.nodes.own.counts i b) (omega (arith, short));
+              holding = λ i b. moved (λ ms. HoldsLogin ms i (initiator_at w i)) (holding_law.between line front is_run next most told m i (inside_there i b));
             }
 
     -- as a line begins in which a node is called
@@ -204,4 +210,5 @@ module _ (line : ℕ) (run : Run) (few : run.initiators ≤ 4) (has : 0 < run.un
             hosts = λ i b. record { number = (p.hosts i b).number; rows = step_law.asked next event (hist past here.world) i (initiator_at here.world i).lists.slots (p.hosts i b).rows; pin = (p.hosts i b).pin };
             cores = λ i b. p.cores i b;
             logins = λ i b. p.logins i b;
+            holding = λ i b. (let k = p.holding i b in record { login = k.login; responses = k.responses });
           }

@@ -12,5 +12,6 @@ pub mod Failures
 pub mod Failing
 pub mod Login
 pub mod Packets
+pub mod Operations
 pub mod Judgement
 pub mod Together

@@ -11,6 +11,7 @@ ghost use Rattle.turn_laws.specs.Judgement.{JudgementRunLaw};
 ghost use Rattle.turn_laws.specs.Login.{LoginRunLaw};
 ghost use Rattle.turn_laws.specs.Ordered.{OrderedLaw};
 ghost use Rattle.turn_laws.specs.Packets.{PacketsLaw};
+ghost use Rattle.turn_laws.specs.Operations.{StatusEndsLaw};
 
 /// In each turn of every run exactly the units are cleared that the decision of the turn resets, whatever
 /// anybody injected: `cleared` of the cause law.
@@ -107,4 +108,10 @@ pub fn operations_fail_where_due()
 #[tactic(auto, using(crate::proofs::FailingRuns::failing_law))]
 pub fn failures_have_rows()
     ensures { FailingLaw }
+/// In each turn in which no transaction of an initiator ends and none sees a reset, whatever anybody injected,
+/// `op`, `drop` and `stuck` stand exactly where the rules of an initiator say: an operation ends by the status
+/// block of its management ORB alone, with its list where it ends lists.
+#[tactic(auto, using(crate::proofs::OwnCases::status_ends_law))]
+pub fn statuses_end_operations()
+    ensures { StatusEndsLaw }
 {}

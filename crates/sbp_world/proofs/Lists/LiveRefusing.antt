@@ -128,7 +128,7 @@ judged_number by_response layer bytes (Err fault) = tt
 judged_number by_again layer bytes (Err fault) = tt
 judged_number by_request layer bytes (Err fault) = tt
 
-label_number : (layer : Layer Purpose) (generation : ℕ) (bytes : List ℕ) (p : Packet) (label : LabelParts) (purpose : Option Purpose) → (judging_step layer generation bytes).0 ≡ of_response p label purpose → label.number ≡ (header_in p).label
+pub label_number : (layer : Layer Purpose) (generation : ℕ) (bytes : List ℕ) (p : Packet) (label : LabelParts) (purpose : Option Purpose) → (judging_step layer generation bytes).0 ≡ of_response p label purpose → label.number ≡ (header_in p).label
 unfolding judging_step
 label_number layer generation bytes p label purpose e = subst Numbered e (judged_number (row_of (layer_facts layer generation bytes)) layer bytes (reading bytes))
 

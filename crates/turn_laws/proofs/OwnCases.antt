@@ -1,0 +1,141 @@
+-- The operations of initiators, over the pass: `op`, `drop` and `stuck` stand in each turn exactly where they are due, where at each place the transactions of initiators are tied to their requests.
+use Rattle.std.proofs.Common.{[], arith, ◌+◌, ◌<◌, ◌∙◌, ◌≡◌, ◌≤◌, Bool, List, None, Ok, Option, Result, Some, ap, false, length, nat_eq, refl, subst, suc, sym, true, zero, ℕ}
+use Rattle.std.proofs.lemmas.Bool.Decides.{nat_tests}
+use Rattle.bus_transactions.specs.Wire.{as_sending}
+use Rattle.label_table.specs.declared.reply.Stale.{Stale}
+use Rattle.rbc_disk.specs.Disk.{Disk}
+use Rattle.sbp_bus.specs.Packets.{end_note, judged_note}
+use Rattle.sbp_bus.specs.Requests.{find}
+use Rattle.sbp_bus.specs.declared.requests.Request.{Request}
+use Rattle.sbp_initiator.specs.Acting.{act_step}
+use Rattle.sbp_initiator.specs.Effects.{Turn}
+use Rattle.sbp_initiator.specs.declared.state.InitiatorState.{InitiatorState}
+use Rattle.sbp_journal.specs.Outgoings.{OutboxState, empty_outbox}
+use Rattle.sbp_journal.specs.Run.{Moment, asked, said}
+use Rattle.sbp_journal.specs.Transactions.{Sending}
+use Rattle.sbp_journal.specs.Wire.{Terms, terms}
+use Rattle.sbp_journal.specs.declared.cause.Judged.{Judged}
+use Rattle.sbp_journal.specs.declared.cause.Judged.TheVariants as judgements
+use Rattle.sbp_journal.specs.declared.event.Action.{Action}
+use Rattle.sbp_journal.specs.declared.event.Event.{Event}
+use Rattle.sbp_journal.specs.declared.event.Event.TheVariants as events
+use Rattle.sbp_journal.specs.declared.note.Note.{Note}
+use Rattle.sbp_journal.specs.declared.note.Note.TheVariants as notes
+use Rattle.sbp_laws.specs.Hosts.{host_at}
+use Rattle.sbp_laws.specs.Lists.{present_list}
+use Rattle.sbp_laws.specs.Operations.{at_initiator, got_notes, host_notes, reply_notes}
+use Rattle.sbp_laws.specs.Packets.{access_at, answered_at, receiver_in, sender_in}
+use Rattle.sbp_laws.specs.Turns.{turn}
+use Rattle.orb_layout.specs.Replies.{Expired}
+use Rattle.sbp_target.specs.Nodes as target
+use Rattle.sbp_target.specs.Receiving.{expired}
+use Rattle.sbp_world.proofs.Agents.Management.Holding.{was_sent}
+use Rattle.sbp_world.proofs.Agents.Management.Still.{hist}
+use Rattle.sbp_world.proofs.Hosts.Shows.{lapsing}
+use Rattle.sbp_world.specs.Lines.{weight_in}
+use Rattle.sbp_world.specs.Packets.{target_left}
+use Rattle.sbp_world.specs.Wire.Wires.{layers_of}
+use Rattle.sbp_world.specs.Worlds.{Scene, WorldState, initiator_at}
+use Rattle.turn_laws.proofs.Calls.{Brings, Cases, calls, injects, loses, refuses, refuses_action, resets, sets_key}
+use Rattle.turn_laws.proofs.Handed.{handed}
+use Rattle.turn_laws.proofs.Judgements.{row_there}
+use Rattle.turn_laws.proofs.OwnActs.{AreQuiet, act_quiet, quiet_none}
+use Rattle.turn_laws.proofs.OwnEnds.{untrue}
+use Rattle.turn_laws.proofs.OwnNotes.{target_none}
+use Rattle.turn_laws.proofs.Pass.{of_every_run}
+use Rattle.turn_laws.proofs.OwnTurns.{AreTies, got_due, heard_due, late_due, late_sender, seen_due}
+use Rattle.turn_laws.proofs.Places.{Place}
+use Rattle.turn_laws.specs.Operations.{OperationsStand, StatusEndsLaw, StatusesEnd}
+
+line_stands : (line : ℕ) (s : Scene) (past : List Moment) (event : Event) (rest : List Note) → Brings line s event rest → OperationsStand (turn past (asked line event) rest)
+line_stands line s past event rest (calls is_event c) = refl
+line_stands line s past event rest (refuses is_event number) = refl
+line_stands line s past event rest (refuses_action i action number e) = refl
+line_stands line s past event rest (resets physical generation e) = refl
+line_stands line s past event rest (loses serial) = refl
+line_stands line s past event rest (sets_key unit key) = refl
+line_stands line s past event rest (injects i bytes serial generation from to) = refl
+
+end_stands : (ms : List Moment) (done : Bool) → OperationsStand (turn ms (said (end_note done)) [])
+end_stands ms true = refl
+end_stands ms false = refl
+
+-- ---- the target's turns bring none
+module _ (ms : List Moment) (serial : ℕ) where
+  abbrev wire : Terms
+  wire = terms ms
+
+  to_target : (q : Sending) → wire.sent serial ≡ Some q → q.to ≡ 0 → (judged : Judged) → host_notes (said (judged_note serial judged)) ms ≡ []
+  to_target q sent zero_to judgements.Got =
+      ap (λ so. at_initiator (receiver_in so) (λ j. got_notes j (host_at ms j) (present_list ms j) wire (answered_at wire serial) serial)) sent
+      ∙ ap (λ n. at_initiator (Some n) (λ j. got_notes j (host_at ms j) (present_list ms j) wire (answered_at wire serial) serial)) zero_to
+  to_target q sent zero_to (judgements.Ignored cause) = refl
+
+  abbrev LateAt : Option ℕ → List Note
+  LateAt from = at_initiator from (λ j. reply_notes j (host_at ms j) (present_list ms j) (access_at wire serial) serial Expired)
+
+  from_other : (from : ℕ) → ((i : ℕ) → nat_eq from (suc i) ≡ false) → LateAt (Some from) ≡ []
+  from_other zero away = refl
+  from_other (suc i) away = absurd (let no : true ≡ false = (let x : nat_eq (suc i) (suc i) ≡ true = grind (arith, nat_tests) in sym x ∙ away i) in cc)
+
+  of_target : (so : Option Sending) → wire.sent serial ≡ so → ((i : ℕ) (packet : Sending) → wire.sent serial ≡ Some packet → nat_eq packet.from (suc i) ≡ false) → LateAt (sender_in so) ≡ []
+  of_target None e away = refl
+  of_target (Some packet) e away = from_other packet.from (λ i. away i packet e)
+
+  pub late_none : ((i : ℕ) (packet : Sending) → wire.sent serial ≡ Some packet → nat_eq packet.from (suc i) ≡ false) → host_notes (said (notes.TimedOut serial)) ms ≡ []
+  late_none away = of_target (wire.sent serial) refl away
+
+module _ (units ready : ℕ) (start : List Disk) where
+  lapse_none : (past : List Moment) (s : Scene) → Place units ready start past s → (serial : ℕ) (request : Request) (done : Unit {0}) (t : target.Scene) → find s.world.requests serial ≡ Some request → request.node ≡ 0
+      → expired request.peer request.label (target.scene s.world.target empty_outbox) ≡ (Ok done, t) → host_notes (said (notes.TimedOut serial)) (hist past s.world) ≡ []
+  lapse_none past s here serial request done t found node_is e =
+      late_none (hist past s.world) serial
+      (λ i packet sent. (lapsing s.world here.holds.sound.stands here.holds.sound.nodes serial request found).target_away node_is (ap (λ (y : Result (Unit {0}) Stale × target.Scene). (target_left y s.world.target).0) e) i packet sent)
+
+  act_stands : (past : List Moment) (s : Scene) (line i : ℕ) (action : Action) (outbox : OutboxState) (state : InitiatorState) (w : WorldState) → act_step action empty_outbox (initiator_at s.world i) ≡ (None, (outbox, state)) → OperationsStand (turn (hist past s.world) (asked line (events.Act i action)) (handed (i + 1) (weight_in action) outbox w))
+  act_stands past s line i action outbox state w e = quiet_none (i + 1) (weight_in action) outbox w (subst (λ (r : Option ℕ × Turn). AreQuiet r.1.0.sides) e (act_quiet action (initiator_at s.world i)))
+
+  -- ---- where no transaction of an initiator ends
+  pub status_cases : Cases units ready start StatusesEnd
+  status_cases = record {
+    heard = λ past s serial again run one found zero_to may others here behind judged none.
+        target_none _ _ others ∙ sym (to_target (hist past s.world) serial (as_sending one) (was_sent s.world here.holds.sound.stands serial one found) zero_to _);
+    heard_own = λ past s serial again one i found to_is inside own here behind judged none.
+        let there : one.to ≤ length s.world.initiators = omega (arith, to_is, inside) in
+        let old = initiator_at s.world i in
+        got_due units ready start past s here i inside serial one found to_is _ (here.holding i inside).responses none judged (row_there s.world here.holds.sound.stands serial one found there old.layer (ap (layers_of s.world) to_is));
+    late = λ past s serial request done t found node_is e others here behind judged none. target_none t.outbox _ others ∙ sym (lapse_none past s here serial request done t found node_is e);
+    late_own = λ past s serial request i outbox state found node_is inside e own here behind judged none. untrue (sym none ∙ late_sender units ready start past s here i inside serial request found node_is (s.world) outbox state e);
+    sees = λ past s others here behind judged none. target_none _ _ others;
+    sees_own = λ past s i inside own here behind judged none. untrue (sym none);
+    ticks = λ past s others here behind judged none. target_none _ _ others;
+    ends = λ past s done here behind none. end_stands (hist past s.world) done;
+    acts = λ past s line i action outbox state inside e own here behind none. act_stands past s line i action outbox state _ e;
+    lines = λ past s line event rest behind brings fresh here there none. line_stands line s (hist past s.world) event rest brings;
+    begins = λ line initiators is_ready none. refl;
+  }
+
+  -- ---- every turn, where the transactions are tied
+  module _ (ties : (past : List Moment) (s : Scene) → Place units ready start past s → (i : ℕ) → i < length s.world.initiators → AreTies (hist past s.world) i (initiator_at s.world i)) where
+    pub operation_cases : Cases units ready start OperationsStand
+    operation_cases = record {
+      heard = λ past s serial again run one found zero_to may others here behind judged.
+          target_none _ _ others ∙ sym (to_target (hist past s.world) serial (as_sending one) (was_sent s.world here.holds.sound.stands serial one found) zero_to _);
+      heard_own = λ past s serial again one i found to_is inside own here behind judged.
+          let there : one.to ≤ length s.world.initiators = omega (arith, to_is, inside) in
+          let old = initiator_at s.world i in
+          heard_due units ready start past s here i inside serial one found to_is _ (ties past s here i inside) judged (row_there s.world here.holds.sound.stands serial one found there old.layer (ap (layers_of s.world) to_is));
+      late = λ past s serial request done t found node_is e others here behind judged. target_none t.outbox _ others ∙ sym (lapse_none past s here serial request done t found node_is e);
+      late_own = λ past s serial request i outbox state found node_is inside e own here behind judged. late_due units ready start past s here i inside serial request found node_is _ (ties past s here i inside) outbox state e;
+      sees = λ past s others here behind judged. target_none _ _ others;
+      sees_own = λ past s i inside own here behind judged. seen_due units ready start past s here i inside (ties past s here i inside) _;
+      ticks = λ past s others here behind judged. target_none _ _ others;
+      ends = λ past s done here behind. end_stands (hist past s.world) done;
+      acts = λ past s line i action outbox state inside e own here behind. act_stands past s line i action outbox state _ e;
+      lines = λ past s line event rest behind brings fresh here there. line_stands line s (hist past s.world) event rest brings;
+      begins = λ line initiators is_ready. refl;
+    }
+
+-- in each turn in which no transaction of an initiator ends
+pub status_ends_law : StatusEndsLaw
+status_ends_law = of_every_run (λ start. StatusesEnd) (λ units ready start has. status_cases units ready start)

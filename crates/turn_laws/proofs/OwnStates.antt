@@ -1,0 +1,237 @@
+-- What an initiator tells as a read of AGENT_STATE ends, as the status of its management ORB comes, and as it sees a reset, is what the laws say of its operation, its reads and its list, where the
+-- terms are tied to what it has.
+use Rattle.std.proofs.Common.{[], ◌&&◌, ◌==◌, Bool, List, None, Option, Some, ap, cond, false, refl, sym, true, ℕ, ◌++◌, ◌∙◌, ◌∷◌, ◌≡◌, nat_lt}
+use Rattle.bus_memory.specs.Memory.{Memory, place_at}
+use Rattle.orb_layout.specs.Replies.{Answer, Expired, Payload, Refused}
+use Rattle.orb_list.specs.Lists.{ListState, drop_lists}
+use Rattle.sbp_base.specs.Quadlets.{quad}
+use Rattle.sbp_initiator.specs.Effects.{Turn, drop_list_step, drop_where, dropped_as, end_step, good_end, good_event, good_word, known_where, managed_step, moved, moves_session, response_of, state_ended, state_told, then_step, with_dead}
+use Rattle.sbp_initiator.specs.Refusals as own_refusals
+use Rattle.sbp_initiator.specs.Seeing.{all_end, interrupted, reset_step, reset_told, resets_told, states_end}
+use Rattle.sbp_initiator.specs.States.{counts_for, place_in}
+use Rattle.sbp_initiator.specs.declared.purpose.Ending.{Ending}
+use Rattle.sbp_initiator.specs.declared.purpose.Ending.TheVariants as endings
+use Rattle.sbp_initiator.specs.declared.purpose.Running.{Running}
+use Rattle.sbp_initiator.specs.declared.state.InitiatorState.{InitiatorState}
+use Rattle.sbp_session.specs.Moves.{Event, goes}
+use Rattle.sbp_session.specs.Moves as moves
+use Rattle.sbp_journal.specs.Addresses.{Access}
+use Rattle.sbp_journal.specs.Outgoings.{OutboxState}
+use Rattle.sbp_journal.specs.declared.note.Note.{Note}
+use Rattle.sbp_journal.specs.declared.note.Note.TheVariants as notes
+use Rattle.sbp_journal.specs.declared.operation.OpWord.{OpWord}
+use Rattle.sbp_journal.specs.declared.operation.OpWord.TheVariants as words
+use Rattle.sbp_journal.specs.declared.operation.Operation.{Operation}
+use Rattle.sbp_journal.specs.declared.operation.Operation.TheVariants as operations
+use Rattle.sbp_journal.specs.declared.side.Side.{Side}
+use Rattle.sbp_laws.specs.Hosts.{Host, StateRead, Underway, is_latest, is_management, is_present}
+use Rattle.sbp_laws.specs.OnceLaw.{is_write_in}
+use Rattle.sbp_laws.specs.Operations as law
+use Rattle.sbp_laws.specs.Operations.{End, done_word, drop_note, end_notes, ends_as, gets_stuck, operation_answered, or_end, read_ends, reply_notes, reset_op, reset_ops, reset_reads, says_reset, state_word, status_ends, stuck_note}
+use Rattle.turn_laws.proofs.KindNotes.{join_same, none_behind}
+use Rattle.turn_laws.proofs.OwnEnds.{IsRead, Says, drop_says, drop_where_says, dropped_number, gives, lapses, none_answered, own, read_free, refuses, says_as, then_says, untrue, where_number}
+
+-- ---- a read of AGENT_STATE
+
+-- by the terms it is under way, and says something of this list
+pub data IsListed (serial : ℕ) (list : Option ℕ) : List StateRead → Type 0 where
+  here : (read : StateRead) (reads : List StateRead) → (read.serial == serial) ≡ true → read.list ≡ list → IsListed serial list (read ∷ reads)
+  later : (read : StateRead) (reads : List StateRead) → (read.serial == serial) ≡ false → IsListed serial list reads → IsListed serial list (read ∷ reads)
+
+abbrev state_end : Option ℕ → Answer → Option ℕ → Option End
+state_end list answer present = ends_as operations.State (state_word answer) (says_reset answer && is_present list present)
+
+listed_ends : (serial : ℕ) (list : Option ℕ) (reads : List StateRead) (answer : Answer) (present : Option ℕ) → IsListed serial list reads → read_ends reads serial answer present ≡ state_end list answer present
+listed_ends serial list _ answer present (here read reads e f) =
+    ap (λ b. cond b (state_end read.list answer present) (read_ends reads serial answer present)) e ∙ ap (λ l. state_end l answer present) f
+listed_ends serial list _ answer present (later read reads e h) =
+    ap (λ b. cond b (state_end read.list answer present) (read_ends reads serial answer present)) e ∙ listed_ends serial list reads answer present h
+
+module _ (serial : ℕ) (s : InitiatorState) (host : Host) (present : Option ℕ) (access : Option Access) (o : OutboxState) (act : ℕ) (list : Option ℕ) (listed : IsListed serial list host.reads) (other : is_latest host.operation serial ≡ false) (reads_it : is_write_in access ≡ false) (drops : (drop_lists s.lists).0 ≡ present) (counts : counts_for s.lists.slots.present list ≡ is_present list present) where
+  abbrev StateDue : Answer → Turn → Type 0
+  StateDue answer t = Says o t (reply_notes s.number host present access serial answer)
+
+  notes_are : (answer : Answer) → reply_notes s.number host present access serial answer ≡ drop_note s.number (says_reset answer && is_present list present) present ++ (notes.Op s.number operations.State (state_word answer) ∷ [])
+  notes_are answer =
+      ap (λ x. end_notes s.number (or_end x (read_ends host.reads serial answer present)) present ++ stuck_note s.number (gets_stuck host access answer)) (none_answered host.operation serial answer host other)
+      ∙ ap (λ x. end_notes s.number x present ++ stuck_note s.number (gets_stuck host access answer)) (listed_ends serial list host.reads answer present listed)
+      ∙ ap (λ b. end_notes s.number (state_end list answer present) present ++ stuck_note s.number b) (read_free host access answer reads_it)
+      ∙ none_behind _
+
+  told_op : (t : Turn) (word : OpWord) → t.1.number ≡ s.number → Says t.0 (state_told act word t.0 t.1) (notes.Op s.number operations.State word ∷ [])
+  told_op t word e = ap (λ n. t.0.sides ++ own (notes.Op n operations.State word ∷ [])) e
+
+  known_says : (b c : Bool) (value : ℕ) → (value == 0) ≡ c → Says o (known_where b value o s) (drop_note s.number (c && b) present)
+  known_says true true value e = ap (λ x. (cond x (drop_list_step o s) (o, cond (value == 3) (with_dead s) s)).0.sides) e ∙ drop_says present s drops o
+  known_says true false value e = ap (λ x. (cond x (drop_list_step o s) (o, cond (value == 3) (with_dead s) s)).0.sides) e ∙ sym (none_behind o.sides)
+  known_says false true value e = sym (none_behind o.sides)
+  known_says false false value e = sym (none_behind o.sides)
+
+  dead_number : (b : Bool) → (cond b (with_dead s) s).number ≡ s.number
+  dead_number true = refl
+  dead_number false = refl
+
+  step_number : (b : Bool) (value : ℕ) → (cond b (drop_list_step o s) (o, cond (value == 3) (with_dead s) s)).1.number ≡ s.number
+  step_number true value = dropped_number (drop_lists s.lists) o s
+  step_number false value = dead_number (value == 3)
+
+  known_number : (b : Bool) (value : ℕ) → (known_where b value o s).1.number ≡ s.number
+  known_number true value = step_number (value == 0) value
+  known_number false value = refl
+
+  given_due : (value : ℕ) (bytes : List ℕ) → quad bytes 0 ≡ value → StateDue (Payload bytes) (state_ended act list (endings.Complete value) o s)
+  given_due value bytes e =
+      let b = counts_for s.lists.slots.present list in
+      let t = known_where b value o s in
+      says_as o (state_ended act list (endings.Complete value) o s) (drop_note s.number ((value == 0) && b) present ++ (notes.Op s.number operations.State (words.State value) ∷ [])) _
+      (ap (λ v. drop_note s.number ((v == 0) && b) present ++ (notes.Op s.number operations.State (words.State v) ∷ [])) (sym e)
+      ∙ ap (λ c. drop_note s.number ((quad bytes 0 == 0) && c) present ++ (notes.Op s.number operations.State (words.State (quad bytes 0)) ∷ [])) counts
+      ∙ sym (notes_are (Payload bytes)))
+      (then_says o t (state_told act (words.State value) t.0 t.1) (drop_note s.number ((value == 0) && b) present) (notes.Op s.number operations.State (words.State value) ∷ [])
+      (known_says b (value == 0) value refl) (told_op t (words.State value) (known_number b value)))
+
+  pub state_due : (ending : Ending) (answer : Answer) → IsRead ending answer → StateDue answer (state_ended act list ending o s)
+  state_due _ _ (gives value bytes e) = given_due value bytes e
+  state_due _ _ (refuses rcode) = says_as o (state_ended act list (endings.Refused rcode) o s) (notes.Op s.number operations.State words.Error ∷ []) _ (sym (notes_are (Refused rcode))) (told_op (o, s) words.Error refl)
+  state_due _ _ lapses = says_as o (state_ended act list endings.Expired o s) (notes.Op s.number operations.State words.Error ∷ []) _ (sym (notes_are Expired)) (told_op (o, s) words.Error refl)
+
+-- ---- the status of a management ORB
+
+word_same : (operation : Operation) (response : List ℕ) → good_word operation response ≡ done_word operation response
+word_same operations.Query response = refl
+word_same operations.Rom response = refl
+word_same operations.Login response = refl
+word_same operations.Reconnect response = refl
+word_same operations.Logout response = refl
+word_same operations.Abort response = refl
+word_same operations.AbortSet response = refl
+word_same operations.UnitReset response = refl
+word_same operations.TargetReset response = refl
+word_same operations.AgentReset response = refl
+word_same operations.State response = refl
+word_same operations.Enable response = refl
+
+list_same : (operation : Operation) → is_management operation ≡ true → own_refusals.ends_list (Some operation) ≡ law.ends_list operation
+list_same operations.Rom e = untrue e
+list_same operations.AgentReset e = untrue e
+list_same operations.State e = untrue e
+list_same operations.Enable e = untrue e
+list_same operations.Login e = refl
+list_same operations.Query e = refl
+list_same operations.Reconnect e = refl
+list_same operations.Logout e = refl
+list_same operations.Abort e = refl
+list_same operations.AbortSet e = refl
+list_same operations.UnitReset e = refl
+list_same operations.TargetReset e = refl
+
+moved_number : (operation : Operation) (event : Event) (s : InitiatorState) → (moved operation event s).number ≡ s.number
+moved_number operation event s = by (moves_session operation)
+  where
+    by : (b : Bool) → (cond b (record s { seat = goes event s.seat }) s).number ≡ s.number
+    by true = refl
+    by false = refl
+
+dropped_memory : (o : OutboxState) (s : InitiatorState) → (drop_list_step o s).1.lists.memory ≡ s.lists.memory
+unfolding drop_lists
+dropped_memory o s = by (drop_lists s.lists) refl
+  where
+    by : (r : Option ℕ × ListState) → r.1.memory ≡ s.lists.memory → (dropped_as r o s).1.lists.memory ≡ s.lists.memory
+    by (None, lists) e = e
+    by (Some n, lists) e = e
+
+module _ (running : Running) (s : InitiatorState) (present : Option ℕ) (o : OutboxState) (drops : (drop_lists s.lists).0 ≡ present) (manages : is_management running.operation ≡ true) where
+  abbrev operation : Operation
+  operation = running.operation
+
+  where_memory : (b : Bool) → (drop_where b o s).1.lists.memory ≡ s.lists.memory
+  where_memory true = dropped_memory o s
+  where_memory false = refl
+
+  good_due : (b : Bool) → own_refusals.ends_list (Some operation) ≡ b → Says o (then_step (good_end running) (drop_where b o s)) (end_notes s.number (ends_as operation (done_word operation (response_of running s)) (law.ends_list operation)) present)
+  good_due b e =
+      let t = drop_where b o s in
+      let word = good_word operation (response_of running t.1) in
+      let response_is : response_of running t.1 ≡ response_of running s = ap (λ m. response_in m) (where_memory b) in
+      says_as o (then_step (good_end running) t) (drop_note s.number b present ++ (notes.Op (moved operation (good_event operation (response_of running t.1)) t.1).number operation word ∷ [])) _
+      (ap (λ n. drop_note s.number b present ++ (notes.Op n operation word ∷ [])) (moved_number operation (good_event operation (response_of running t.1)) t.1 ∙ where_number present s drops o b)
+      ∙ ap (λ r. drop_note s.number b present ++ (notes.Op s.number operation (good_word operation r) ∷ [])) response_is
+      ∙ ap (λ x. drop_note s.number b present ++ (notes.Op s.number operation x ∷ [])) (word_same operation (response_of running s))
+      ∙ ap (λ c. drop_note s.number c present ++ (notes.Op s.number operation (done_word operation (response_of running s)) ∷ [])) (sym e ∙ list_same operation manages))
+      (then_says o t (good_end running t.0 t.1) (drop_note s.number b present) _ (drop_where_says present s drops o b) refl)
+    where
+      response_in : Memory → List ℕ
+      response_in m = (place_at m (place_in running)).response
+
+  pub status_due : (status : ℕ) → Says o (managed_step running status o s) (end_notes s.number (status_ends operation status (response_of running s)) present)
+  status_due status = by (status == 0)
+    where
+      by : (b : Bool) → Says o (cond b (then_step (good_end running) (drop_where (own_refusals.ends_list (Some operation)) o s)) (end_step operation (words.Refused status) o (moved operation moves.bad s)))
+          (end_notes s.number (cond b (ends_as operation (done_word operation (response_of running s)) (law.ends_list operation)) (ends_as operation (words.Refused status) false)) present)
+      by true = good_due (own_refusals.ends_list (Some operation)) refl
+      by false = ap (λ n. o.sides ++ own (notes.Op n operation (words.Refused status) ∷ [])) (moved_number operation moves.bad s)
+
+-- ---- a reset that is seen
+
+-- for each read of the terms one of the initiator, and both stand behind the operation, or before it
+abbrev pub AreInOrder : (first act : ℕ) → List StateRead → List ℕ → Type 0
+AreInOrder first act [] [] = Unit {0}
+AreInOrder first act (read ∷ reads) (other ∷ acts) = (nat_lt first read.serial ≡ nat_lt act other) × AreInOrder first act reads acts
+AreInOrder first act [] (other ∷ acts) = ⊥
+AreInOrder first act (read ∷ reads) [] = ⊥
+
+abbrev pub AreAsMany : List StateRead → List ℕ → Type 0
+AreAsMany [] [] = Unit {0}
+AreAsMany (read ∷ reads) (other ∷ acts) = AreAsMany reads acts
+AreAsMany [] (other ∷ acts) = ⊥
+AreAsMany (read ∷ reads) [] = ⊥
+
+as_many : (first act : ℕ) (reads : List StateRead) (acts : List ℕ) → AreInOrder first act reads acts → AreAsMany reads acts
+as_many first act [] [] e = tt
+as_many first act (read ∷ reads) (other ∷ acts) e = as_many first act reads acts e.1
+as_many first act [] (other ∷ acts) e = absurd e
+as_many first act (read ∷ reads) [] e = absurd e
+
+-- the operations under way are the same
+pub data AreReset : Option Underway → Option Running → List StateRead → List ℕ → Type 0 where
+  none : (reads : List StateRead) (acts : List ℕ) → AreAsMany reads acts → AreReset None None reads acts
+  both : (underway : Underway) (running : Running) (reads : List StateRead) (acts : List ℕ) → underway.operation ≡ running.operation → AreInOrder underway.first running.act reads acts → AreReset (Some underway) (Some running) reads acts
+
+module _ (number : ℕ) where
+  one_more : (o : OutboxState) (sides_now : List Side) (note : Note) (more : List Note) → sides_now ≡ (o.sides ++ own (note ∷ [])) ++ own more → sides_now ≡ o.sides ++ own (note ∷ more)
+  one_more o sides_now note more e = e ∙ sym (join_same o.sides (own (note ∷ [])) (own more))
+
+  states_say : (reads : List StateRead) (acts : List ℕ) (o : OutboxState) → AreAsMany reads acts → (states_end number acts o).sides ≡ o.sides ++ own (reset_reads number reads)
+  states_say [] [] o e = sym (none_behind o.sides)
+  states_say (read ∷ reads) (act ∷ acts) o e = one_more o _ (reset_op number operations.State) (reset_reads number reads) (states_say reads acts (reset_told number operations.State o) e)
+  states_say [] (act ∷ acts) o e = absurd e
+  states_say (read ∷ reads) [] o e = absurd e
+
+  module _ (underway : Underway) (running : Running) (read : StateRead) (reads : List StateRead) (act : ℕ) (acts : List ℕ) (o : OutboxState) (same : underway.operation ≡ running.operation) (many : AreAsMany reads acts) (rest : (all_end number running acts (reset_told number operations.State o)).sides ≡ (o.sides ++ own (reset_op number operations.State ∷ [])) ++ own (reset_ops number (Some underway) reads)) where
+    first_says : (b : Bool) → (cond b (states_end number (act ∷ acts) (reset_told number running.operation o)) (all_end number running acts (reset_told number operations.State o))).sides
+        ≡ o.sides ++ own (cond b (reset_op number underway.operation ∷ reset_reads number (read ∷ reads)) (reset_op number operations.State ∷ reset_ops number (Some underway) reads))
+    first_says true =
+        one_more o _ (reset_op number running.operation) (reset_reads number (read ∷ reads)) (states_say (read ∷ reads) (act ∷ acts) (reset_told number running.operation o) many)
+        ∙ ap (λ x. o.sides ++ own (reset_op number x ∷ reset_reads number (read ∷ reads))) (sym same)
+    first_says false = one_more o _ (reset_op number operations.State) (reset_ops number (Some underway) reads) rest
+
+  all_say : (underway : Underway) (running : Running) (reads : List StateRead) (acts : List ℕ) (o : OutboxState) → underway.operation ≡ running.operation → AreInOrder underway.first running.act reads acts → (all_end number running acts o).sides ≡ o.sides ++ own (reset_ops number (Some underway) reads)
+  all_say underway running [] [] o same e = ap (λ x. o.sides ++ own (reset_op number x ∷ [])) (sym same)
+  all_say underway running (read ∷ reads) (act ∷ acts) o same e =
+      ap (λ b. (cond b (states_end number (act ∷ acts) (reset_told number running.operation o)) (all_end number running acts (reset_told number operations.State o))).sides) (sym e.0)
+      ∙ first_says underway running read reads act acts o same (as_many underway.first running.act reads acts e.1) (all_say underway running reads acts (reset_told number operations.State o) same e.1) (nat_lt underway.first read.serial)
+  all_say underway running [] (act ∷ acts) o same e = absurd e
+  all_say underway running (read ∷ reads) [] o same e = absurd e
+
+  pub all_reset : (u : Option Underway) (r : Option Running) (reads : List StateRead) (acts : List ℕ) (o : OutboxState) → AreReset u r reads acts → (resets_told number r acts o).sides ≡ o.sides ++ own (reset_ops number u reads)
+  all_reset _ _ _ _ o (none reads acts e) = states_say reads acts o e
+  all_reset _ _ _ _ o (both underway running reads acts same e) = all_say underway running reads acts o same e
+
+pub sight_due : (target : ℕ) (o : OutboxState) (s : InitiatorState) (host : Host) (present : Option ℕ) → (drop_lists s.lists).0 ≡ present → AreReset host.operation s.operation host.reads s.states → Says o (reset_step target o s) (reset_ops s.number host.operation host.reads ++ drop_note s.number true present)
+sight_due target o s host present drops resets =
+    let told_now = resets_told s.number s.operation s.states o in
+    then_says o (told_now, s) (drop_list_step told_now (interrupted s target)) (reset_ops s.number host.operation host.reads) (drop_note s.number true present)
+    (all_reset s.number host.operation s.operation host.reads s.states o resets) (drop_says present (interrupted s target) drops told_now)
+
+
+

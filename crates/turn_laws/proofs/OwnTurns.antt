@@ -1,0 +1,428 @@
+-- In each turn the notes of operations, lists and sessions are those that are due, where at each place the transactions of initiators are tied to the terms of their requests.
+use Rattle.std.proofs.Common.{[], arith, ◌+◌, ◌<◌, ◌∙◌, ◌∷◌, ◌≡◌, ◌≤◌, ◌&&◌, ◌++◌, Bool, Err, List, None, Ok, Option, Result, Some, ap, false, is_some, length, nat_eq, not, refl, subst, suc, sym, true, ℕ}
+use Rattle.async_packet.specs.Labels.{LabelParts}
+use Rattle.async_packet.specs.Packet.{Packet, header_in}
+use Rattle.async_packet.specs.Reading.{reading}
+use Rattle.async_packet.specs.declared.fault.PacketFault.{PacketFault}
+use Rattle.bus_transactions.specs.Fitting.{AreBytes}
+use Rattle.bus_transactions.specs.Wire.{as_sending, transaction}
+use Rattle.bus_transactions.proofs.PacketParts.{PartOf, asks, part_case, part_read, replies}
+use Rattle.label_table.proofs.Calls.{after_kept, told_law}
+use Rattle.label_table.specs.History.{IsFor, Life, not_begun, over, under_way}
+use Rattle.label_table.specs.History as layers
+use Rattle.label_table.specs.Judging.{by_request}
+use Rattle.label_table.specs.Layer.{Finding, Layer, expiring_step, judging_step, of_again, of_generation, of_grammar, of_label, of_request, of_response, seeing_step}
+use Rattle.label_table.specs.declared.reply.ReplyKind.{ReplyKind}
+use Rattle.label_table.specs.declared.reply.Stale.{Stale}
+use Rattle.orb_layout.specs.Replies.{Expired}
+use Rattle.orb_list.specs.Lists.{ListState, drop_lists}
+use Rattle.orb_list.specs.Table.{drop_for, drop_step}
+use Rattle.orb_list.specs.declared.list.PresentList.{PresentList}
+use Rattle.packet_store.specs.Kept.{found_sent}
+use Rattle.packet_store.specs.declared.sent.Sent.{Sent}
+use Rattle.rbc_disk.specs.Disk.{Disk}
+use Rattle.sbp_bus.specs.Generations.{id_of}
+use Rattle.sbp_bus.specs.Packets.{judged_note}
+use Rattle.sbp_bus.specs.Requests.{find}
+use Rattle.sbp_bus.specs.declared.requests.Request.{Request}
+use Rattle.sbp_initiator.specs.Effects.{Turn as Call, ended_for}
+use Rattle.sbp_initiator.specs.Receiving.{called, expire_step, expired_as, receive_step, received, request_step, respond_step}
+use Rattle.sbp_initiator.specs.Seeing.{see_step, seen_as}
+use Rattle.sbp_initiator.specs.States.{ending_of}
+use Rattle.sbp_initiator.specs.declared.purpose.Ending.TheVariants as endings
+use Rattle.sbp_initiator.specs.declared.purpose.Purpose.{Purpose}
+use Rattle.sbp_initiator.specs.declared.purpose.Purpose.TheVariants as purposes
+use Rattle.sbp_initiator.specs.declared.state.InitiatorState.{InitiatorState}
+use Rattle.sbp_initiator.proofs.Histories.Over.{sound}
+use Rattle.sbp_initiator.proofs.Histories.Purposes.{kind_in}
+use Rattle.sbp_journal.specs.Addresses.{Access}
+use Rattle.sbp_journal.specs.Outgoings.{OutboxState, empty_outbox}
+use Rattle.sbp_journal.specs.Run.{Moment, said}
+use Rattle.sbp_journal.specs.Transactions.{Kind, Sending, Transaction, asked_as, asked_by, begun_by, between, locking, part_in, part_of, reading_block, reading_quadlet, request as request_part, response, writing}
+use Rattle.sbp_journal.specs.Wire.{Held, Terms, free, rests, terms, waits}
+use Rattle.sbp_journal.specs.declared.cause.Judged.{Judged}
+use Rattle.sbp_journal.specs.declared.cause.Judged.TheVariants as judgements
+use Rattle.sbp_journal.specs.declared.note.Note.TheVariants as notes
+use Rattle.sbp_laws.specs.Hosts.{Host, host_at}
+use Rattle.sbp_laws.specs.Lists.{present_list}
+use Rattle.sbp_laws.specs.Operations.{at_initiator, drop_note, end_by_answer, end_by_write, end_notes, got_notes, gets_stuck, host_notes, reply_notes, reset_ops, seen_notes}
+use Rattle.sbp_laws.specs.Packets.{access_at, access_in, answer_in, answer_of, answered_at, packet_at, packet_in, receiver_in, sender_in, spelled_by}
+use Rattle.sbp_world.proofs.Agents.CrewFirsts.{access_there}
+use Rattle.sbp_world.proofs.Agents.Management.Hearing.{IsAnswer, answers, answers_none}
+use Rattle.sbp_world.proofs.Agents.Management.Holding.{is_of, past_terms, was_sent}
+use Rattle.sbp_world.proofs.Agents.Management.Still.{hist}
+use Rattle.sbp_world.proofs.Hosts.Knows.{may_see}
+use Rattle.sbp_world.proofs.Hosts.Lives.{At, Called}
+use Rattle.sbp_world.proofs.Lists.LiveRefusing.{label_number}
+use Rattle.sbp_world.proofs.Pointers.Ending.{read_in}
+use Rattle.sbp_world.proofs.Pointers.Finds.{closes_at, expires_at}
+use Rattle.sbp_world.specs.Hosts.Core.{Core, work_in, work_of}
+use Rattle.sbp_world.specs.Hosts.Rows.{present_in}
+use Rattle.sbp_world.specs.Sessions.Holding.{AreBuffers}
+use Rattle.sbp_world.specs.Wire.Wires.{Stands}
+use Rattle.sbp_world.specs.Worlds.{Scene, WorldState, initiator_at}
+use Rattle.bus_transactions.specs.Judging.{AreJudged}
+use Rattle.bus_transactions.specs.Reached.{IsAwaited}
+use Rattle.bus_transactions.specs.Rows.{awaits, shape, shape_of}
+use Rattle.bus_transactions.proofs.Facts.{begun_asked}
+use Rattle.bus_transactions.proofs.Reaches.{goes_on}
+use Rattle.sbp_world.specs.Wire.Knows.{IsLatest}
+use Rattle.sbp_world.proofs.Hosts.Shown.{IsShown}
+use Rattle.sbp_world.proofs.Hosts.Shows.{shown_now}
+use Rattle.turn_laws.proofs.FoundRows.{Asks, RowFor}
+use Rattle.turn_laws.proofs.Handed.{handed}
+use Rattle.turn_laws.proofs.OwnAnswers.{packet_ends, read_small}
+use Rattle.turn_laws.proofs.OwnBlocks.{Expected, answer_silent, request_tells}
+use Rattle.turn_laws.proofs.OwnEnds.{lapses, untrue}
+use Rattle.turn_laws.proofs.OwnNotes.{Ops, own_are, reply_kept, sight_kept}
+use Rattle.turn_laws.proofs.OwnStates.{AreReset, sight_due}
+use Rattle.turn_laws.proofs.OwnTies.{GoesOn, IsEndOf, IsTied, ended_due, of_block, of_lock, of_read, of_write}
+use Rattle.turn_laws.specs.Operations.{ends_own, of_initiator}
+use Rattle.turn_laws.proofs.Places.{HasCalls, Place}
+
+-- What the transactions of an initiator, its operation and its reads are by the terms of a history. Of a transaction with any node, under its label: that it is tied to the request that waits there.
+pub record AreTies (past : List Moment) (i : ℕ) (s : InitiatorState) : Type 0 where
+  pub ends : (from number : ℕ) (purpose : Option Purpose) (kind : Kind) (serial : ℕ) → At s.layer ((terms past).ids ((terms past).generation (suc i)) from) number purpose → (terms past).held (transaction ((terms past).generation (suc i)) (suc i) from number) ≡ waits kind serial
+      → IsTied (host_at past i) (present_list past i) (access_at (terms past) serial) serial s.operation s.seat s.quads s.lists.slots.present purpose kind
+  pub resets : AreReset (host_at past i).operation s.operation (host_at past i).reads s.states
+  pub goes_on : (generation : ℕ) (bytes : List ℕ) (p : Packet) (label : LabelParts) (act : ℕ) → (judging_step s.layer generation bytes).0 ≡ of_response p label (Some (purposes.Rom act)) → GoesOn (record s { layer = (judging_step s.layer generation bytes).1 }) act
+
+-- the list that is dropped is the present one
+drops_present : (lists : ListState) → (drop_lists lists).0 ≡ present_in lists.slots.present
+unfolding drop_lists drop_step
+drops_present lists = by lists.slots.present
+  where
+    by : (present : Option PresentList) → (drop_for present lists.slots).0 ≡ present_in present
+    by None = refl
+    by (Some list) = refl
+
+-- a request waits
+record Waiting (h : Held) : Type 0 where
+  kind : Kind
+  serial : ℕ
+  is : h ≡ waits kind serial
+
+waits_now : (h : Held) (kind : ReplyKind) → shape_of h ≡ awaits kind → Waiting h
+waits_now (waits kind serial) other e = record { kind = kind; serial = serial; is = refl }
+waits_now free other e = absurd (let no : shape_of free ≡ awaits other = e in cc)
+waits_now rests other e = absurd (let no : shape_of rests ≡ awaits other = e in cc)
+
+-- by whom it was sent
+sender_is : (packet : Sending) (u : Transaction) (label : ℕ) (kind : Kind) → part_of packet.bytes ≡ request_part label kind → begun_by packet ≡ Some u → packet.from ≡ u.requester
+unfolding asked_by
+sender_is packet u label kind part begun =
+    let asked : asked_as (part_of packet.bytes) packet ≡ Some u = (begun_asked packet u begun).1 in
+    let same : Some (between packet packet.from packet.to label) ≡ Some u = ap (λ x. asked_as x packet) (sym part) ∙ asked in
+    ap (λ (o : Option Transaction). requester_in o) same
+  where
+    requester_in : Option Transaction → ℕ
+    requester_in None = 0
+    requester_in (Some u) = u.requester
+
+no_complete : (value : ℕ) → endings.Expired ≡ endings.Complete value → ⊥
+no_complete value e = cc
+
+-- a label that expires is of the generation of its layer
+by_life : {G : Type 0} (x : Life Purpose) (purpose : Option Purpose) → IsFor purpose x → ((kind : ReplyKind) → x ≡ under_way kind purpose → G) → G
+by_life (under_way kind other) purpose f g = g kind (ap (λ (q : Option Purpose). under_way kind q) f)
+by_life not_begun purpose f g = absurd f
+by_life over purpose f g = absurd f
+
+names_now : (layer : Layer Purpose) (peer : ℕ) (label : LabelParts) (purpose : Option Purpose) → Called layer → (expiring_step layer peer label).0 ≡ Ok purpose → label.generation ≡ layer.generation
+names_now layer peer label purpose c f =
+    let old = layers.after c.node c.calls in
+    let g : (expiring_step old peer label).0 ≡ Ok purpose = ap (λ (l : Layer Purpose). (expiring_step l peer label).0) c.is ∙ f in
+    let t = told_law Purpose c.node (layers.lets_expire peer label ∷ c.calls) in
+    let u : layers.AreTold (layers.expired peer label purpose ∷ layers.history c.node c.calls) = subst (λ (x : Result (Option Purpose) Stale). layers.AreTold (layers.and_before (layers.told_by_expiring peer label x) (layers.history c.node c.calls))) g t in
+    by_life (layers.life peer label (layers.history c.node c.calls)) purpose u.0
+    (λ kind is. (after_kept c.node c.calls).agree.now peer label kind purpose is ∙ ap (λ (l : Layer Purpose). l.generation) c.is)
+
+module _ (units ready : ℕ) (start : List Disk) (past : List Moment) (s : Scene) (here : Place units ready start past s) (i : ℕ) (inside : i < length s.world.initiators) where
+  abbrev old : InitiatorState
+  old = initiator_at s.world i
+
+  abbrev ms : List Moment
+  ms = hist past s.world
+
+  abbrev wire : Terms
+  wire = terms ms
+
+  abbrev host : Host
+  host = host_at ms i
+
+  abbrev present : Option ℕ
+  present = present_list ms i
+
+  stands : Stands past s.world
+  stands = here.holds.sound.stands
+
+  number_is : old.number ≡ i
+  number_is = (here.hosts i inside).number
+
+  drops : (drop_lists old.lists).0 ≡ present
+  drops = drops_present old.lists ∙ sym (here.hosts i inside).rows.fits.present
+
+  called_layer : Called old.layer
+  called_layer = by (here.calls i inside)
+    where
+      by : HasCalls i old → Called old.layer
+      by c =
+          let k = (sound i c.ready c.called.calls).wires in record { node = 0xffc1 + i; calls = k.calls; is = k.layer_is ∙ ap (λ (x : InitiatorState). x.layer) c.called.is }
+
+  work_is : work_of host.operation ≡ work_in old.operation
+  work_is = ap (λ (c : Core). c.work) (here.cores i inside)
+
+  -- ---- a packet that it hears
+  module _ (serial : ℕ) (one : Sent) (found : found_sent serial s.world.store.kept ≡ Some one) (to_is : one.to ≡ suc i) (w : WorldState) where
+    abbrev q : Sending
+    q = as_sending one
+
+    was_it : wire.sent serial ≡ Some q
+    was_it = was_sent s.world stands serial one found
+
+    abbrev heard : Judged × Call
+    heard = receive_step one.generation one.bytes empty_outbox old
+
+    abbrev IsDue : Judged × Call → Type 0
+    IsDue r = Ops (handed (suc i) 0 r.1.0 w) ≡ host_notes (said (judged_note serial r.0)) ms
+
+    got_is : host_notes (said (notes.Got serial)) ms ≡ got_notes i host present wire (answered_at wire serial) serial
+    got_is =
+        ap (λ so. at_initiator (receiver_in so) (λ j. got_notes j (host_at ms j) (present_list ms j) wire (answered_at wire serial) serial)) was_it
+        ∙ ap (λ n. at_initiator (Some n) (λ j. got_notes j (host_at ms j) (present_list ms j) wire (answered_at wire serial) serial)) to_is
+
+    silent : (o : OutboxState) → o.sides ≡ [] → Ops (handed (suc i) 0 o w) ≡ []
+    silent o e = own_are (suc i) 0 o w [] e
+
+    packet_is : (p : Packet) → reading one.bytes ≡ Ok p → packet_at wire serial ≡ Some p
+    packet_is p read = ap packet_in was_it ∙ ap (λ (r : Result Packet PacketFault). spelled_by r) read
+
+    -- a request
+    module _ (buffers : AreBuffers host.responses old.lists.memory) (p : Packet) (a : Asks wire q p by_request) (layer : Layer Purpose) where
+      abbrev asking : InitiatorState
+      asking = record old { layer = layer }
+
+      unanswered : PartOf p → answered_at wire serial ≡ None
+      unanswered (asks l k part none) = answers_none wire serial q l k was_it (part_read one.bytes p a.read ∙ part)
+      unanswered (replies l k part some) = absurd (let no : Some _ ≡ None = sym some ∙ a.none in cc)
+
+      request_law : (access : Access) → access_at wire serial ≡ Some access → host_notes (said (notes.Got serial)) ms ≡ end_notes old.number (end_by_write host (Some access)) present
+      request_law access e =
+          got_is ∙ ap (λ x. got_notes i host present wire x serial) (unanswered (part_case p)) ∙ ap (λ x. end_notes i (end_by_write host x) present) e
+          ∙ ap (λ n. end_notes n (end_by_write host (Some access)) present) (sym number_is)
+
+      request_due : IsDue (request_step p one.bytes empty_outbox asking)
+      request_due =
+          let asks_for = access_there p a.none in
+          let access = asks_for.access in
+          let t = request_tells asking host present work_is drops buffers (here.logins i inside) one.bytes p access asks_for.is in
+          let law = request_law access (ap access_in (packet_is p a.read) ∙ asks_for.is) in
+          own_are (suc i) 0 _ w t.told_notes t.sides ∙ t.are ∙ expected access law (request_step p one.bytes empty_outbox asking).0
+        where
+          expected : (access : Access) → host_notes (said (notes.Got serial)) ms ≡ end_notes old.number (end_by_write host (Some access)) present → (j : Judged) → Expected asking host present work_is drops buffers (here.logins i inside) one.bytes access j ≡ host_notes (said (judged_note serial j)) ms
+          expected access law judgements.Got = sym law
+          expected access law (judgements.Ignored cause) = refl
+
+    -- a response
+    module _ (p : Packet) (label : LabelParts) (purpose : Option Purpose) (e : (judging_step old.layer one.generation one.bytes).0 ≡ of_response p label purpose) (judged : AreJudged (said (notes.Got serial) ∷ ms)) where
+      read : reading one.bytes ≡ Ok p
+      read = read_in old.layer one.generation one.bytes p label purpose e
+
+      a : IsAnswer wire serial q p
+      a = answers wire serial q p was_it read (kind_in old.layer one.generation one.bytes p label purpose e) (judged.0 q was_it)
+
+      abbrev closed_state : InitiatorState
+      closed_state = called (record old { layer = (judging_step old.layer one.generation one.bytes).1 })
+
+      now_is : one.generation ≡ wire.generation (suc i)
+      now_is = a.current ∙ ap (λ n. wire.generation n) to_is
+
+      source_is : (header_in p).source ≡ wire.ids (wire.generation (suc i)) one.from
+      source_is = (is_of s.world stands serial one found).source p read ∙ ap (λ g. wire.ids g one.from) now_is
+
+      held_is : wire.held (transaction (wire.generation (suc i)) (suc i) one.from label.number) ≡ waits a.waited a.own
+      held_is =
+          ap (λ n. wire.held (transaction (wire.generation (suc i)) (suc i) one.from n)) (label_number old.layer one.generation one.bytes p label purpose e)
+          ∙ ap (λ n. wire.held (transaction (wire.generation (suc i)) n one.from (header_in p).label)) (sym to_is)
+          ∙ ap (λ g. wire.held (transaction g one.to one.from (header_in p).label)) (sym now_is)
+          ∙ a.held
+
+      response_law : host_notes (said (notes.Got serial)) ms ≡ reply_notes old.number host present (access_at wire a.own) a.own (answer_of p)
+      response_law =
+          got_is ∙ ap (λ x. got_notes i host present wire x serial) a.answered
+          ∙ ap (λ x. reply_notes i host present (access_at wire a.own) a.own (answer_in x)) (packet_is p read)
+          ∙ ap (λ n. reply_notes n host present (access_at wire a.own) a.own (answer_of p)) (sym number_is)
+
+      replied : Ops (reply_notes old.number host present (access_at wire a.own) a.own (answer_of p)) ≡ reply_notes old.number host present (access_at wire a.own) a.own (answer_of p)
+      replied = reply_kept old.number (end_by_answer host a.own (answer_of p) present) present (gets_stuck host (access_at wire a.own) (answer_of p))
+
+      bytes_are : AreBytes one.bytes
+      bytes_are = (stands.is.knows.ours serial q (ap (λ (t : Terms). t.sent serial) (past_terms s.world stands) ∙ was_it)).bytes
+
+      part_is : part_in p ≡ response (header_in p).label a.kind
+      part_is = sym (part_read one.bytes p read) ∙ a.part
+
+      -- so its transaction ends
+      closes_own : ends_own (said (notes.Got serial)) wire ≡ true
+      closes_own =
+          ap (λ so. of_initiator (receiver_in so) && is_some (answered_at wire serial)) was_it
+          ∙ ap (λ n. of_initiator (Some n) && is_some (answered_at wire serial)) to_is
+          ∙ ap (λ (x : Option ℕ). is_some x) a.answered
+
+      module _ (ties : AreTies ms i old) where
+        tie : IsTied host present (access_at wire a.own) a.own old.operation old.seat old.quads old.lists.slots.present purpose a.waited
+        tie = ties.ends one.from label.number purpose a.waited a.own (subst (λ n. At old.layer n label.number purpose) source_is (closes_at old.layer one.generation one.bytes p label purpose called_layer e)) held_is
+
+        goes : (act value : ℕ) → purpose ≡ Some (purposes.Rom act) → ending_of p ≡ endings.Complete value → GoesOn closed_state act
+        goes act value f g = ties.goes_on one.generation one.bytes p label act (e ∙ ap (λ x. of_response p label x) f)
+
+        response_due : (l : Layer Purpose) → (judging_step old.layer one.generation one.bytes).1 ≡ l → IsDue (received (of_response p label purpose, l) one.bytes empty_outbox old)
+        response_due l f =
+            subst (λ x. IsDue (received (of_response p label purpose, x) one.bytes empty_outbox old)) f
+            (own_are (suc i) 0 _ w (reply_notes old.number host present (access_at wire a.own) a.own (answer_of p))
+            (ended_due host present (access_at wire a.own) a.own closed_state drops empty_outbox purpose a.waited (ending_of p) (answer_of p) tie (packet_ends p (read_small one.bytes bytes_are p read) (header_in p).label a.kind a.waited part_is a.alike) goes)
+            ∙ replied ∙ sym response_law)
+
+    abbrev Judgement : Judged × Call → Type 0
+    Judgement r = AreJudged (said (judged_note serial r.0) ∷ ms)
+
+    heard_by : AreBuffers host.responses old.lists.memory → ((p : Packet) (label : LabelParts) (purpose : Option Purpose) (l : Layer Purpose) → judging_step old.layer one.generation one.bytes ≡ (of_response p label purpose, l) → AreJudged (said (notes.Got serial) ∷ ms) → IsDue (received (of_response p label purpose, l) one.bytes empty_outbox old))
+        → (x : Finding Purpose × Layer Purpose) → judging_step old.layer one.generation one.bytes ≡ x → RowFor wire q old.layer.node x → Judgement (received x one.bytes empty_outbox old) → IsDue (received x one.bytes empty_outbox old)
+    heard_by buffers responds (of_generation, l) e row j = silent empty_outbox refl
+    heard_by buffers responds (of_grammar, l) e row j = silent empty_outbox refl
+    heard_by buffers responds (of_label, l) e row j = silent empty_outbox refl
+    heard_by buffers responds (of_response p label purpose, l) e row j = responds p label purpose l e j
+    heard_by buffers responds (of_again p rcode, l) e row j =
+        let turn : Call = (empty_outbox, record old { layer = l }) in silent (respond_step p one.bytes rcode [] turn).0 (answer_silent p one.bytes rcode [] turn)
+    heard_by buffers responds (of_request p, l) e row j = request_due buffers p row l
+
+    pub heard_due : AreTies ms i old → Judgement heard → RowFor wire q old.layer.node (judging_step old.layer one.generation one.bytes) → IsDue heard
+    unfolding receive_step
+    heard_due ties judged row =
+        heard_by (here.holding i inside).responses
+        (λ p label purpose l e j. response_due p label purpose (ap (λ (r : Finding Purpose × Layer Purpose). r.0) e) j ties l (ap (λ (r : Finding Purpose × Layer Purpose). r.1) e))
+        (judging_step old.layer one.generation one.bytes) refl row judged
+
+    -- where no transaction ends
+    abbrev EndsNone : Judged → Type 0
+    EndsNone judged = ends_own (said (judged_note serial judged)) wire ≡ false
+
+    pub got_due : AreBuffers host.responses old.lists.memory → EndsNone heard.0 → Judgement heard → RowFor wire q old.layer.node (judging_step old.layer one.generation one.bytes) → IsDue heard
+    unfolding receive_step
+    got_due buffers none judged row = by (judging_step old.layer one.generation one.bytes) refl row judged none
+      where
+        by : (x : Finding Purpose × Layer Purpose) → judging_step old.layer one.generation one.bytes ≡ x → RowFor wire q old.layer.node x → Judgement (received x one.bytes empty_outbox old) → EndsNone (received x one.bytes empty_outbox old).0 → IsDue (received x one.bytes empty_outbox old)
+        by x e row j none =
+            heard_by buffers
+            (λ p label purpose l f k. untrue (sym (subst (λ y. EndsNone (received y one.bytes empty_outbox old).0) (sym e ∙ f) none) ∙ closes_own p label purpose (ap (λ (r : Finding Purpose × Layer Purpose). r.0) f) k))
+            x e row j
+
+  -- ---- a sight
+  inside_there : suc i ≤ length s.world.initiators
+  inside_there = omega (arith, inside)
+
+  abbrev is_new : Bool
+  is_new = not (nat_eq s.world.generations.latest.generation (wire.generation (suc i)))
+
+  sight_by : AreTies ms i old → (w : WorldState) (r : Bool × Layer Purpose) → r.0 ≡ is_new → Ops (handed (suc i) 0 (seen_as r (id_of s.world.generations.latest 0) empty_outbox old).0 w) ≡ seen_notes i is_new host present
+  sight_by ties w (false, l) e = own_are (suc i) 0 empty_outbox w [] refl ∙ ap (λ b. seen_notes i b host present) e
+  sight_by ties w (true, l) e =
+      own_are (suc i) 0 _ w (reset_ops old.number host.operation host.reads ++ drop_note old.number true present) (sight_due (id_of s.world.generations.latest 0) empty_outbox (record old { layer = l }) host present drops ties.resets)
+      ∙ sight_kept old.number host.operation host.reads present
+      ∙ ap (λ n. reset_ops n host.operation host.reads ++ drop_note n true present) number_is
+      ∙ ap (λ b. seen_notes i b host present) e
+
+  pub seen_due : AreTies ms i old → (w : WorldState) → (let g = s.world.generations.latest in Ops (handed (suc i) 0 (see_step g.generation (id_of g (suc i)) (id_of g 0) empty_outbox old).0 w) ≡ host_notes (said (notes.Seen (suc i) g.generation)) ms)
+  unfolding see_step
+  seen_due ties w = let g = s.world.generations.latest in sight_by ties w (seeing_step old.layer g.generation (id_of g (suc i))) (may_see s.world stands i inside_there)
+
+  -- ---- a time-out
+  module _ (serial : ℕ) (request : Request) (found : find s.world.requests serial ≡ Some request) (node_is : request.node ≡ suc i) (w : WorldState) where
+    abbrev number : ℕ
+    number = request.label.number
+
+    abbrev gen : ℕ
+    gen = wire.generation (suc i)
+
+    abbrev v : Transaction
+    v = transaction gen (suc i) 0 number
+
+    shown : IsShown ms i old.target old.layer
+    shown = shown_now s.world stands here.holds.sound.nodes i inside
+
+    latest : IsLatest s.world.requests wire.ids wire.current wire.bus serial request
+    latest = subst (λ (t : Terms). IsLatest s.world.requests t.ids t.current t.bus serial request) (past_terms s.world stands) (stands.is.knows.latest serial request found)
+
+    late_end : (kind : Kind) → IsEndOf kind endings.Expired Expired
+    late_end writing = of_write endings.Expired
+    late_end reading_quadlet = of_read endings.Expired Expired lapses
+    late_end reading_block = of_block endings.Expired Expired
+    late_end locking = of_lock endings.Expired Expired
+
+    -- the request that waits under the label is this one
+    module _ (purpose : Option Purpose) (l : Layer Purpose) (e : expiring_step old.layer old.target request.label ≡ (Ok purpose, l)) where
+      there : At old.layer old.target number purpose
+      there = expires_at old.layer old.target request.label purpose called_layer (ap (λ (r : Result (Option Purpose) Stale × Layer Purpose). r.0) e)
+
+      waiting : Waiting (wire.held v)
+      waiting =
+          waits_now (wire.held v) there.kind
+          (ap (λ g. shape_of (wire.held (transaction g (suc i) 0 number))) (sym shown.generation) ∙ sym (shown.states number) ∙ ap shape there.state)
+
+      awaited : IsAwaited wire v waiting.kind waiting.serial
+      awaited =
+          subst (λ (t : Terms). IsAwaited t v waiting.kind waiting.serial) (past_terms s.world stands)
+          (goes_on.awaited stands.wire v waiting.kind waiting.serial stands.reached (ap (λ (t : Terms). t.held v) (past_terms s.world stands) ∙ waiting.is))
+
+      label_now : request.label.generation ≡ gen
+      label_now = names_now old.layer old.target request.label purpose called_layer (ap (λ (r : Result (Option Purpose) Stale × Layer Purpose). r.0) e) ∙ shown.generation
+
+      serial_is : waiting.serial ≡ serial
+      serial_is =
+          awaited.current
+          ∙ ap (λ g. wire.current (transaction g (suc i) 0 number)) (sym label_now)
+          ∙ ap (λ n. wire.current (transaction request.label.generation n 0 number)) (sym node_is)
+          ∙ ap (λ n. wire.current (transaction request.label.generation request.node n number)) (sym (latest.aimed (omega (arith, node_is))))
+          ∙ latest.current_is
+
+      from_is : sender_in (wire.sent serial) ≡ Some (suc i)
+      from_is =
+          ap (λ n. sender_in (wire.sent n)) (sym serial_is) ∙ ap sender_in awaited.sent
+          ∙ ap Some (sender_is awaited.packet v number waiting.kind awaited.part awaited.begun)
+
+      late_law : host_notes (said (notes.TimedOut serial)) ms ≡ reply_notes old.number host present (access_at wire serial) serial Expired
+      late_law =
+          ap (λ so. at_initiator so (λ j. reply_notes j (host_at ms j) (present_list ms j) (access_at wire serial) serial Expired)) from_is
+          ∙ ap (λ n. reply_notes n host present (access_at wire serial) serial Expired) (sym number_is)
+
+      module _ (ties : AreTies ms i old) where
+        late_tie : IsTied host present (access_at wire serial) serial old.operation old.seat old.quads old.lists.slots.present purpose waiting.kind
+        late_tie =
+            ties.ends 0 number purpose waiting.kind serial
+            (subst (λ n. At old.layer n number purpose) (sym shown.named ∙ ap (λ g. wire.ids g 0) shown.generation) there)
+            (waiting.is ∙ ap (λ n. waits waiting.kind n) serial_is)
+
+        expired_due : Ops (handed (suc i) 0 (ended_for purpose endings.Expired empty_outbox (called (record old { layer = l }))).0 w) ≡ host_notes (said (notes.TimedOut serial)) ms
+        expired_due =
+            own_are (suc i) 0 _ w (reply_notes old.number host present (access_at wire serial) serial Expired)
+            (ended_due host present (access_at wire serial) serial (called (record old { layer = l })) drops empty_outbox purpose waiting.kind endings.Expired Expired late_tie (late_end waiting.kind) (λ act value f g. absurd (no_complete value g)))
+            ∙ reply_kept old.number (end_by_answer host serial Expired present) present (gets_stuck host (access_at wire serial) Expired) ∙ sym late_law
+
+    late_by : AreTies ms i old → (r : Result (Option Purpose) Stale × Layer Purpose) → expiring_step old.layer old.target request.label ≡ r → (outbox : OutboxState) (state : InitiatorState) → expired_as r empty_outbox old ≡ (true, (outbox, state)) → Ops (handed (suc i) 0 outbox w) ≡ host_notes (said (notes.TimedOut serial)) ms
+    late_by ties (Ok purpose, l) e outbox state f =
+        let same : (ended_for purpose endings.Expired empty_outbox (called (record old { layer = l }))).0 ≡ outbox = ap (λ (r : Bool × Call). r.1.0) f in
+        subst (λ o. Ops (handed (suc i) 0 o w) ≡ host_notes (said (notes.TimedOut serial)) ms) same (expired_due purpose l e ties)
+    late_by ties (Err stale, l) e outbox state f = untrue (ap (λ (r : Bool × Call). r.0) f)
+
+    pub late_due : AreTies ms i old → (outbox : OutboxState) (state : InitiatorState) → expire_step request.label empty_outbox old ≡ (true, (outbox, state)) → Ops (handed (suc i) 0 outbox w) ≡ host_notes (said (notes.TimedOut serial)) ms
+    unfolding expire_step
+    late_due ties outbox state f = late_by ties (expiring_step old.layer old.target request.label) refl outbox state f
+
+    -- it was one of its own
+    late_from : (r : Result (Option Purpose) Stale × Layer Purpose) → expiring_step old.layer old.target request.label ≡ r → (expired_as r empty_outbox old).0 ≡ true → sender_in (wire.sent serial) ≡ Some (suc i)
+    late_from (Ok purpose, l) e f = from_is purpose l e
+    late_from (Err stale, l) e f = untrue f
+
+    pub late_sender : (outbox : OutboxState) (state : InitiatorState) → expire_step request.label empty_outbox old ≡ (true, (outbox, state)) → ends_own (said (notes.TimedOut serial)) wire ≡ true
+    unfolding expire_step
+    late_sender outbox state f = ap of_initiator (late_from (expiring_step old.layer old.target request.label) refl (ap (λ (r : Bool × Call). r.0) f))
