@@ -35,6 +35,7 @@ pub mod AskEnds
 pub mod RequestEnds
 pub mod TargetEnds
 pub mod Ends
+pub mod Once
 pub mod OrderRanks
 pub mod OrderHanded
 pub mod OrderOwn

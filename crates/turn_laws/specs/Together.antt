@@ -12,6 +12,7 @@ use Rattle.turn_laws.specs.Cleared.{ClearsWhereDue}
 use Rattle.turn_laws.specs.Cuts.{CutsWhereDue}
 use Rattle.turn_laws.specs.Ends.{EndsWhereDue}
 use Rattle.turn_laws.specs.Faults.{DiesBeforeFaults}
+use Rattle.turn_laws.specs.Once.{DiesOnce}
 use Rattle.turn_laws.specs.Runs.{OfEveryRun}
 
 pub record LawfulInTurns (start : List Disk) (past : List Moment) : Type 0 where
@@ -22,6 +23,7 @@ pub record LawfulInTurns (start : List Disk) (past : List Moment) : Type 0 where
   pub cleared : EachTurn (ClearsWhereDue start) past
   pub packets : EachMoment SentAt past
   pub ends : EachTurn (EndsWhereDue start) past
+  pub once : EachTurn (DiesOnce start) past
   pub faults : EachTurn DiesBeforeFaults past
   pub announced : EachTurn (AnnouncesWhereDue start) past
 

@@ -6,6 +6,7 @@ ghost use Rattle.turn_laws.specs.Ends.{EndsLaw};
 ghost use Rattle.turn_laws.specs.Faults.{FaultsLaw};
 ghost use Rattle.turn_laws.specs.Judgement.{JudgementRunLaw};
 ghost use Rattle.turn_laws.specs.Login.{LoginRunLaw};
+ghost use Rattle.turn_laws.specs.Once.{OnceLaw};
 ghost use Rattle.turn_laws.specs.Ordered.{OrderedLaw};
 ghost use Rattle.turn_laws.specs.Packets.{PacketsLaw};
 
@@ -48,6 +49,13 @@ pub fn faults_follow_deaths()
 #[tactic(auto, using(crate::proofs::Ends::ends_law))]
 pub fn orbs_end_where_due()
     ensures { EndsLaw }
+{}
+
+/// In every run, whatever anybody injected, a turn tells one death of an agent at most, and none where the agent
+/// that it takes on is DEAD: `once` of the cause law.
+#[tactic(auto, using(crate::proofs::Once::once_law))]
+pub fn agents_die_once()
+    ensures { OnceLaw }
 {}
 
 /// The login law holds of every run, whatever anybody injected: in each turn the decisions stand that are

@@ -4,7 +4,7 @@
 mod laws;
 
 pub use laws::{
-    discs_are_announced_where_due, faults_follow_deaths, judgements_are_lawful,
+    agents_die_once, discs_are_announced_where_due, faults_follow_deaths, judgements_are_lawful,
     lists_are_cut_where_due, logins_are_lawful, orbs_end_where_due, packets_are_lawful,
     turns_are_in_order, units_are_cleared_where_due,
 };
