@@ -1,5 +1,5 @@
 -- The deaths and ends of an agent's turn are due, where the turn's step at the target and at the terms is one: the notes name whom and what the laws name, and the first request finds a label by both.
-use Rattle.std.proofs.Common.{arith, ◌≡◌, ◌∙◌, refl, sym, ap, subst, ℕ, suc, ◌<◌, ◌^◌, is_some, Bool, true, false, cond, List, [], ◌∷◌, ◌++◌, length, Option, Some, None}
+use Rattle.std.proofs.Common.{arith, ◌≡◌, ◌∙◌, refl, sym, ap, subst, ℕ, suc, is_some, Bool, true, false, cond, List, ◌∷◌, Option, Some, None}
 use Rattle.bus_transactions.specs.Fitting.{FitsRequest}
 use Rattle.label_table.specs.Bodies.{Body}
 use Rattle.label_table.specs.Layer.{Layer}
@@ -11,9 +11,6 @@ use Rattle.command_agent.specs.declared.phase.Phase.TheVariants as phases
 use Rattle.command_agent.specs.declared.step.AgentStep.{AgentStep}
 use Rattle.rbc_disk.specs.Disk.{Disk}
 use Rattle.sbp_bus.specs.declared.places.Holder.{Holder}
-use Rattle.sbp_journal.specs.Run.{Moment, said}
-use Rattle.sbp_journal.specs.Wire.{Terms, terms}
-use Rattle.sbp_journal.specs.declared.side.Side.{Side}
 use Rattle.sbp_laws.specs.Agents.{AgentTurn, agent_notes_for, body_of, fifo_in, list_taken, wire_after, wire_before}
 use Rattle.sbp_laws.specs.Lists.{Orb, named}
 use Rattle.sbp_laws.specs.NoteKinds.{is_end_note, of_kind}

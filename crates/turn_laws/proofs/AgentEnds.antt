@@ -1,5 +1,5 @@
 -- What the target tells of deaths and ends as an agent goes on: by a reply, behind a time-out, a pointer or a doorbell. They are those that its step brings, by whether its first request finds a label.
-use Rattle.std.proofs.Common.{◌≡◌, ◌∙◌, refl, sym, ap, subst, ℕ, ◌<◌, is_some, Bool, true, false, cond, List, [], ◌∷◌, ◌++◌, length, append-nil, Option, Some, None, Result, Ok, Err}
+use Rattle.std.proofs.Common.{◌≡◌, ◌∙◌, refl, sym, ap, ℕ, ◌<◌, is_some, Bool, true, false, List, [], ◌++◌, length, append-nil, Option, Some, Result, Ok, Err}
 use Rattle.std.proofs.Math.ListN.{length-set}
 use Rattle.async_packet.specs.Packet.{Packet}
 use Rattle.label_table.specs.Bodies.{Body}
@@ -28,7 +28,7 @@ use Rattle.sbp_target.specs.Agents.{agent_body, ask_main, follow, noted}
 use Rattle.sbp_target.specs.Desks.{expired_desk, taken}
 use Rattle.sbp_target.specs.Nodes.{NodeState, Scene, desk_at, scene, with_desk}
 use Rattle.sbp_target.specs.Receiving.{expired_with}
-use Rattle.sbp_target.specs.Replies.{Whole, advance, advanced_with, announced_by, came, changed_by, follow_all, plain_at, replied as step_replied, replied_with, stage}
+use Rattle.sbp_target.specs.Replies.{Whole, advance, advanced_with, came, changed_by, follow_all, plain_at, replied as step_replied, replied_with, stage}
 use Rattle.sbp_target.specs.Sending.{answer_step}
 use Rattle.sbp_target.specs.Serving.{answered, asked_in}
 use Rattle.sbp_world.proofs.Agents.Walk.{Holds, desk_set, holds_set, holds_still}

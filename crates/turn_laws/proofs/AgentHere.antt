@@ -1,5 +1,5 @@
 -- What is known at a place of an agent that is not in RESET: whose login it serves, by what names the notes and the laws have its initiator, its list and its ORBs, and that its requests fit packets.
-use Rattle.std.proofs.Common.{arith, ◌≡◌, ◌∙◌, refl, sym, ap, subst, ℕ, suc, ◌+◌, ◌<◌, ◌≤◌, ◌^◌, is_some, Bool, true, false, cond, List, [], ◌∷◌, ◌++◌, length, Option, Some, None}
+use Rattle.std.proofs.Common.{arith, ◌≡◌, ◌∙◌, refl, sym, ap, subst, ℕ, ◌<◌, ◌^◌, is_some, Bool, true, false, List, length, Option, Some}
 use Rattle.login_table.specs.Table.{Table, is_live, place_at}
 use Rattle.login_table.specs.declared.login.Login.{Login}
 use Rattle.orb_layout.specs.declared.ask.FailCause.{FailCause}
@@ -19,15 +19,15 @@ use Rattle.sbp_journal.specs.Run.{Moment}
 use Rattle.sbp_journal.specs.Wire.{Terms, terms}
 use Rattle.sbp_laws.specs.Agents.{fifo_in}
 use Rattle.sbp_laws.specs.Lists.{named}
-use Rattle.sbp_laws.specs.Targets.{Target, agent_at, initiator_at, over, target_at}
+use Rattle.sbp_laws.specs.Targets.{Target, initiator_at, over, target_at}
 use Rattle.sbp_laws.specs.Targets as laws
 use Rattle.sbp_target.specs.declared.desk.Desk.{Desk}
 use Rattle.sbp_target.specs.declared.purpose.Sent.{Sent}
 use Rattle.sbp_target.specs.Agents.{agent_body}
 use Rattle.sbp_target.specs.Nodes.{NodeState, desk_at, login_at}
 use Rattle.sbp_target.proofs.Histories.Calling.{Good, not_eight}
-use Rattle.sbp_target.proofs.Histories.Following.{Fits, IsServed}
-use Rattle.sbp_target.proofs.Histories.Stepped.{Carries, Fit, ahead_loses, ahead_replied, is_bare, main_loses, main_replied}
+use Rattle.sbp_target.proofs.Histories.Following.{Fits}
+use Rattle.sbp_target.proofs.Histories.Stepped.{Carries, ahead_loses, ahead_replied, is_bare, main_loses, main_replied}
 use Rattle.sbp_world.specs.Agents.Management.Offices.{Agrees, Office, office_of}
 use Rattle.sbp_world.specs.Agents.Holders.{IsHeld}
 use Rattle.sbp_world.specs.Agents.Serials.{kept_as}

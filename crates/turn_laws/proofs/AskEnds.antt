@@ -1,21 +1,17 @@
 -- The deaths and ends of a request that the target got: those of an agent whose pointer or doorbell it writes, whose read finds no label, and none else.
-use Rattle.std.proofs.Common.{arith, ◌≡◌, ◌∙◌, refl, sym, ap, subst, ℕ, suc, ◌+◌, ◌<◌, ◌≤◌, ◌==◌, ◌&&◌, ◌||◌, not, nat_eq, is_some, Bool, true, false, cond, List, [], ◌∷◌, ◌++◌, length, Option, Some, None, Result, Ok, Err}
+use Rattle.std.proofs.Common.{arith, ◌≡◌, ◌∙◌, refl, sym, ap, subst, ℕ, suc, ◌<◌, ◌≤◌, true, false, List, [], ◌∷◌, length, Option, Some, None, Result, Ok, Err}
 use Rattle.std.proofs.lemmas.Bool.Decides.{nat_tests}
-use Rattle.async_packet.specs.Packet.{Packet, header_in}
+use Rattle.async_packet.specs.Packet.{Packet}
 use Rattle.async_packet.specs.Reading.{reading}
-use Rattle.bus_transactions.proofs.FitJudged.{BytesOf, bytes_of, spelled}
 use Rattle.label_table.specs.Bodies.{Body}
 use Rattle.label_table.specs.Layer.{Layer, answering_step}
 use Rattle.label_table.specs.Requests.{reply_kind}
-use Rattle.label_table.specs.declared.reply.ReplyKind.{ReplyKind}
 use Rattle.login_table.specs.declared.login.Login.{Login}
 use Rattle.orb_layout.specs.declared.ask.Ask.{Ask}
 use Rattle.orb_layout.specs.declared.pointer.OrbPointer.{OrbPointer}
 use Rattle.orb_layout.specs.declared.pointer.OrbPointer.TheVariants as pointers
-use Rattle.orb_layout.specs.Pointers.{IsPointer, pointer_at}
 use Rattle.packet_store.specs.declared.sent.Sent.{Sent}
-use Rattle.packet_store.specs.Kept.{found_sent, is_flying}
-use Rattle.packet_store.specs.Stored.{deliver_step}
+use Rattle.packet_store.specs.Kept.{found_sent}
 use Rattle.rbc_disk.specs.Disk.{Disk}
 use Rattle.command_agent.specs.Machine.{Machine, present_of, state_in}
 use Rattle.command_agent.specs.Steps.{asks, doorbell_in, doorbell_step, is_reset, point_in, point_step, pointed}
@@ -24,7 +20,6 @@ use Rattle.command_agent.specs.declared.step.AgentState.TheVariants as states
 use Rattle.command_agent.specs.declared.step.PointRefusal.{PointRefusal}
 use Rattle.command_agent.specs.declared.step.Which.TheVariants.{Main}
 use Rattle.sbp_bus.specs.declared.places.Holder.{Holder}
-use Rattle.sbp_journal.specs.Addresses.{Access, access_of}
 use Rattle.sbp_journal.specs.Outgoings.{OutboxState, empty_outbox}
 use Rattle.sbp_journal.specs.Run.{Moment, said}
 use Rattle.sbp_journal.specs.Wire.{Terms, terms}
@@ -32,30 +27,26 @@ use Rattle.sbp_journal.specs.declared.note.Note.{Note}
 use Rattle.sbp_journal.specs.declared.note.Note.TheVariants as notes
 use Rattle.sbp_journal.specs.declared.side.Side.{Side}
 use Rattle.sbp_journal.specs.declared.side.Side.TheVariants as sides
-use Rattle.sbp_laws.specs.Agents.{AgentTurn, Event, agent_event, agent_notes_for, agent_turn, by_doorbell, by_pointer, event_by, list_taken, listed_at, listed_by, write_in, writes}
-use Rattle.sbp_laws.specs.Deaths.{ends_by, ends_due}
+use Rattle.sbp_laws.specs.Agents.{AgentTurn, agent_notes_for, list_taken}
 use Rattle.sbp_laws.specs.Lists.{list_in, named}
 use Rattle.sbp_laws.specs.NoteKinds.{is_end_note, of_kind}
 use Rattle.sbp_laws.specs.Packets.{finds_label}
 use Rattle.sbp_laws.specs.Targets.{Agent, Target, agent_at, initiator_at, over, target_at}
 use Rattle.sbp_laws.specs.Turns.{Turn, turn}
 use Rattle.sbp_target.specs.declared.desk.Desk.{Desk}
-use Rattle.sbp_target.specs.Desks.{point_desk}
-use Rattle.sbp_target.specs.Nodes.{NodeState, Scene as TargetScene, desk_at, login_at, scene, with_desk}
-use Rattle.sbp_target.specs.Serving.{answered, asked_in, point, pointed_by, ring, rung_by}
+use Rattle.sbp_target.specs.Nodes.{NodeState, Scene as TargetScene, desk_at, scene, with_desk}
+use Rattle.sbp_target.specs.Serving.{answered, asked_in}
 use Rattle.sbp_target.specs.Telling.{orb_of}
 use Rattle.sbp_target.proofs.Histories.Following.{IsServed}
 use Rattle.sbp_target.proofs.Histories.Stepped.{Carries}
 use Rattle.sbp_world.specs.Agents.Alike.{Alike}
-use Rattle.sbp_world.specs.Hosts.Handing.{AreOthers}
 use Rattle.sbp_world.specs.Hosts.Rows.{name_in}
 use Rattle.sbp_world.specs.Telling.{holder, ticket_at, told}
 use Rattle.sbp_world.specs.Worlds.{Scene, WorldState}
 use Rattle.sbp_world.proofs.Agents.Management.Still.{hist}
-use Rattle.sbp_world.proofs.Agents.Steps.{doorbell_alike, point_alike}
-use Rattle.sbp_world.proofs.FitTarget.Agents.{FitsAsk, point_fits, ring_fits}
+use Rattle.sbp_world.proofs.FitTarget.Agents.{FitsAsk}
 use Rattle.turn_laws.proofs.AgentDue.{IsTurnOf, agent_due}
-use Rattle.turn_laws.proofs.AgentEnds.{AsksIf, Tells, asked_tells, found_at, point_asks, ring_asks}
+use Rattle.turn_laws.proofs.AgentEnds.{Tells, asked_tells, found_at}
 use Rattle.turn_laws.proofs.AgentHere.{fifo_is, good, holder_is, initiator_is, names_are}
 use Rattle.bus_transactions.specs.Fitting.{FitsRequest}
 use Rattle.orb_layout.specs.declared.ask.Ask.TheVariants.{Nothing}

@@ -1,5 +1,5 @@
 -- The deaths and ends among the notes of a call of the target: those of the sides that tell them, by who has the places. They are the law's where the sides are those that a step brings.
-use Rattle.std.proofs.Common.{arith, ◌≡◌, ◌∙◌, refl, sym, ap, subst, ℕ, ◌≤◌, Bool, true, false, cond, List, [], ◌∷◌, ◌++◌, Option, Some, None}
+use Rattle.std.proofs.Common.{arith, ◌≡◌, ◌∙◌, refl, sym, ap, ℕ, ◌≤◌, false, List, [], ◌∷◌, ◌++◌, Option, Some, None}
 use Rattle.std.proofs.lemmas.List.Elements.{filter-append}
 use Rattle.command_agent.specs.Machine.{Machine}
 use Rattle.orb_layout.specs.declared.ask.FailCause.{FailCause}
@@ -26,7 +26,7 @@ use Rattle.turn_laws.proofs.EndTries.{Brought, brought_notes, brought_sides}
 use Rattle.turn_laws.proofs.FollowEnds.{dead_side, ended_side, ends_in}
 use Rattle.turn_laws.proofs.FollowSides.{AreBeside, IsBeside}
 use Rattle.turn_laws.proofs.Handed.{handed, note_of, notes_told}
-use Rattle.turn_laws.proofs.KindNotes.{IsToldKind, join_same, kind_handed, none_behind, own_handed}
+use Rattle.turn_laws.proofs.KindNotes.{IsToldKind, join_same, kind_handed, own_handed}
 use Rattle.turn_laws.proofs.OrderHanded.{InRanks, side_rank}
 use Rattle.turn_laws.proofs.OrderRanks.{rises_within}
 

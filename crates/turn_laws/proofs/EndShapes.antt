@@ -1,10 +1,9 @@
 -- A step of an agent that ends an ORB writes its status; one in which the agent dies and no ORB ends asks for nothing; behind one that asks the main transaction is under way, and a write
 -- without an end is of a chunk of an answer.
-use Rattle.std.proofs.Common.{◌≡◌, refl, ℕ, ◌+◌, ◌*◌, ◌^◌, ◌==◌, ◌&&◌, nat_lt, not, Bool, true, false, cond, List, ◌++◌, length, Option, Some, None, Result, Ok, Err}
+use Rattle.std.proofs.Common.{◌≡◌, refl, ℕ, ◌+◌, ◌*◌, ◌==◌, Bool, true, false, cond, List, ◌++◌, length, Option, Some, None, Result, Ok, Err}
 use Rattle.orb_layout.specs.declared.ask.Ask.{Ask}
 use Rattle.orb_layout.specs.declared.ask.Ask.TheVariants.{Nothing, Read, Write}
 use Rattle.orb_layout.specs.declared.ask.FailCause.{FailCause}
-use Rattle.orb_layout.specs.declared.command.CommandOrb.{CommandOrb}
 use Rattle.orb_layout.specs.declared.pointer.OrbPointer.{OrbPointer}
 use Rattle.orb_layout.specs.declared.pointer.OrbPointer.TheVariants as pointers
 use Rattle.orb_layout.specs.declared.status.StatusKind.{StatusKind}
@@ -21,7 +20,7 @@ use Rattle.rbc_disk.specs.Runs.{Told, need_of}
 use Rattle.rbc_disk.specs.Units.{PlainDisk}
 use Rattle.command_agent.specs.Checks.{death_by, reads_table, verdict}
 use Rattle.command_agent.specs.Machine.{Machine, chunk_of, is_ahead, is_sent, plan_of}
-use Rattle.command_agent.specs.Steps.{advanced, ahead_lost, ahead_of, ahead_read, ahead_step, answer_chunk, answer_grown, answer_step, asks, check_step, checked, chunk_written, data_grown, data_read, data_step, dead_step, elements_read, end_step, follow_step, judge_step, judged, lost_step, main_lost, next_read, orb_read, passed_step, quiet, ran_as, replied, reply_step, reread_step, run_step, sent, served, status_written, table_read, told_or, turn_step, unread_buffer, wait_step, with_ahead, with_outcome}
+use Rattle.command_agent.specs.Steps.{advanced, ahead_lost, ahead_of, ahead_read, ahead_step, answer_chunk, answer_grown, answer_step, asks, check_step, checked, chunk_written, data_grown, data_read, data_step, dead_step, elements_read, end_step, follow_step, judge_step, judged, lost_step, main_lost, next_read, orb_read, quiet, ran_as, reply_step, reread_step, run_step, sent, served, status_written, table_read, told_or, turn_step, unread_buffer, wait_step, with_outcome}
 use Rattle.command_agent.specs.declared.phase.Phase.{Phase}
 use Rattle.command_agent.specs.declared.phase.Phase.TheVariants as phases
 use Rattle.command_agent.specs.declared.phase.ReadAhead.{ReadAhead}

@@ -1,6 +1,6 @@
 -- The deaths and ends that a step of an agent brings about, by whether its first request finds a label: those that the target tells are those that the laws try, and nothing counts for them but the step
 -- and the phase behind it.
-use Rattle.std.proofs.Common.{◌≡◌, ◌∙◌, refl, sym, ap, ℕ, is_some, Bool, true, false, cond, List, [], ◌∷◌, ◌++◌, append-nil, append_assoc, Option, Some, None}
+use Rattle.std.proofs.Common.{◌≡◌, ◌∙◌, refl, sym, ap, ℕ, Bool, true, false, cond, List, [], ◌++◌, append-nil, append_assoc, Option, Some, None}
 use Rattle.label_table.specs.Bodies.{Body}
 use Rattle.orb_layout.specs.declared.ask.FailCause.{FailCause}
 use Rattle.orb_layout.specs.declared.ask.FailCause.TheVariants as causes

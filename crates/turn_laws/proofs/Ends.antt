@@ -1,6 +1,5 @@
 -- In each turn of every run exactly the deaths and ends stand that the step of an agent brings.
-use Rattle.std.proofs.Common.{arith, ◌≡◌, ◌∙◌, refl, sym, ap, subst, ℕ, suc, ◌+◌, ◌<◌, nat_eq, nat_lt, Bool, true, false, cond, List, [], ◌∷◌, length, map, Option, Some, None, Result, Ok, Err}
-use Rattle.label_table.specs.declared.reply.Stale.{Stale}
+use Rattle.std.proofs.Common.{arith, ◌≡◌, ◌∙◌, refl, sym, ap, subst, ℕ, suc, ◌+◌, ◌<◌, nat_eq, nat_lt, Bool, true, false, cond, List, [], map, Option, Some, None}
 use Rattle.packet_store.specs.declared.sent.Sent.{Sent}
 use Rattle.packet_store.specs.Kept.{found_sent}
 use Rattle.rbc_disk.specs.Disk.{Disk}
@@ -31,12 +30,10 @@ use Rattle.sbp_laws.specs.Packets.{sender_in}
 use Rattle.sbp_world.proofs.Agents.Management.Lapse.{from_asked}
 use Rattle.sbp_world.proofs.Agents.Purposes.{g, law}
 use Rattle.sbp_laws.specs.Deaths.{ends_by, ends_due}
-use Rattle.sbp_laws.specs.NoteKinds.{is_end_note, of_kind}
 use Rattle.sbp_laws.specs.Targets.{is_serial, over, purpose_of, target_at}
 use Rattle.sbp_laws.specs.Turns.{turn}
 use Rattle.sbp_target.specs.Nodes as target
 use Rattle.sbp_target.proofs.Histories.Told.{side_law}
-use Rattle.sbp_world.specs.Hosts.Handing.{AreOthers}
 use Rattle.sbp_world.specs.Lines.{weight_in}
 use Rattle.sbp_world.specs.Worlds.{Scene, initiator_at, with_initiator, with_note, with_target}
 use Rattle.sbp_world.proofs.Agents.Management.Still.{hist}

@@ -1,5 +1,5 @@
 -- What the target tells in a call has each end as failed or illegal directly behind the death of its agent.
-use Rattle.std.proofs.Common.{◌≡◌, ◌∙◌, refl, subst, ℕ, zero, suc, ◌+◌, nat_lt, is_some, Bool, true, false, cond, List, [], ◌∷◌, ◌++◌, length, Option, Some, None, Result, Ok, Err}
+use Rattle.std.proofs.Common.{◌≡◌, refl, ℕ, zero, suc, ◌+◌, nat_lt, is_some, Bool, true, false, cond, List, [], ◌∷◌, ◌++◌, length, Option, Some, None, Result, Ok, Err}
 use Rattle.async_packet.specs.Labels.{LabelParts}
 use Rattle.async_packet.specs.Packet.{Packet, header_in}
 use Rattle.label_table.specs.declared.judgement.Asked.{Asked}
@@ -43,7 +43,7 @@ use Rattle.sbp_target.specs.Agents.{after_ahead, after_loss, after_main, agent_b
 use Rattle.sbp_target.specs.Desks.{expired_desk, point_desk, which_in}
 use Rattle.sbp_target.specs.Management.{manage}
 use Rattle.sbp_target.specs.Nodes.{NodeState, Scene, desk_at, login_at, scene, with_agent, with_desk}
-use Rattle.sbp_target.specs.Receiving.{answer_in, concluded, expire_agent, expired, expired_by, expired_in, expired_with, judged_scene, received, received_as, seen, ticked, timed_out, with_layer}
+use Rattle.sbp_target.specs.Receiving.{answer_in, concluded, expire_agent, expired, expired_by, expired_in, expired_with, judged_scene, received, received_as, seen, ticked, timed_out}
 use Rattle.sbp_target.specs.Replies.{Stage, Whole, advance, advanced_with, announced_by, came, changed_by, follow_all, plain_at, replied as step_replied, replied_by, replied_to, replied_with, scene_of, served_login, stage, whole}
 use Rattle.sbp_target.specs.Sending.{answer_step, answered_by, request_step, sent_by, with_side}
 use Rattle.sbp_target.specs.Serving.{accessed_by, answered, asked_in, enabled, is_barred, point, pointed_by, request_step as served_step, ring, rung_by, serve, served_as, start}

@@ -1,6 +1,6 @@
 -- The first request of an agent's turn finds a label at the target exactly where the laws find one behind the first note of the turn: behind a response that the target got, behind a time-out, and behind
 -- a request that it answers.
-use Rattle.std.proofs.Common.{arith, ◌≡◌, ◌∙◌, refl, sym, ap, subst, ℕ, zero, suc, ◌+◌, ◌<◌, ◌≤◌, ◌^◌, ◌&&◌, is_some, Bool, true, false, cond, List, [], ◌∷◌, ◌++◌, map, length, Option, Some, None, Result, Ok, Err}
+use Rattle.std.proofs.Common.{arith, ◌≡◌, ◌∙◌, refl, sym, ap, subst, ℕ, suc, ◌+◌, ◌<◌, ◌≤◌, ◌^◌, is_some, Bool, true, false, List, ◌∷◌, length, Option, Some, None, Result, Ok}
 use Rattle.sbp_base.specs.Update.{upd}
 use Rattle.async_packet.specs.Canon.{IsValid}
 use Rattle.async_packet.specs.Labels.{LabelParts}
@@ -11,7 +11,7 @@ use Rattle.bus_transactions.specs.Wire.{Node, as_sending, due_for, first_note, i
 use Rattle.bus_transactions.proofs.FitSteps.{expires_same, judges_same}
 use Rattle.bus_transactions.proofs.Fits.{request_fits}
 use Rattle.label_table.specs.Bodies.{Body, header_to, request_with}
-use Rattle.label_table.specs.Layer.{Finding, Layer, asking_step, expiring_step, judging_step, of_response}
+use Rattle.label_table.specs.Layer.{Finding, Layer, expiring_step, judging_step, of_response}
 use Rattle.label_table.specs.declared.reply.Stale.{Stale}
 use Rattle.login_table.specs.Table.{is_live}
 use Rattle.login_table.specs.declared.login.Login.{Login}
@@ -27,7 +27,7 @@ use Rattle.async_packet.specs.Fields.{rcode_of}
 use Rattle.sbp_journal.specs.Wire.{Held, Terms, arrives, closes, closes_if, free, gets, gets_as, is_news, is_served, judges, rests, terms, waits}
 use Rattle.sbp_journal.specs.declared.event.Event.TheVariants as events
 use Rattle.sbp_journal.specs.declared.note.Note.TheVariants as notes
-use Rattle.sbp_laws.specs.Packets.{finds_label, label_for, lowest_from}
+use Rattle.sbp_laws.specs.Packets.{finds_label, label_for}
 use Rattle.sbp_laws.specs.Targets.{target_at}
 use Rattle.sbp_target.specs.declared.purpose.Purpose.{Purpose}
 use Rattle.sbp_target.specs.declared.purpose.Purpose.TheVariants as purposes
@@ -41,9 +41,9 @@ use Rattle.sbp_world.proofs.Agents.Management.Still.{hist}
 use Rattle.sbp_world.proofs.Wire.Asks.{upd_own}
 use Rattle.sbp_world.proofs.Wire.Deliver.{judged_marked}
 use Rattle.sbp_world.proofs.Wire.Expires.{latest, timed_out_as}
-use Rattle.sbp_world.proofs.Wire.Holding.{Sound, latest_small}
+use Rattle.sbp_world.proofs.Wire.Holding.{latest_small}
 use Rattle.sbp_world.proofs.Wire.Sound.{opens}
-use Rattle.turn_laws.proofs.AgentLabels.{finds_at}
+use Rattle.turn_laws.proofs.RequestLabels.{finds_at}
 use Rattle.turn_laws.proofs.StepLabels.{finds_in, peers_ask}
 use Rattle.turn_laws.proofs.Places.{Place}
 

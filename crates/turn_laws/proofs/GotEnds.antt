@@ -1,5 +1,5 @@
 -- The deaths and ends of a response that the target got, whatever its transaction was for and whatever ran.
-use Rattle.std.proofs.Common.{◌≡◌, ◌∙◌, refl, sym, ap, subst, ℕ, ◌<◌, ◌&&◌, is_some, Bool, true, false, cond, List, [], ◌∷◌, length, Option, Some, None, Ok}
+use Rattle.std.proofs.Common.{◌≡◌, ◌∙◌, refl, sym, ap, subst, ℕ, ◌<◌, ◌&&◌, is_some, Bool, true, false, cond, List, [], ◌∷◌, Option, Some, None, Ok}
 use Rattle.std.specs.Prelude.{is_none}
 use Rattle.async_packet.specs.Labels.{LabelParts}
 use Rattle.async_packet.specs.Packet.{Packet, header_in}
@@ -21,7 +21,7 @@ use Rattle.command_agent.specs.declared.step.AgentStep.{AgentStep}
 use Rattle.command_agent.specs.declared.step.Which.{Which}
 use Rattle.sbp_bus.specs.Words.{check_of}
 use Rattle.sbp_bus.specs.declared.places.Holder.{Holder}
-use Rattle.sbp_journal.specs.Outgoings.{OutboxState, empty_outbox}
+use Rattle.sbp_journal.specs.Outgoings.{OutboxState}
 use Rattle.sbp_journal.specs.Run.{Moment, said}
 use Rattle.sbp_journal.specs.Wire.{Terms, terms}
 use Rattle.sbp_journal.specs.declared.note.Note.{Note}
@@ -37,11 +37,10 @@ use Rattle.sbp_target.specs.declared.purpose.Purpose.{Purpose}
 use Rattle.sbp_target.specs.declared.purpose.Purpose.TheVariants as purposes
 use Rattle.sbp_target.specs.Agents.{sent_to}
 use Rattle.sbp_target.specs.Desks.{which_in}
-use Rattle.sbp_target.specs.Nodes.{NodeState, desk_at, login_at, scene}
+use Rattle.sbp_target.specs.Nodes.{NodeState, desk_at}
 use Rattle.sbp_target.specs.Receiving.{answer_in, concluded, with_layer}
 use Rattle.sbp_target.specs.Replies.{plain_in, served_login}
 use Rattle.sbp_world.specs.Agents.Alike.{TellsAlike}
-use Rattle.sbp_world.specs.Agents.Serials.{kept_as}
 use Rattle.sbp_world.specs.Delivering.{MayTell, marked, whole_of}
 use Rattle.sbp_world.specs.FitTarget.{BytesTold}
 use Rattle.sbp_world.specs.Hosts.Handing.{AreOthers}
@@ -52,7 +51,7 @@ use Rattle.sbp_world.proofs.Agents.Management.Still.{hist}
 use Rattle.sbp_world.proofs.Agents.ToldAlike.{run_alike}
 use Rattle.sbp_world.proofs.Lists.DueRuns.{event_for, hand, inside, its, serve}
 use Rattle.sbp_world.proofs.Lists.DueTurns.{plain_told}
-use Rattle.sbp_world.proofs.Lists.RunTells.{AreRunless, NoneRan, RanBy, TellsRun, of_none, of_run}
+use Rattle.sbp_world.proofs.Lists.RunTells.{AreRunless, RanBy}
 use Rattle.sbp_world.proofs.Wire.ToldBytes.{told_fits}
 use Rattle.turn_laws.proofs.AgentHere.{initiator_is}
 use Rattle.turn_laws.proofs.EndNotes.{NoEnds, low_ranks, none_handed}

@@ -1,7 +1,5 @@
 -- The deaths and ends of a time-out at the target: those of the agent whose transaction it was, and none else.
-use Rattle.std.proofs.Common.{◌≡◌, ◌∙◌, refl, sym, ap, subst, ℕ, suc, ◌<◌, ◌&&◌, is_some, Bool, true, false, cond, List, [], ◌∷◌, ◌++◌, length, Option, Some, None, Result, Ok, Err}
-use Rattle.async_packet.specs.Labels.{LabelParts}
-use Rattle.label_table.specs.Bodies.{Body}
+use Rattle.std.proofs.Common.{◌≡◌, ◌∙◌, refl, sym, ap, subst, ℕ, suc, ◌<◌, is_some, Bool, true, false, cond, List, [], ◌∷◌, Option, Some, None, Result, Ok, Err}
 use Rattle.label_table.specs.Layer.{Layer, expiring_step}
 use Rattle.label_table.specs.declared.reply.Stale.{Stale}
 use Rattle.login_table.specs.declared.login.Login.{Login}
@@ -10,7 +8,7 @@ use Rattle.orb_layout.specs.Replies.{Expired}
 use Rattle.rbc_disk.specs.Disk.{Disk}
 use Rattle.rbc_disk.specs.Units.{PlainDisk}
 use Rattle.command_agent.specs.Machine.{Machine}
-use Rattle.command_agent.specs.Steps.{lost_step, reply_step, told_or}
+use Rattle.command_agent.specs.Steps.{lost_step, told_or}
 use Rattle.command_agent.specs.declared.step.AgentStep.{AgentStep}
 use Rattle.command_agent.specs.declared.step.Which.{Which}
 use Rattle.command_agent.proofs.Losing.{reply_lost}
@@ -33,10 +31,10 @@ use Rattle.sbp_target.specs.declared.purpose.Sent.{Sent}
 use Rattle.sbp_target.specs.declared.purpose.Purpose.{Purpose}
 use Rattle.sbp_target.specs.declared.purpose.Purpose.TheVariants as purposes
 use Rattle.sbp_target.specs.Agents.{sent_to}
-use Rattle.sbp_target.specs.Desks.{expired_desk, which_in}
-use Rattle.sbp_target.specs.Nodes.{NodeState, desk_at, login_at, scene}
+use Rattle.sbp_target.specs.Desks.{which_in}
+use Rattle.sbp_target.specs.Nodes.{NodeState, desk_at, scene}
 use Rattle.sbp_target.specs.Nodes as target
-use Rattle.sbp_target.specs.Receiving.{expire_agent, expired, expired_by, expired_in, expired_with, timed_out}
+use Rattle.sbp_target.specs.Receiving.{expire_agent, expired, expired_by, expired_in, timed_out}
 use Rattle.sbp_world.specs.Agents.Alike.{Alike, StepsAlike, TellsAlike}
 use Rattle.sbp_world.specs.Agents.Serials.{kept_as}
 use Rattle.sbp_world.specs.Hosts.Handing.{AreOthers}

@@ -17,7 +17,7 @@ pub mod FaultSides
 pub mod Faults
 pub mod FollowEnds
 pub mod EndTries
-pub mod AgentLabels
+pub mod RequestLabels
 pub mod AskedLabels
 pub mod StepLabels
 pub mod EndShapes
@@ -37,6 +37,7 @@ pub mod AskEnds
 pub mod RequestEnds
 pub mod TargetEnds
 pub mod Ends
+pub mod Once
 pub mod OrderRanks
 pub mod OrderHanded
 pub mod OrderOwn
@@ -50,7 +51,6 @@ pub mod DecisionNotes
 pub mod FirstRows
 pub mod LoginRuns
 pub mod Flown
-pub mod OperationLabels
 pub mod Operators
 pub mod OperationFinds
 pub mod FailureEffects

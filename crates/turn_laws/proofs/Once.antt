@@ -1,7 +1,6 @@
 -- A turn tells one death at most, and none of an agent that is DEAD: as the deaths of each turn are those that its step brings, and that of the loss of its request.
-use Rattle.std.proofs.Common.{◌≡◌, ◌∙◌, refl, sym, ap, subst, inl, inr, ◌⊎◌, ℕ, suc, ◌&&◌, ◌||◌, nat_lt, Bool, true, false, cond, List, [], ◌∷◌, ◌++◌, length, Option, Some, None, Result, Ok, Err}
+use Rattle.std.proofs.Common.{◌≡◌, ◌∙◌, refl, ap, inl, inr, ◌⊎◌, ℕ, suc, ◌&&◌, ◌||◌, nat_lt, Bool, true, false, cond, List, [], ◌∷◌, length, Option, Some, None, Result, Ok, Err}
 use Rattle.std.specs.List.{filter}
-use Rattle.label_table.specs.Bodies.{Body}
 use Rattle.orb_layout.specs.declared.ask.Ask.{Ask}
 use Rattle.orb_layout.specs.declared.ask.FailCause.{FailCause}
 use Rattle.orb_layout.specs.declared.pointer.OrbPointer.{OrbPointer}
@@ -15,24 +14,22 @@ use Rattle.command_agent.specs.Machine.{Machine, is_ahead, state_in}
 use Rattle.command_agent.specs.Steps.{advanced, ahead_read, ahead_step, asks, doorbell_in, doorbell_step, point_in, point_step, quiet, reply_step, served, told_or}
 use Rattle.command_agent.specs.declared.phase.Phase.{Phase}
 use Rattle.command_agent.specs.declared.phase.Phase.TheVariants as phases
-use Rattle.command_agent.specs.declared.step.AgentState.{AgentState}
 use Rattle.command_agent.specs.declared.step.AgentState.TheVariants as states
 use Rattle.command_agent.specs.declared.step.AgentStep.{AgentStep}
 use Rattle.command_agent.specs.declared.step.PointRefusal.{PointRefusal}
 use Rattle.command_agent.specs.declared.step.PointRefusal.TheVariants as refusals
 use Rattle.command_agent.specs.declared.step.Which.{Which}
 use Rattle.command_agent.specs.declared.step.Which.TheVariants.{Ahead, Main}
-use Rattle.sbp_journal.specs.Addresses.{Access, Register, agent_reset, agent_state, doorbell, orb_pointer, unsolicited_enable}
+use Rattle.sbp_journal.specs.Addresses.{agent_reset, agent_state, doorbell, orb_pointer, unsolicited_enable}
 use Rattle.sbp_journal.specs.Run.{Moment, asked, said}
-use Rattle.sbp_journal.specs.Wire.{Terms}
 use Rattle.sbp_journal.specs.declared.note.Note.{Note}
 use Rattle.sbp_journal.specs.declared.note.Note.TheVariants as notes
 use Rattle.sbp_laws.specs.Agents.{AgentTurn, Event, agent_event, agent_notes_for, agent_turn, body_of, by_doorbell, by_pointer, fifo_in, finds_first, is_dead, list_taken, nothing, replies, target_before, told_among, untold_among, wire_after, wire_before, writes}
-use Rattle.sbp_laws.specs.Deaths.{deaths_in, dies_again, ends_by, ends_due, is_death_note, was_dead}
+use Rattle.sbp_laws.specs.Deaths.{ends_by, is_death_note, was_dead}
 use Rattle.sbp_laws.specs.Lists.{Orb, named}
 use Rattle.sbp_laws.specs.NoteKinds.{is_end_note, of_kind}
 use Rattle.sbp_laws.specs.Packets.{finds_label}
-use Rattle.sbp_laws.specs.Targets.{Reply, Target, agent_at, initiator_at, login_at, plain_for}
+use Rattle.sbp_laws.specs.Targets.{Target, agent_at, initiator_at, login_at, plain_for}
 use Rattle.sbp_laws.specs.Turns.{EachTurnBefore, Turn, turn}
 use Rattle.sbp_world.specs.Histories.{history_of}
 use Rattle.turn_laws.specs.Ends.{EndsWhereDue}

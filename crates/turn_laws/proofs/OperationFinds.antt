@@ -39,7 +39,7 @@ use Rattle.sbp_world.proofs.Wire.Deliver.{judged_marked}
 use Rattle.sbp_world.proofs.Wire.Holding.{latest_small}
 use Rattle.sbp_world.proofs.Wire.Nodes.{marked_alike}
 use Rattle.turn_laws.proofs.Flown.{got_flies}
-use Rattle.turn_laws.proofs.OperationLabels.{finds_at}
+use Rattle.turn_laws.proofs.RequestLabels.{finds_at}
 use Rattle.turn_laws.proofs.Operators.{IsOperator}
 use Rattle.turn_laws.proofs.Places.{Place}
 

@@ -9,7 +9,7 @@ use Rattle.config_rom.specs.declared.unit.SbpUnit.{SbpUnit}
 use Rattle.orb_layout.specs.Replies.{Answer, Done, Expired, Payload, Refused}
 use Rattle.orb_list.specs.Lists.{ListState, drop_lists}
 use Rattle.sbp_base.specs.Quadlets.{quad}
-use Rattle.sbp_initiator.specs.Effects.{Turn, conflict_for, conflict_step, drop_list_step, drop_where, dropped_as, enable_ended, end_own_for, end_own_step, end_step, fail_step, fault_number, finish_rom, good_end, good_word, is_address, known_where, managed_step, management_ended, moved, pointer_ended, doorbell_ended, reset_ended, response_of, state_ended, state_told, stick_step, told, with_rom, with_unit}
+use Rattle.sbp_initiator.specs.Effects.{Turn, conflict_for, conflict_step, drop_list_step, drop_where, dropped_as, enable_ended, end_own_for, end_own_step, end_step, fail_step, fault_number, finish_rom, management_ended, moved, pointer_ended, doorbell_ended, reset_ended, stick_step, told, with_rom, with_unit}
 use Rattle.sbp_initiator.specs.Effects as own_effects
 use Rattle.sbp_initiator.specs.States.{is_own}
 use Rattle.sbp_initiator.specs.declared.purpose.Ending.{Ending}
@@ -29,7 +29,7 @@ use Rattle.sbp_journal.specs.declared.side.Side.TheVariants as sides
 use Rattle.sbp_laws.specs.Hosts.{Host, StateRead, Underway, is_latest, is_management, is_present, is_stuck}
 use Rattle.sbp_laws.specs.OnceLaw.{is_write_in}
 use Rattle.sbp_laws.specs.Operations as law
-use Rattle.sbp_laws.specs.Operations.{End, drop_note, end_notes, ends_as, gets_stuck, is_failure, is_management_write, operation_answered, or_end, read_ends, register_answered, reply_notes, request_answered, rom_answered, rom_ends, rom_word, says_reset, state_word, status_ends, stuck_note, unit_word, write_answered}
+use Rattle.sbp_laws.specs.Operations.{End, drop_note, end_notes, ends_as, gets_stuck, is_failure, is_management_write, operation_answered, or_end, read_ends, reply_notes, request_answered, rom_answered, rom_ends, rom_word, says_reset, state_word, stuck_note, unit_word, write_answered}
 use Rattle.sbp_session.specs.Moves as moves
 use Rattle.sbp_session.specs.Seats.{is_stuck_seat}
 use Rattle.sbp_session.specs.declared.seat.Seat.{Seat}

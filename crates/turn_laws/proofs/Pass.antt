@@ -26,7 +26,6 @@ use Rattle.sbp_journal.specs.declared.event.Event.TheVariants as events
 use Rattle.sbp_journal.specs.declared.note.Note.{Note}
 use Rattle.sbp_journal.specs.declared.note.Note.TheVariants as notes
 use Rattle.sbp_laws.specs.Turns.{EachTurn, Turn, turn}
-use Rattle.sbp_target.specs.Nodes.{NodeState}
 use Rattle.sbp_target.specs.Nodes as target
 use Rattle.sbp_target.specs.Receiving.{expired, received, seen, ticked, with_key}
 use Rattle.sbp_world.specs.Delivering.{MayAt as MayCome, MayReceive, MayTold, arrived, at_target, delivered, delivered_by, faults_after, initiator_received, initiators_received, marked, received_by, received_step, target_received, whole_of}

@@ -1,12 +1,11 @@
 -- The deaths and ends of a response that the target got: those of the agent whose transaction it closes, over what a run told, and none else.
-use Rattle.std.proofs.Common.{◌≡◌, ◌∙◌, refl, sym, ap, subst, ℕ, suc, ◌<◌, ◌&&◌, ◌||◌, not, is_some, Bool, true, false, cond, List, [], ◌∷◌, ◌++◌, length, Option, Some, None, Ok}
-use Rattle.std.specs.Prelude.{is_none}
+use Rattle.std.proofs.Common.{◌≡◌, ◌∙◌, refl, sym, ap, subst, ℕ, suc, ◌<◌, ◌||◌, not, is_some, Bool, true, false, cond, List, [], ◌∷◌, Option, Some, Ok}
 use Rattle.async_packet.specs.Labels.{LabelParts}
 use Rattle.async_packet.specs.Packet.{Packet, header_in}
 use Rattle.async_packet.specs.Reading.{reading}
 use Rattle.bus_transactions.specs.Judging.{AreJudged}
 use Rattle.bus_transactions.proofs.FitJudged.{bytes_of, spelled}
-use Rattle.label_table.specs.Layer.{Finding, Layer, judging_step, of_response}
+use Rattle.label_table.specs.Layer.{Layer, judging_step, of_response}
 use Rattle.label_table.specs.Requests.{reply_kind}
 use Rattle.login_table.specs.Table.{is_live}
 use Rattle.login_table.specs.declared.login.Login.{Login}
@@ -15,14 +14,12 @@ use Rattle.packet_store.specs.declared.sent.Sent.{Sent}
 use Rattle.packet_store.specs.Kept.{found_sent, is_flying}
 use Rattle.packet_store.specs.Stored.{deliver_step}
 use Rattle.rbc_disk.specs.Disk.{Disk}
-use Rattle.rbc_disk.specs.Held.{Held}
-use Rattle.rbc_disk.specs.Runs.{Told, answer_of}
+use Rattle.rbc_disk.specs.Runs.{Told}
 use Rattle.rbc_disk.specs.Units.{PlainDisk}
 use Rattle.command_agent.specs.Machine.{Machine}
 use Rattle.command_agent.specs.Steps.{reply_step, told_or}
 use Rattle.command_agent.specs.declared.step.AgentStep.{AgentStep}
 use Rattle.command_agent.specs.declared.step.Which.{Which}
-use Rattle.sbp_bus.specs.Words.{check_of}
 use Rattle.sbp_journal.specs.Outgoings.{OutboxState, empty_outbox}
 use Rattle.sbp_journal.specs.Run.{Moment, said}
 use Rattle.sbp_journal.specs.Wire.{Terms, terms}
@@ -33,28 +30,26 @@ use Rattle.sbp_laws.specs.Agents.{AgentTurn, agent_notes_for, agent_turn, list_t
 use Rattle.sbp_laws.specs.Deaths.{ends_by, ends_due}
 use Rattle.sbp_laws.specs.NoteKinds.{is_end_note, of_kind}
 use Rattle.sbp_laws.specs.Packets.{finds_label}
-use Rattle.sbp_laws.specs.Targets.{Agent, Reply, Target, agent_at, initiator_at, over, plain_for, target_at, told_of}
+use Rattle.sbp_laws.specs.Targets.{Agent, Reply, Target, agent_at, initiator_at, over, target_at}
 use Rattle.sbp_laws.specs.Turns.{Turn, turn}
 use Rattle.sbp_target.specs.declared.desk.Desk.{Desk}
 use Rattle.sbp_target.specs.declared.purpose.Purpose.{Purpose}
 use Rattle.sbp_target.specs.declared.purpose.Purpose.TheVariants as purposes
 use Rattle.sbp_target.specs.declared.purpose.Sent.{Sent as Asked}
 use Rattle.sbp_target.specs.Desks.{which_in}
-use Rattle.sbp_target.specs.Nodes.{NodeState, desk_at, login_at, scene}
+use Rattle.sbp_target.specs.Nodes.{NodeState, desk_at, login_at}
 use Rattle.sbp_target.specs.Receiving.{answer_in, concluded, with_layer}
-use Rattle.sbp_target.specs.Replies.{plain_in, replied_by, replied_to, served_login, whole}
+use Rattle.sbp_target.specs.Replies.{plain_in, replied_by, replied_to, served_login}
 use Rattle.sbp_world.specs.Agents.Alike.{Alike, StepsAlike, TellsAlike}
 use Rattle.sbp_world.specs.Agents.Serials.{kept_as}
-use Rattle.sbp_world.specs.Delivering.{MayTell, marked, whole_of}
+use Rattle.sbp_world.specs.Delivering.{marked, whole_of}
 use Rattle.sbp_world.specs.FitTarget.{BytesTold}
-use Rattle.sbp_world.specs.Hosts.Handing.{AreOthers}
 use Rattle.sbp_world.specs.Telling.{holder, ticket_at}
 use Rattle.sbp_world.specs.Worlds.{Scene, WorldState, with_note, with_target}
 use Rattle.sbp_world.proofs.Agents.Management.Holding.{ours}
 use Rattle.sbp_world.proofs.Agents.Management.Still.{hist}
-use Rattle.sbp_world.proofs.Agents.ToldAlike.{run_alike}
 use Rattle.sbp_world.proofs.FitTarget.Demands.{answer_small}
-use Rattle.sbp_world.proofs.Lists.DueRuns.{AtDelivery, alike, event_is, inside, its as its_agent, plain_is, serve}
+use Rattle.sbp_world.proofs.Lists.DueRuns.{AtDelivery, alike, event_is, plain_is}
 use Rattle.turn_laws.proofs.AgentDue.{IsTurnOf, agent_due}
 use Rattle.turn_laws.proofs.AgentEnds.{Tells, advance_tells, found_at}
 use Rattle.turn_laws.proofs.AgentHere.{desk_fits, fifo_is, good, holder_is, initiator_is, names_are, reply_body, reply_carries, up_by}

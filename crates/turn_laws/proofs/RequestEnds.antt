@@ -1,13 +1,11 @@
 -- The deaths and ends of a request that the target got and that no login bars, by what it asks of the target.
-use Rattle.std.proofs.Common.{arith, ◌≡◌, ◌∙◌, refl, sym, ap, subst, ℕ, ◌<◌, ◌==◌, nat_eq, Bool, true, false, cond, List, [], ◌∷◌, ◌++◌, length, Option, Some, None, Result, Ok, Err}
+use Rattle.std.proofs.Common.{arith, ◌≡◌, ◌∙◌, refl, sym, ap, subst, ℕ, ◌<◌, nat_eq, Bool, true, false, cond, List, [], ◌∷◌, length, Option, Some, None, Result, Ok, Err}
 use Rattle.std.proofs.lemmas.Bool.Decides.{nat_tests}
 use Rattle.async_packet.specs.Packet.{Packet, header_in}
 use Rattle.async_packet.specs.Reading.{reading}
 use Rattle.bus_transactions.proofs.FitJudged.{BytesOf, bytes_of, spelled}
 use Rattle.label_table.specs.Layer.{Layer, answering_step}
 use Rattle.label_table.specs.Requests.{reply_kind}
-use Rattle.label_table.specs.declared.reply.ReplyKind.{ReplyKind}
-use Rattle.login_table.specs.declared.login.Login.{Login}
 use Rattle.orb_layout.specs.declared.ask.Ask.{Ask}
 use Rattle.orb_layout.specs.declared.ask.Ask.TheVariants.{Nothing}
 use Rattle.orb_layout.specs.declared.pointer.OrbPointer.{OrbPointer}
@@ -26,11 +24,9 @@ use Rattle.sbp_journal.specs.Wire.{Terms, terms}
 use Rattle.sbp_journal.specs.declared.cause.CutCause.TheVariants as cuts
 use Rattle.sbp_journal.specs.declared.note.Note.{Note}
 use Rattle.sbp_journal.specs.declared.note.Note.TheVariants as notes
-use Rattle.sbp_journal.specs.declared.side.Side.{Side}
 use Rattle.sbp_journal.specs.declared.side.Side.TheVariants as sides
-use Rattle.sbp_laws.specs.Agents.{AgentTurn, Event, agent_turn, by_doorbell, by_pointer, event_by, list_taken, listed_at, listed_by, write_in}
+use Rattle.sbp_laws.specs.Agents.{Event, agent_turn, by_doorbell, by_pointer, event_by, list_taken, listed_at, listed_by, write_in}
 use Rattle.sbp_laws.specs.Deaths.{ends_by, ends_due}
-use Rattle.sbp_laws.specs.Lists.{list_in, named}
 use Rattle.sbp_laws.specs.NoteKinds.{is_end_note, of_kind}
 use Rattle.sbp_laws.specs.Targets.{Agent, Target, agent_at, initiator_at, over, target_at}
 use Rattle.sbp_laws.specs.Turns.{Turn, turn}

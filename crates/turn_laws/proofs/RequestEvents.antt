@@ -1,5 +1,5 @@
 -- What a request of a register is for an agent, by what the target is asked for: what the laws make of the one they make of the other.
-use Rattle.std.proofs.Common.{◌≡◌, ◌∙◌, refl, sym, ap, subst, ℕ, ◌-◌, ◌≤◌, ◌==◌, ◌&&◌, not, Bool, true, false, cond, Option, Some, None}
+use Rattle.std.proofs.Common.{◌≡◌, ◌∙◌, refl, sym, ap, ℕ, ◌-◌, ◌≤◌, ◌==◌, ◌&&◌, not, Bool, true, false, cond, Some, None}
 use Rattle.async_packet.specs.Packet.{Packet}
 use Rattle.orb_layout.specs.Pointers.{offset_at, pointer_at}
 use Rattle.orb_layout.specs.declared.pointer.OrbPointer.{OrbPointer}

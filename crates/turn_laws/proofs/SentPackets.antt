@@ -5,7 +5,7 @@ use Rattle.async_packet.specs.Packet.{Packet, header_in, lock, lock_response, re
 use Rattle.async_packet.specs.Reading.{reading}
 use Rattle.async_packet.proofs.RoundTrip.{canon_spells}
 use Rattle.bus_transactions.specs.Packets.{SerialsCount}
-use Rattle.bus_transactions.specs.Sent.{AreSent, HasLowest}
+use Rattle.bus_transactions.specs.Sent.{AreSent}
 use Rattle.bus_transactions.specs.Sent as bus
 use Rattle.bus_transactions.specs.Wire.{transaction}
 use Rattle.async_packet.proofs.Spelled.{reading_spelled}

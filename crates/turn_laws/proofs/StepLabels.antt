@@ -1,5 +1,5 @@
 -- Whether the first request behind a step of an agent finds a label does not hang on what the step gave up: a transaction that is disowned keeps its label.
-use Rattle.std.proofs.Common.{◌≡◌, ◌∙◌, refl, sym, ap, subst, ℕ, zero, suc, ◌<◌, is_some, Bool, true, false, cond, List, [], ◌∷◌, length, Option, Some, None, Result, Ok, Err}
+use Rattle.std.proofs.Common.{◌≡◌, ◌∙◌, refl, sym, ap, ℕ, zero, suc, ◌<◌, is_some, Bool, true, false, cond, List, [], ◌∷◌, length, Option, Some, None, Result, Ok, Err}
 use Rattle.std.specs.Prelude.{position, slice_index_or, slice_set}
 use Rattle.std.proofs.lemmas.List.Folds.{position_or_len-set}
 use Rattle.std.proofs.Math.ListN.{length-set}
@@ -8,7 +8,7 @@ use Rattle.async_packet.specs.Canon.{canon}
 use Rattle.label_table.specs.Bodies.{Body, header_to, request_with}
 use Rattle.label_table.specs.Layer.{Layer, asked_at, asking_in, asking_step, disowning_in, disowning_step, peer_at, peer_place, unlabelled}
 use Rattle.label_table.specs.Owned.{is_owned_by, is_same_node, or_else, owned_place}
-use Rattle.label_table.specs.Peers.{PeerPlace, ask_place, begun_for, disown_place, no_peer, peer_of, with_purpose}
+use Rattle.label_table.specs.Peers.{PeerPlace, begun_for, disown_place, no_peer, peer_of, with_purpose}
 use Rattle.label_table.specs.Table.{Table, begin_step, is_current}
 use Rattle.label_table.specs.declared.judgement.Asked.{Asked}
 use Rattle.label_table.specs.declared.reply.NoLabel.{NoLabel}

@@ -1,24 +1,17 @@
 -- The deaths and ends of a packet that comes to the target, whatever it is found to be.
-use Rattle.std.proofs.Common.{◌≡◌, ◌∙◌, refl, sym, ap, subst, ℕ, ◌<◌, ◌||◌, not, is_some, Bool, true, false, cond, List, [], ◌∷◌, ◌++◌, length, Option, Some, None, Ok}
+use Rattle.std.proofs.Common.{◌≡◌, refl, sym, subst, ℕ, ◌<◌, ◌||◌, not, is_some, Bool, true, false, cond, List, [], ◌∷◌, Option, Some, None, Ok}
 use Rattle.async_packet.specs.Labels.{LabelParts}
-use Rattle.async_packet.specs.Packet.{Packet, header_in}
+use Rattle.async_packet.specs.Packet.{Packet}
 use Rattle.async_packet.specs.Reading.{reading}
 use Rattle.bus_transactions.specs.Judging.{AreJudged}
 use Rattle.label_table.specs.Layer.{Finding, Layer, judging_step, of_again, of_generation, of_grammar, of_label, of_request, of_response}
 use Rattle.label_table.specs.Requests.{reply_kind}
-use Rattle.label_table.specs.declared.reply.ReplyKind.{ReplyKind}
 use Rattle.login_table.specs.declared.login.Login.{Login}
 use Rattle.packet_store.specs.declared.sent.Sent.{Sent}
 use Rattle.packet_store.specs.Kept.{found_sent, is_flying}
 use Rattle.packet_store.specs.Stored.{deliver_step}
-use Rattle.rbc_disk.specs.declared.command.Outcome.{Outcome}
 use Rattle.rbc_disk.specs.Disk.{Disk}
 use Rattle.rbc_disk.specs.Runs.{Told}
-use Rattle.command_agent.specs.Machine.{Machine}
-use Rattle.command_agent.specs.Runs.{MayRun}
-use Rattle.command_agent.specs.Steps.{reply_step}
-use Rattle.command_agent.specs.declared.step.AgentStep.{AgentStep}
-use Rattle.command_agent.specs.declared.step.Which.{Which}
 use Rattle.sbp_bus.specs.Packets.{judged_note}
 use Rattle.sbp_journal.specs.Outgoings.{OutboxState, empty_outbox}
 use Rattle.sbp_journal.specs.Run.{Moment, said}
@@ -26,26 +19,23 @@ use Rattle.sbp_journal.specs.declared.cause.Cause.{Cause}
 use Rattle.sbp_journal.specs.declared.cause.Cause.TheVariants as causes
 use Rattle.sbp_journal.specs.declared.cause.Judged.{Judged}
 use Rattle.sbp_journal.specs.declared.cause.Judged.TheVariants as judgements
-use Rattle.sbp_journal.specs.declared.note.Note.{Note}
 use Rattle.sbp_journal.specs.declared.note.Note.TheVariants as notes
-use Rattle.sbp_journal.specs.declared.side.Side.{Side}
 use Rattle.sbp_journal.specs.declared.side.Side.TheVariants as sides
 use Rattle.sbp_laws.specs.Deaths.{ends_due}
 use Rattle.sbp_laws.specs.NoteKinds.{is_end_note, of_kind}
-use Rattle.sbp_laws.specs.Turns.{Turn, turn}
+use Rattle.sbp_laws.specs.Turns.{turn}
 use Rattle.sbp_target.specs.declared.purpose.Purpose.{Purpose}
 use Rattle.sbp_target.specs.declared.purpose.Purpose.TheVariants as purposes
-use Rattle.sbp_target.specs.Nodes.{NodeState, Scene as TargetScene, desk_at, scene}
-use Rattle.sbp_target.specs.Receiving.{answer_in, judged_scene, received, received_as, with_layer}
-use Rattle.sbp_target.specs.Replies.{Whole, plain_in, whole}
+use Rattle.sbp_target.specs.Nodes.{NodeState, Scene as TargetScene, scene}
+use Rattle.sbp_target.specs.Receiving.{judged_scene, received, received_as, with_layer}
+use Rattle.sbp_target.specs.Replies.{Whole}
 use Rattle.sbp_target.specs.Serving.{answered, is_barred, request_step, serve}
 use Rattle.sbp_target.proofs.Histories.Found.{IsFound, found as found_as}
 use Rattle.sbp_world.specs.Delivering.{MayTell, marked, whole_of}
 use Rattle.sbp_world.specs.Hosts.Handing.{AreOthers}
-use Rattle.sbp_world.specs.Telling.{holder, ticket_at}
 use Rattle.sbp_world.specs.Worlds.{Scene, WorldState, with_note, with_target}
 use Rattle.sbp_world.proofs.Agents.Management.Still.{hist}
-use Rattle.sbp_world.proofs.Lists.RunTells.{AreRunless, NoneRan, RanBy, TellsRun, delivery_tells as runs_tell, of_none, of_run}
+use Rattle.sbp_world.proofs.Lists.RunTells.{NoneRan, RanBy, TellsRun, delivery_tells as runs_tell, of_none, of_run}
 use Rattle.turn_laws.proofs.AgentHere.{good}
 use Rattle.turn_laws.proofs.EndNotes.{NoEnds, none_handed}
 use Rattle.turn_laws.proofs.Gots.{no_kind}

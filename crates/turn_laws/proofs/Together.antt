@@ -10,6 +10,7 @@ use Rattle.turn_laws.proofs.Ends.{ends_law}
 use Rattle.turn_laws.proofs.Faults.{faults_law}
 use Rattle.turn_laws.proofs.Judgements.{judgement_run_law}
 use Rattle.turn_laws.proofs.LoginRuns.{login_run_law}
+use Rattle.turn_laws.proofs.Once.{once_law}
 use Rattle.turn_laws.proofs.OrderRuns.{ordered_law}
 use Rattle.turn_laws.proofs.SentPackets.{packets_run_law}
 
@@ -23,6 +24,7 @@ turns_law = record {
     cleared = cleared_law.after_lines line run is some most size;
     packets = packets_run_law.after_lines line run is some most size;
     ends = ends_law.after_lines line run is some most size;
+    once = once_law.after_lines line run is some most size;
     faults = faults_law.after_lines line run is some most size;
     decided = decided_law.after_lines line run is some most size;
     failures = failures_law.after_lines line run is some most size;
@@ -37,6 +39,7 @@ turns_law = record {
     cleared = cleared_law.between line run is some most size next deliveries told may;
     packets = packets_run_law.between line run is some most size next deliveries told may;
     ends = ends_law.between line run is some most size next deliveries told may;
+    once = once_law.between line run is some most size next deliveries told may;
     faults = faults_law.between line run is some most size next deliveries told may;
     decided = decided_law.between line run is some most size next deliveries told may;
     failures = failures_law.between line run is some most size next deliveries told may;

@@ -4,6 +4,7 @@ pub mod Cuts
 pub mod Announced
 pub mod Faults
 pub mod Ends
+pub mod Once
 pub mod Ordered
 pub mod Logins
 pub mod Decisions

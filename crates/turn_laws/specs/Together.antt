@@ -15,6 +15,7 @@ use Rattle.turn_laws.specs.Failing.{FailsByRows}
 use Rattle.turn_laws.specs.Failures.{FailsWhereDue}
 use Rattle.turn_laws.specs.Ends.{EndsWhereDue}
 use Rattle.turn_laws.specs.Faults.{DiesBeforeFaults}
+use Rattle.turn_laws.specs.Once.{DiesOnce}
 use Rattle.turn_laws.specs.Runs.{OfEveryRun}
 
 pub record LawfulInTurns (start : List Disk) (past : List Moment) : Type 0 where
@@ -25,6 +26,7 @@ pub record LawfulInTurns (start : List Disk) (past : List Moment) : Type 0 where
   pub cleared : EachTurn (ClearsWhereDue start) past
   pub packets : EachMoment SentAt past
   pub ends : EachTurn (EndsWhereDue start) past
+  pub once : EachTurn (DiesOnce start) past
   pub faults : EachTurn DiesBeforeFaults past
   pub decided : EachTurn (DecisionStands start) past
   pub failures : EachTurn (FailsWhereDue start) past

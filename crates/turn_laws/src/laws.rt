@@ -9,6 +9,7 @@ ghost use Rattle.turn_laws.specs.Ends.{EndsLaw};
 ghost use Rattle.turn_laws.specs.Faults.{FaultsLaw};
 ghost use Rattle.turn_laws.specs.Judgement.{JudgementRunLaw};
 ghost use Rattle.turn_laws.specs.Login.{LoginRunLaw};
+ghost use Rattle.turn_laws.specs.Once.{OnceLaw};
 ghost use Rattle.turn_laws.specs.Ordered.{OrderedLaw};
 ghost use Rattle.turn_laws.specs.Packets.{PacketsLaw};
 ghost use Rattle.turn_laws.specs.Operations.{StatusEndsLaw};
@@ -52,6 +53,8 @@ pub fn faults_follow_deaths()
 #[tactic(auto, using(crate::proofs::DecisionRuns::decided_law))]
 pub fn decisions_stand_as_told()
     ensures { DecidedLaw }
+{}
+
 /// In each turn of every run exactly the deaths of agents and the ends of ORBs stand that the step of an agent
 /// brings, at a reply, a time-out, a pointer or a doorbell, or where its first request finds no label, whatever
 /// anybody injected: each of the initiator, the list and the ORB that the history names, a death before the end
@@ -59,6 +62,13 @@ pub fn decisions_stand_as_told()
 #[tactic(auto, using(crate::proofs::Ends::ends_law))]
 pub fn orbs_end_where_due()
     ensures { EndsLaw }
+{}
+
+/// In every run, whatever anybody injected, a turn tells one death of an agent at most, and none where the agent
+/// that it takes on is DEAD: `once` of the cause law.
+#[tactic(auto, using(crate::proofs::Once::once_law))]
+pub fn agents_die_once()
+    ensures { OnceLaw }
 {}
 
 /// The login law holds of every run, whatever anybody injected: in each turn the decisions stand that are
@@ -108,6 +118,8 @@ pub fn operations_fail_where_due()
 #[tactic(auto, using(crate::proofs::FailingRuns::failing_law))]
 pub fn failures_have_rows()
     ensures { FailingLaw }
+{}
+
 /// In each turn in which no transaction of an initiator ends and none sees a reset, whatever anybody injected,
 /// `op`, `drop` and `stuck` stand exactly where the rules of an initiator say: an operation ends by the status
 /// block of its management ORB alone, with its list where it ends lists.
