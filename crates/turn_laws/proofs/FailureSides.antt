@@ -137,7 +137,7 @@ with_fails old source node f (step, (m, t)) fits =
     ∙ ap (λ b. failing told.outbox.sides ++ fail_side source (lost_cause d.node.layer source b)) body
     ∙ ap (λ c. failing told.outbox.sides ++ fail_side source c) (lost_alike node.layer d.node.layer (decided_keeps step.decided step.effect source (scene begun empty_outbox)) source (manager_body step.ask m.outgoing))
     ∙ ap (λ xs. xs ++ fail_side source (lost_cause node.layer source (manager_body step.ask m.outgoing)))
-      (failed_side source step.failed d.outbox ∙ ap (λ xs. xs ++ fail_side source step.failed) (decided_fails old begun f step.decided step.effect source))
+    (failed_side source step.failed d.outbox ∙ ap (λ xs. xs ++ fail_side source step.failed) (decided_fails old begun f step.decided step.effect source))
     ∙ both_fail source step.failed (lost_cause node.layer source (manager_body step.ask m.outgoing)) (λ e. ap (lost_cause node.layer source) (fits.quiet e))
 
 module _ (node : NodeState) (fits : (source : ℕ) (answer : Answer) → management.source_in node.manager.operation ≡ Some source → StepFits source (management.reply_step node.manager node.logins node.keys answer)) where

@@ -232,6 +232,3 @@ sight_due target o s host present drops resets =
     let told_now = resets_told s.number s.operation s.states o in
     then_says o (told_now, s) (drop_list_step told_now (interrupted s target)) (reset_ops s.number host.operation host.reads) (drop_note s.number true present)
     (all_reset s.number host.operation s.operation host.reads s.states o resets) (drop_says present (interrupted s target) drops told_now)
-
-
-

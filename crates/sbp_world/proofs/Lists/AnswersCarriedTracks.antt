@@ -315,7 +315,6 @@ module _ (start : List Disk) (wild : ℕ → Bool) (i : ℕ) (own : wild i ≡ f
 
     -- ---- one that writes into the buffer
     module _ (into_it : here ≡ true) where
-
       abbrev q : Sending
       q = sent_it.0
 

@@ -147,7 +147,6 @@ module _ (old : Lives) (node : NodeState) (f : From old node.layer) where
       omega (arith, none, all)
 
 module _ (node : NodeState) (g : Good node) where
-
   managed_grants : (source : ℕ) (layer : Layer Purpose) (lives : Lives) → From lives layer → (r : ManagerStep × (management.Machine × Table)) → grants (managed_with source (scene (record node { layer = layer }) empty_outbox) r).outbox.sides ≡ decision_grants r.0.decided
   managed_grants source layer lives f (step, (m, t)) =
       let begun = with_manager (record node { layer = layer }) (m, t) in

@@ -206,7 +206,6 @@ module _ (whose : ℕ) (May : ℕ → Type 0) where
 
   -- ---- over a moment
   module _ (start : List Disk) where
-
     waits_on : (m : Moment) (past : List Moment) → SerialsCount (m ∷ past) → ContentAt start m past → OfficeSo start past → Moves (office_of (target_at start past)) (office_of (target_at start (m ∷ past))) m → HasOpOf whose (target_at start (m ∷ past)).manager → (r : ℕ) → (target_at start (m ∷ past)).manages ≡ Some r → (access : Access) → access_at (terms (m ∷ past)) r ≡ Some access → access.is_write ≡ true → May access.offset
     waits_on m past c content o (keeps manager decided manages) has r e access is w =
         let was = sym manages ∙ e in

@@ -34,7 +34,6 @@ use Rattle.sbp_world.proofs.Common.{delivers}
 
 -- ---- a packet that was sent stays so
 module _ (past : List Moment) (wire : SerialsCount past) where
-
   pub lasts : (later earlier : List Moment) (serial : ℕ) (sent : Sending) → later ++ said (notes.Got serial) ∷ earlier ≡ past → (terms earlier).sent serial ≡ Some sent → (terms past).sent serial ≡ Some sent
   lasts later earlier serial sent e f = by (subst SerialsCount (sym e) wire)
     where

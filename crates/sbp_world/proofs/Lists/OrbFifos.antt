@@ -39,8 +39,6 @@ high_window offset high place e =
 
 -- ---- of the operation under way
 module _ (past : List Moment) (i : ℕ) (counts : SerialsCount past) (lasts : OperationsLast past i) (underway : Underway) (has : (host_at past i).operation ≡ Some underway) (packet : Sending) (sent : (terms past).sent underway.first ≡ Some packet) where
-
   module _ (few : (host_at past i).logins ≤ 2 ^ 32) (manages : is_management underway.operation ≡ true) where
-
     abbrev orb : ManagementOrb
     orb = underway_orb past i underway

@@ -28,7 +28,6 @@ no_window offset high low =
     (grind (arith, nat_tests)) (grind (arith, nat_tests)) (grind (arith, nat_tests)) (grind (arith, nat_tests)) (grind (arith, nat_tests)) (grind (arith, nat_tests))
 
 module _ (fifo : ℕ) (own : IsLoginFifo fifo) where
-
   pub fifo_high : 0x13000000 ≤ fifo
   fifo_high = let is = own.is in omega (arith, is)
 

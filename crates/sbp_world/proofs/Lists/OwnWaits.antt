@@ -37,7 +37,6 @@ use Rattle.sbp_world.proofs.Lists.MainSlots.{same_initiator}
 
 -- ---- at a place
 module _ (units ready : ℕ) (has : 0 < units) (start : List Disk) {past : List Moment} {lines : ℕ} (w : WorldState) (h : Holding units ready start past lines w) (q : Ground start (hist past w) w) (beside : IsTameOrFew (hist past w)) where
-
   reads_here : AreReadsOwn start (hist past w)
   reads_here place b side mine i waits to calm =
       let site = site_at start past w q in

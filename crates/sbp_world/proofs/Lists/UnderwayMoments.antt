@@ -63,7 +63,6 @@ pub data Comes (i : ℕ) (past next : List Moment) (now : Underway) : Type 0 whe
   starts : Starts i past next now → Comes i past next now
 
 module _ (i : ℕ) where
-
   -- a packet in a line that is no action of the initiator
   other_packet : (serial generation from to : ℕ) (bytes : List ℕ) (past : List Moment) → IsNoAct i (event_of past) → (now : Underway) → (host_at (said (notes.Sent serial generation from to bytes) ∷ past) i).operation ≡ Some now → Comes i past (said (notes.Sent serial generation from to bytes) ∷ past) now
   other_packet serial generation from to bytes past n now e = lasts (record { had = sent_keeps serial generation from to bytes past i n now e; places = λ place. sent_places serial generation from to bytes past i place n })

@@ -153,7 +153,6 @@ first_as ms _ (key_it unit) = record { lists_are = λ i. refl; ends_are = λ i n
 
 -- ---- an end that is told of the agent of a place is one of its initiator's latest list
 module _ (wild : ℕ → Bool) (past : List Moment) (q i n : ℕ) (own : wild i ≡ false) (now : List Moment) (passes : PassLaw wild now) where
-
   -- the note of it
   module _ (w : WorldState) (place orb : ℕ) (status : StatusKind) (at : place ≡ q) (initiator_is : (holder w q).initiator ≡ i) (latest : suc n ≡ lists (hist past w) i) (later : List Moment) (is : later ++ hist past (told 0 (sides.Ended place orb status) w) ≡ now) where
     abbrev from_is : ℕ

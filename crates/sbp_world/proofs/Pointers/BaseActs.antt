@@ -256,7 +256,6 @@ module _ (ready : Bool) (action : Action) (past : List Moment) (i : ℕ) (s : In
 
   -- one for which ORB_POINTER was written, or that a read tells of, was there
   module _ (f : Fit past) where
-
     begun_before : (n serial : ℕ) → pointed_list past serial i ≡ Some n → n < lists past i
     begun_before n serial p = ((names past i f.serials f.sent (h.guarded.kept f).told).each n serial p).begun
 

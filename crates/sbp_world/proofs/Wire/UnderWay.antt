@@ -83,7 +83,6 @@ now_is layer peer label (Ok purpose, new) o e f = f purpose new e
 now_is layer peer label (Err stale, new) o e f = cc
 
 module _ {P : Type 0} {past : List Moment} (w : WorldState) (h : Stands past w) (serial : ℕ) (request : Request) (found : find w.requests serial ≡ Some request) (there : request.node ≤ length w.initiators) (layer : Layer P) (own : layers_of w request.node ≡ bare layer) (id : ℕ) where
-
   pub under_way : Aims w h serial request found there layer own id → is_ok (expiring_step layer id request.label).0 ≡ true → laws.is_under_way (terms h.wire.past) serial ≡ true
   under_way aims o =
       let wire = h.wire in
