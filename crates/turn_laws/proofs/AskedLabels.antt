@@ -1,7 +1,7 @@
 -- Whether a request finds a label depends on the labels of the layer alone: not on what its transactions are for, nor on the requests that it remembers.
 use Rattle.std.proofs.Common.{◌≡◌, ◌∙◌, refl, sym, ap, ℕ, zero, suc, ◌+◌, not, nat_lt, Bool, true, false, cond, List, [], ◌∷◌, length, Option, Some, None, Result, Ok, Err}
 use Rattle.std.specs.Prelude.{position, slice_index_or, slice_set}
-use Rattle.core.specs.List.{prefix_len}
+use Rattle.std.specs.List.{prefix_len}
 use Rattle.async_packet.specs.Labels.{LabelParts}
 use Rattle.label_table.specs.Bodies.{Body}
 use Rattle.label_table.specs.declared.judgement.Asked.{Asked}
