@@ -102,10 +102,6 @@ pub inserts_more : (m n : Transaction → ℕ → ℕ) (o : Option Transaction) 
 inserts_more m n o true key gone b h e = cc b
 inserts_more m n o false key gone b h e = record { added = λ t k. gone_nothing n None gone t k e ∙ h t k; alone = tt; none = e }
 
-pub inserts_none : (m : Transaction → ℕ → ℕ) (b : Bool) (key : ℕ) (gone : List ℕ) → gone ≡ [] → Inserts m m None (begun_if b None) key gone
-inserts_none m true key gone e = record { added = λ t k. gone_nothing m None gone t k e ∙ omega arith; alone = tt; none = e }
-inserts_none m false key gone e = record { added = λ t k. gone_nothing m None gone t k e ∙ omega arith; alone = tt; none = e }
-
 begun_step : (f g : Transaction → Option (SmallVec ℕ)) (u : Transaction) (bag : SmallVec ℕ) (gone : List ℕ) (key : ℕ) (t : Transaction) (k : ℕ) (b : Bool) → is_same u t ≡ b → count_of k bag.items ≡ one_if (key == k) → g t ≡ cond b (Some bag) (f t) → gone ≡ keys_of (f u) → count_of k (keys_of (g t)) + cond b (count_of k gone) 0 ≡ one_if (b && (key == k)) + count_of k (keys_of (f t))
 begun_step f g u bag gone key t k true e one h was =
     let n : count_of k (keys_of (g t)) ≡ count_of k bag.items = ap (λ o. count_of k (keys_of o)) h in
@@ -157,27 +153,6 @@ written_by f g u bag after t k false e was same h = ap (λ o. count_of k (keys_o
 
 pub written : (f g : Transaction → Option (SmallVec ℕ)) (u : Transaction) (bag after : SmallVec ℕ) (t : Transaction) (k : ℕ) → f u ≡ Some bag → count_of k after.items ≡ count_of k bag.items → ((q : Transaction) → g q ≡ cond (is_same u q) (Some after) (f q)) → count_of k (keys_of (g t)) ≡ count_of k (keys_of (f t))
 written f g u bag after t k was same h = written_by f g u bag after t k (is_same u t) refl was same (h t)
-
-pub no_count : (keys : List ℕ) (k : ℕ) → length keys ≡ 0 → 0 ≡ count_of k keys
-no_count [] k e = refl
-no_count (x ∷ xs) k e = cc e
-
--- a bag, or none, in place of one with a key more
-left_by : (f g : Transaction → Option (SmallVec ℕ)) (u : Transaction) (bag : SmallVec ℕ) (o : Option (SmallVec ℕ)) (key : ℕ) (t : Transaction) (k : ℕ) (b : Bool) → is_same u t ≡ b → f u ≡ Some bag → count_of k (keys_of o) ≡ count_of k bag.items - one_if (key == k) → g t ≡ cond b o (f t) → count_of k (keys_of (g t)) ≡ count_of k (keys_of (f t)) - one_if (b && (key == k))
-left_by f g u bag o key t k true e was less h =
-    let n : count_of k (keys_of (g t)) ≡ count_of k (keys_of o) = ap (λ x. count_of k (keys_of x)) h in
-    let m : count_of k (keys_of (f t)) ≡ count_of k bag.items = ap (λ v. count_of k (keys_of (f v))) (sym (same_is u t e)) ∙ ap (λ x. count_of k (keys_of x)) was in
-    omega (arith, n, m, less)
-left_by f g u bag o key t k false e was less h =
-    let n = ap (λ x. count_of k (keys_of x)) h in
-    omega (arith, n)
-
-pub left : (f g : Transaction → Option (SmallVec ℕ)) (u : Transaction) (bag : SmallVec ℕ) (o : Option (SmallVec ℕ)) (key : ℕ) (t : Transaction) (k : ℕ) → f u ≡ Some bag → count_of k (keys_of o) ≡ count_of k bag.items - one_if (key == k) → ((q : Transaction) → g q ≡ cond (is_same u q) o (f q)) → count_of k (keys_of (g t)) ≡ count_of k (keys_of (f t)) - one_if (is_same u t && (key == k))
-left f g u bag o key t k was less h = left_by f g u bag o key t k (is_same u t) refl was less (h t)
-
-pub on_error_of : {A E : Type 0} {X Y : Type 0} (r : Result A E) → OnErr r X → (X → Y) → OnErr r Y
-on_error_of (Ok a) x f = tt
-on_error_of (Err e) x f = f x
 
 -- ---- each bag has a key
 pub key_added : (before after : SmallVec ℕ) (key : ℕ) → ((k : ℕ) → count_of k after.items ≡ one_if (key == k) + count_of k before.items) → HasKey after

@@ -10,7 +10,7 @@ use std::alloc::Global;
 use std::collections::HashMap;
 
 /// The keys of packets by their transactions: in no order, each as often as it was added. Three stand in
-/// place, as those of a request, its response and the request behind them. The spots are where the keys
+/// place, as those of a request, its response and one that is sent again. The spots are where the keys
 /// were put in their bags: each is looked at before it is used.
 #[derive(Drop)]
 pub(crate) struct Bags {
@@ -33,8 +33,8 @@ impl Bags {
         }
     }
 
-    /// Adds a key under a transaction, if there is one. Where it begins that the keys before it leave: they
-    /// are given.
+    /// Adds a key under a transaction, if there is one. Where it begins the transaction, the keys before it
+    /// leave their bag, and are what is given.
     #[tactic(auto, unfolding(crate::specs::Bags::times))]
     pub(crate) fn insert(
         &mut self,

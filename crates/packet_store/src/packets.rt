@@ -72,8 +72,8 @@ impl Packets {
         None
     }
 
-    /// Puts a packet, which belongs to this transaction, under its serial. Where it begins that the keys of
-    /// the packets before it are given, which leave.
+    /// Puts a packet, which belongs to this transaction, under its serial. Where it begins the
+    /// transaction, the keys of the packets before it are given, which have to leave.
     pub(crate) fn put(
         &mut self,
         kept: Kept,
@@ -140,7 +140,7 @@ impl Packets {
         false
     }
 
-    /// Takes out the packet of the last of the keys that leave.
+    /// Takes out the packet of the last one of the keys that have to leave.
     pub(crate) fn take_going(&mut self, key: usize) -> Option<Kept>
         requires { IsRing self.old.ring }
         ensures some { (begun : Option Transaction) (gone : List ℕ) (serial : ℕ) → IsGoing self.old begun (gone ++ key ∷ []) serial → (k : Kept) × (result ≡ Some k) }

@@ -92,7 +92,7 @@ impl Shelf {
     }
 
     /// Puts a packet, which belongs to this transaction, in flight under a new serial, from 1 on, behind
-    /// all others. Where it begins that the packets before it are withdrawn.
+    /// all others. Where it begins the transaction, the packets before it are withdrawn.
     pub(crate) fn push(
         &mut self,
         serial: u64,

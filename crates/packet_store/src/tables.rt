@@ -52,7 +52,7 @@ impl Tables {
     }
 
     /// Puts a packet, which belongs to this transaction, in flight under the next serial. Where it begins
-    /// that the packets before it are withdrawn.
+    /// the transaction, the packets before it are withdrawn.
     pub(crate) fn add(
         &mut self,
         sent: Sent,

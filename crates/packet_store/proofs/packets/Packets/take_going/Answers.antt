@@ -1,7 +1,7 @@
 use Rattle.std.proofs.Common.{rules, ◌≡◌, ◌∙◌, ap, refl, [], ◌∷◌, ◌++◌, None, Some, cond}
 use Rattle.slab.specs.Slab.{get}
 use Rattle.packet_store.specs.Bags.{times, with_gone}
-use Rattle.packet_store.specs.Packets.{Goes, holds, key_in, kept_in}
+use Rattle.packet_store.specs.Packets.{holds, key_in, kept_in}
 use Rattle.packet_store.specs.Rings.{finds}
 use Rattle.packet_store.specs.Transactions.{transaction_of}
 use Rattle.packet_store.proofs.Keyed.{Takes, leaving, leaving_some, take_holds, take_tied}
