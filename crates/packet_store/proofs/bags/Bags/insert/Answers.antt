@@ -46,7 +46,7 @@ returns-in-Some-get_mut-clause-full c =
 -- where a new bag is made the bags are as they were
 same_of : (c : After-unwrap_or) → c.if-not-begins.self.bags ≡ c.args.self.now.bags
 same_of c = elim c.if-not-begins.branch [
-  then-not-begins+in_default-get_mut w ↦
+  | then-not-begins+in_default-get_mut w ↦
       let same : w.get_mut.follows.lender-at-none ≡ c.args.self.now.bags = search rules in
       ap (λ (b : Bags). b.bags) w.self-is ∙ same
   | else-not-begins w ↦ ap (λ (b : Bags). b.bags) w.self-is
@@ -87,7 +87,7 @@ returns-clause-inserted c =
     let m : Transaction → ℕ → ℕ = λ t k. count_of k (keys_of (f t)) in
     let n : Transaction → ℕ → ℕ = λ t k. count_of k (keys_of (g t)) in
     let known : Inserts m n (Some u) (begun_if c.args.begins (Some u)) key gone = elim c.if-not-begins.branch [
-      then-not-begins+in_default-get_mut w ↦
+      | then-not-begins+in_default-get_mut w ↦
           let none : lookup (is_same u) c.args.self.now.bags.entries ≡ None = search rules in
           inserts_more m n (Some u) c.args.begins key gone w.if-not-begins.true (λ t k. entered f g u bag key t k none (one_of c k) (up_of c)) (gone_of c ∙ ap keys_of none)
       | else-not-begins w ↦ inserts_begun f g u bag c.args.begins key gone w.if-not-begins.false (one_of c) (up_of c) (gone_of c)
