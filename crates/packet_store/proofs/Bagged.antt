@@ -1,13 +1,13 @@
 -- How many times a list of keys has a key, once one was taken out, and of its first one.
-use Rattle.std.proofs.Common.{◌≡◌, ◌∙◌, refl, sym, subst, ap, ℕ, suc, ◌+◌, ◌-◌, ◌<◌, Bool, true, false, List, [], ◌∷◌, ◌++◌, length, Option, None, Some, cond, arith}
-use Rattle.std.specs.Prelude.{◌≢◌, ◌==◌, ◌&&◌, slice_index_or, IfNone, Result, Ok, Err, OnOk, OnErr}
+use Rattle.std.proofs.Common.{◌≡◌, ◌∙◌, refl, sym, subst, ap, ℕ, suc, ◌+◌, ◌-◌, ◌<◌, ◌≤◌, Bool, true, false, List, [], ◌∷◌, ◌++◌, length, Option, None, Some, cond, arith}
+use Rattle.std.specs.Prelude.{◌≢◌, ◌==◌, ◌&&◌, slice_index_or, unwrap_or, Result, Ok, Err, OnOk, OnErr}
 use Rattle.std.specs.List.{swap_remove}
 use Rattle.std.proofs.lemmas.Bool.{and_parts}
 use Rattle.std.proofs.lemmas.List.Sums.{sum_by-cons, sum_by_push, sum_by-swap_remove}
 use Rattle.smallvec.specs.SmallVec.{SmallVec}
 use Rattle.packet_store.specs.declared.transaction.Transaction.{Transaction}
-use Rattle.packet_store.specs.Transactions.{is_same}
-use Rattle.packet_store.specs.Bags.{HasKey, count_of, keys_of, one_if}
+use Rattle.packet_store.specs.Transactions.{is_same, is_that}
+use Rattle.packet_store.specs.Bags.{HasKey, Inserts, begun_if, count_of, keys_of, one_if, with_gone}
 use Rattle.packet_store.proofs.Same.{differs, equal_of, same_test}
 use Rattle.std.proofs.lemmas.Option.{same_Some}
 
@@ -47,27 +47,11 @@ added keys key k =
     omega (arith, p)
 
 -- ---- the first key
-pub other_here : (x : ℕ) (xs : List ℕ) → 0 < count_of x (x ∷ xs)
+other_here : (x : ℕ) (xs : List ℕ) → 0 < count_of x (x ∷ xs)
 other_here x xs =
     let a : one_if (x == x) ≡ 1 = ap one_if (same_test x) in
     let c = count_cons x x xs in
     omega (arith, a, c)
-
-pub other_later : (x k : ℕ) (xs : List ℕ) → 0 < count_of k xs → 0 < count_of k (x ∷ xs)
-other_later x k xs l =
-    let c = count_cons x k xs in
-    omega (arith, c, l)
-
-no_other_by : (x k : ℕ) (xs : List ℕ) (except : Option ℕ) (b : Bool) → (x == k) ≡ b → except ≡ Some x → (0 < count_of k xs → except ≡ Some k) → 0 < count_of k (x ∷ xs) → except ≡ Some k
-no_other_by x k xs except true d e h l = e ∙ ap Some (equal_of x k d)
-no_other_by x k xs except false d e h l =
-    let a : one_if (x == k) ≡ 0 = ap one_if d in
-    let c = count_cons x k xs in
-    h (omega (arith, a, c, l))
-
-pub no_other : (bag : List ℕ) (x : ℕ) (xs : List ℕ) (except o : Option ℕ) → bag ≡ x ∷ xs → except ≡ Some x → IfNone o ((k : ℕ) → 0 < count_of k xs → except ≡ Some k) → IfNone o ((k : ℕ) → 0 < count_of k bag → except ≡ Some k)
-no_other bag x xs except None b e h = λ k l. no_other_by x k xs except (x == k) refl e (h k) (subst (λ ys. 0 < count_of k ys) b l)
-no_other bag x xs except (Some y) b e h = tt
 
 -- ---- a bag more
 abbrev made : (g r p l : ℕ) → Transaction
@@ -98,6 +82,69 @@ entered_by f g u bag key t k false e none one h =
 pub entered : (f g : Transaction → Option (SmallVec ℕ)) (u : Transaction) (bag : SmallVec ℕ) (key : ℕ) (t : Transaction) (k : ℕ) → f u ≡ None → count_of k bag.items ≡ one_if (key == k) → ((q : Transaction) → g q ≡ cond (is_same u q) (Some bag) (f q)) → count_of k (keys_of (g t)) ≡ one_if (is_same u t && (key == k)) + count_of k (keys_of (f t))
 entered f g u bag key t k none one h = entered_by f g u bag key t k (is_same u t) refl none one (h t)
 
+pub same_same : (t : Transaction) → is_same t t ≡ true
+same_same t = rw (same_test t.generation, same_test t.requester, same_test t.responder, same_test t.label) refl
+
+-- ---- the keys that leave
+nothing_by : (b : Bool) (n : ℕ) → n + cond b 0 0 ≡ n
+nothing_by true n = omega arith
+nothing_by false n = omega arith
+
+pub gone_nothing : (m : Transaction → ℕ → ℕ) (begun : Option Transaction) (gone : List ℕ) (t : Transaction) (k : ℕ) → gone ≡ [] → with_gone m begun gone t k ≡ m t k
+gone_nothing m begun gone t k e = ap (λ xs. m t k + cond (is_that t begun) (count_of k xs) 0) e ∙ nothing_by (is_that t begun) (m t k)
+
+-- the keys of what was there
+pub unwrapped : (o : Option (SmallVec ℕ)) (none : SmallVec ℕ) → none.items ≡ [] → (unwrap_or o none).items ≡ keys_of o
+unwrapped None none e = e
+unwrapped (Some bag) none e = refl
+
+pub inserts_more : (m n : Transaction → ℕ → ℕ) (o : Option Transaction) (b : Bool) (key : ℕ) (gone : List ℕ) → b ≡ false → ((t : Transaction) (k : ℕ) → n t k ≡ one_if (is_that t o && (key == k)) + m t k) → gone ≡ [] → Inserts m n o (begun_if b o) key gone
+inserts_more m n o true key gone b h e = cc b
+inserts_more m n o false key gone b h e = record { added = λ t k. gone_nothing n None gone t k e ∙ h t k; alone = tt; none = e }
+
+begun_step : (f g : Transaction → Option (SmallVec ℕ)) (u : Transaction) (bag : SmallVec ℕ) (gone : List ℕ) (key : ℕ) (t : Transaction) (k : ℕ) (b : Bool) → is_same u t ≡ b → count_of k bag.items ≡ one_if (key == k) → g t ≡ cond b (Some bag) (f t) → gone ≡ keys_of (f u) → count_of k (keys_of (g t)) + cond b (count_of k gone) 0 ≡ one_if (b && (key == k)) + count_of k (keys_of (f t))
+begun_step f g u bag gone key t k true e one h was =
+    let n : count_of k (keys_of (g t)) ≡ count_of k bag.items = ap (λ o. count_of k (keys_of o)) h in
+    let z : count_of k gone ≡ count_of k (keys_of (f t)) = ap (count_of k) was ∙ ap (λ v. count_of k (keys_of (f v))) (same_is u t e) in
+    omega (arith, n, z, one)
+begun_step f g u bag gone key t k false e one h was =
+    let n = ap (λ o. count_of k (keys_of o)) h in
+    omega (arith, n)
+
+pub inserts_begun : (f g : Transaction → Option (SmallVec ℕ)) (u : Transaction) (bag : SmallVec ℕ) (b : Bool) (key : ℕ) (gone : List ℕ) → b ≡ true → ((k : ℕ) → count_of k bag.items ≡ one_if (key == k)) → ((q : Transaction) → g q ≡ cond (is_same u q) (Some bag) (f q)) → gone ≡ keys_of (f u) → Inserts (λ t k. count_of k (keys_of (f t))) (λ t k. count_of k (keys_of (g t))) (Some u) (begun_if b (Some u)) key gone
+inserts_begun f g u bag true key gone b one h was = record {
+  added = λ t k. begun_step f g u bag gone key t k (is_same u t) refl (one k) (h t) was;
+  alone = λ k. ap (λ o. count_of k (keys_of o)) (h u ∙ ap (λ c. cond c (Some bag) (f u)) (same_same u)) ∙ one k;
+  none = tt;
+}
+inserts_begun f g u bag false key gone b one h was = cc b
+
+-- a key that leaves is counted, and is one less once it left
+pub gone_counted : (m : Transaction → ℕ → ℕ) (t : Transaction) (gone : List ℕ) (key : ℕ) → 0 < with_gone m (Some t) (gone ++ key ∷ []) t key
+gone_counted m t gone key =
+    let g : with_gone m (Some t) (gone ++ key ∷ []) t key ≡ m t key + count_of key (gone ++ key ∷ []) = ap (λ b. m t key + cond b (count_of key (gone ++ key ∷ [])) 0) (same_same t) in
+    let p = added gone key key in
+    let one : one_if (key == key) ≡ 1 = ap one_if (same_test key) in
+    omega (arith, g, p, one)
+
+pub gone_less : (m : Transaction → ℕ → ℕ) (gone : List ℕ) (key : ℕ) (u : Transaction) (j : ℕ) (b : Bool) → m u j + cond b (count_of j gone) 0 ≡ m u j + cond b (count_of j (gone ++ key ∷ [])) 0 - one_if (b && (key == j))
+gone_less m gone key u j true = let p = added gone key j in omega (arith, p)
+gone_less m gone key u j false = omega arith
+
+at_most_one : (b : Bool) → one_if b ≤ 1
+at_most_one true = omega arith
+at_most_one false = omega arith
+
+-- the key that stands in the bag leaves not
+pub gone_other : (m : Transaction → ℕ → ℕ) (t : Transaction) (gone : List ℕ) (key own : ℕ) (b : Bool) → with_gone m (Some t) (gone ++ key ∷ []) t own ≡ one_if b → m t own ≡ one_if (own == own) → key ≢ own
+gone_other m t gone key own b h alone eq =
+    let g : with_gone m (Some t) (gone ++ key ∷ []) t own ≡ m t own + count_of own (gone ++ key ∷ []) = ap (λ b. m t own + cond b (count_of own (gone ++ key ∷ [])) 0) (same_same t) in
+    let p = added gone key own in
+    let here : one_if (key == own) ≡ 1 = ap (λ j. one_if (j == own)) eq ∙ ap one_if (same_test own) in
+    let one : one_if (own == own) ≡ 1 = ap one_if (same_test own) in
+    let most = at_most_one b in
+    absurd (omega (arith, g, p, here, one, most, h, alone))
+
 -- a bag in place of one that has each key as often
 written_by : (f g : Transaction → Option (SmallVec ℕ)) (u : Transaction) (bag after : SmallVec ℕ) (t : Transaction) (k : ℕ) (b : Bool) → is_same u t ≡ b → f u ≡ Some bag → count_of k after.items ≡ count_of k bag.items → g t ≡ cond b (Some after) (f t) → count_of k (keys_of (g t)) ≡ count_of k (keys_of (f t))
 written_by f g u bag after t k true e was same h =
@@ -106,27 +153,6 @@ written_by f g u bag after t k false e was same h = ap (λ o. count_of k (keys_o
 
 pub written : (f g : Transaction → Option (SmallVec ℕ)) (u : Transaction) (bag after : SmallVec ℕ) (t : Transaction) (k : ℕ) → f u ≡ Some bag → count_of k after.items ≡ count_of k bag.items → ((q : Transaction) → g q ≡ cond (is_same u q) (Some after) (f q)) → count_of k (keys_of (g t)) ≡ count_of k (keys_of (f t))
 written f g u bag after t k was same h = written_by f g u bag after t k (is_same u t) refl was same (h t)
-
-pub no_count : (keys : List ℕ) (k : ℕ) → length keys ≡ 0 → 0 ≡ count_of k keys
-no_count [] k e = refl
-no_count (x ∷ xs) k e = cc e
-
--- a bag, or none, in place of one with a key more
-left_by : (f g : Transaction → Option (SmallVec ℕ)) (u : Transaction) (bag : SmallVec ℕ) (o : Option (SmallVec ℕ)) (key : ℕ) (t : Transaction) (k : ℕ) (b : Bool) → is_same u t ≡ b → f u ≡ Some bag → count_of k (keys_of o) ≡ count_of k bag.items - one_if (key == k) → g t ≡ cond b o (f t) → count_of k (keys_of (g t)) ≡ count_of k (keys_of (f t)) - one_if (b && (key == k))
-left_by f g u bag o key t k true e was less h =
-    let n : count_of k (keys_of (g t)) ≡ count_of k (keys_of o) = ap (λ x. count_of k (keys_of x)) h in
-    let m : count_of k (keys_of (f t)) ≡ count_of k bag.items = ap (λ v. count_of k (keys_of (f v))) (sym (same_is u t e)) ∙ ap (λ x. count_of k (keys_of x)) was in
-    omega (arith, n, m, less)
-left_by f g u bag o key t k false e was less h =
-    let n = ap (λ x. count_of k (keys_of x)) h in
-    omega (arith, n)
-
-pub left : (f g : Transaction → Option (SmallVec ℕ)) (u : Transaction) (bag : SmallVec ℕ) (o : Option (SmallVec ℕ)) (key : ℕ) (t : Transaction) (k : ℕ) → f u ≡ Some bag → count_of k (keys_of o) ≡ count_of k bag.items - one_if (key == k) → ((q : Transaction) → g q ≡ cond (is_same u q) o (f q)) → count_of k (keys_of (g t)) ≡ count_of k (keys_of (f t)) - one_if (is_same u t && (key == k))
-left f g u bag o key t k was less h = left_by f g u bag o key t k (is_same u t) refl was less (h t)
-
-pub on_error_of : {A E : Type 0} {X Y : Type 0} (r : Result A E) → OnErr r X → (X → Y) → OnErr r Y
-on_error_of (Ok a) x f = tt
-on_error_of (Err e) x f = f x
 
 -- ---- each bag has a key
 pub key_added : (before after : SmallVec ℕ) (key : ℕ) → ((k : ℕ) → count_of k after.items ≡ one_if (key == k) + count_of k before.items) → HasKey after

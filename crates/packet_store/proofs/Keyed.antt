@@ -1,19 +1,21 @@
 -- The ties of a slab and of its two indexes, after each change.
-use Rattle.std.proofs.Common.{◌≡◌, ◌∙◌, refl, sym, subst, ap, ℕ, ◌+◌, ◌-◌, ◌<◌, Bool, true, false, None, Some, cond, arith}
-use Rattle.std.specs.Prelude.{◌≢◌, ◌==◌, ◌&&◌, Option, Result, Ok, Err, OnErr}
+use Rattle.std.proofs.Common.{◌≡◌, ◌∙◌, refl, sym, subst, ap, ℕ, ◌+◌, ◌-◌, ◌<◌, Bool, true, false, List, [], ◌∷◌, ◌++◌, None, Some, cond, arith}
+use Rattle.std.specs.Prelude.{◌≢◌, ◌==◌, ◌&&◌, Option, Result, Ok, Err, OnErr, option_to_list}
 use Rattle.slab.specs.Slab.{Slab, get}
 use Rattle.packet_store.specs.declared.sent.Kept.{Kept}
 use Rattle.packet_store.specs.declared.ring.Place.{Place}
 use Rattle.packet_store.specs.declared.transaction.Transaction.{Transaction}
 use Rattle.packet_store.specs.Transactions.{belongs, is_same, is_that, transaction_of}
 use Rattle.packet_store.specs.Kept.{marked}
-use Rattle.packet_store.specs.Bags.{one_if}
-use Rattle.packet_store.specs.Packets.{AreTied, is_among, kept_in, key_in}
-use Rattle.packet_store.proofs.Bagged.{same_is}
+use Rattle.packet_store.specs.Bags.{IsAlone, NoneGone, one_if, times, with_gone}
+use Rattle.packet_store.specs.Rings.{finds}
+use Rattle.packet_store.specs.declared.packets.Packets.{Packets}
+use Rattle.packet_store.specs.Packets.{AreTied, Exact, IsGoing, is_among, is_begun, kept_in, key_in}
+use Rattle.packet_store.proofs.Bagged.{gone_counted, gone_less, gone_nothing, gone_other, same_is}
 use Rattle.packet_store.proofs.Same.{and_false, and_true, differs, equal_of, same_test, unequal_of}
 use Rattle.std.proofs.lemmas.Option.{same_Some}
 
-abbrev place : Kept → ℕ → Place
+abbrev pub place : Kept → ℕ → Place
 place k key = record { serial = k.serial; key = key; transaction = transaction_of k.sent }
 
 -- what holds at any answer holds where it is an error
@@ -318,6 +320,19 @@ other_none_by slab f m t s q (Some x) true e h ties all ne =
 pub other_none : (slab : Slab Kept) (f : ℕ → Option Place) (m : Transaction → ℕ → ℕ) (t : Transaction) (s q : ℕ) → AreTied slab f m → ((key : ℕ) → 0 < m t key → key_in (f s) ≡ Some key) → q ≢ s → is_among t (kept_in slab (key_in (f q))) ≡ false
 other_none slab f m t s q ties all ne = other_none_by slab f m t s q (f q) (is_among t (kept_in slab (key_in (f q)))) refl refl ties all ne
 
+-- none but that of the serial is of the transaction, where its bag has the key of that alone
+pub begun_none : (slab : Slab Kept) (f : ℕ → Option Place) (m : Transaction → ℕ → ℕ) (begun : Option Transaction) (own s q : ℕ) → AreTied slab f (with_gone m begun []) → key_in (f s) ≡ Some own → IsAlone m begun own → q ≢ s → is_begun begun (kept_in slab (key_in (f q))) ≡ false
+begun_none slab f m None own s q ties placed alone ne = refl
+begun_none slab f m (Some t) own s q ties placed alone ne =
+    other_none slab f (with_gone m (Some t) []) t s q ties (λ key l. placed ∙ ap Some (own_by (own == key) key refl l)) ne
+  where
+    own_by : (b : Bool) (key : ℕ) → (own == key) ≡ b → 0 < with_gone m (Some t) [] t key → own ≡ key
+    own_by true key e l = equal_of own key e
+    own_by false key e l =
+        let g = gone_nothing m (Some t) [] t key refl in
+        let a : m t key ≡ 0 = alone key ∙ ap one_if e in
+        absurd (omega (arith, g, a, l))
+
 -- a key under a transaction less is one less of the packet that belongs to it
 less_of : (m n : Transaction → ℕ → ℕ) (t : Transaction) (key : ℕ) (o : Option Transaction) → is_that t o ≡ true → ((u : Transaction) (j : ℕ) → n u j ≡ m u j - one_if (is_same t u && (key == j))) → (u : Transaction) (j : ℕ) → n u j ≡ m u j - one_if (is_that u o && (key == j))
 less_of m n t key None b h u j = cc b
@@ -326,3 +341,57 @@ less_of m n t key (Some v) b h u j = subst (λ (w : Transaction). n u j ≡ m u 
 pub others_of : (slab : Slab Kept) (f : ℕ → Option Place) (m n : Transaction → ℕ → ℕ) (t : Transaction) (key : ℕ) (k : Kept) → AreTied slab f m → get slab key ≡ Some k → 0 < m t key → ((u : Transaction) (j : ℕ) → n u j ≡ m u j - one_if (is_same t u && (key == j))) → (u : Transaction) (j : ℕ) → n u j ≡ m u j - one_if (is_that u (transaction_of k.sent) && (key == j))
 unfolding belongs
 others_of slab f m n t key k ties h l less = less_of m n t key (transaction_of k.sent) (among_of slab f m t key (Some k) h ties l) less
+
+-- ---- a packet leaves
+not_none : {X : Type 0} (gone : List ℕ) (key : ℕ) → gone ++ key ∷ [] ≡ [] → X
+not_none [] key e = cc e
+not_none (x ∷ gone) key e = cc e
+
+-- a key that leaves is that of a packet of the transaction
+leaving_is : (slab : Slab Kept) (f : ℕ → Option Place) (m : Transaction → ℕ → ℕ) (begun : Option Transaction) (gone : List ℕ) (key : ℕ) (o : Option Kept) → get slab key ≡ o → AreTied slab f (with_gone m begun (gone ++ key ∷ [])) → NoneGone begun (gone ++ key ∷ []) → is_begun begun o ≡ true
+leaving_is slab f m None gone key o e ties none = not_none gone key none
+leaving_is slab f m (Some t) gone key o e ties none = among_of slab f (with_gone m (Some t) (gone ++ key ∷ [])) t key o e ties (gone_counted m t gone key)
+
+never_begun : {X : Type 0} (begun : Option Transaction) → is_begun begun None ≡ true → X
+never_begun None e = cc e
+never_begun (Some t) e = cc e
+
+pub leaving_some : {X : Type 0} (slab : Slab Kept) (f : ℕ → Option Place) (m : Transaction → ℕ → ℕ) (begun : Option Transaction) (gone : List ℕ) (key : ℕ) → get slab key ≡ None → AreTied slab f (with_gone m begun (gone ++ key ∷ [])) → NoneGone begun (gone ++ key ∷ []) → X
+leaving_some slab f m begun gone key e ties none = never_begun begun (leaving_is slab f m begun gone key None e ties none)
+
+-- what leaves is another packet, and its key one less of them
+pub record Leaves (m : Transaction → ℕ → ℕ) (begun : Option Transaction) (gone : List ℕ) (key serial : ℕ) (k : Kept) : Type 0 where
+  pub among : is_begun begun (Some k) ≡ true
+  pub other : k.serial ≢ serial
+  pub less : (u : Transaction) (j : ℕ) → with_gone m begun gone u j ≡ with_gone m begun (gone ++ key ∷ []) u j - one_if (is_that u (transaction_of k.sent) && (key == j))
+  pub none : NoneGone begun gone
+
+pub leaving : (slab : Slab Kept) (f : ℕ → Option Place) (m : Transaction → ℕ → ℕ) (begun : Option Transaction) (gone : List ℕ) (key own serial : ℕ) (k : Kept) → get slab key ≡ Some k → AreTied slab f (with_gone m begun (gone ++ key ∷ [])) → key_in (f serial) ≡ Some own → IsAlone m begun own → NoneGone begun (gone ++ key ∷ []) → Leaves m begun gone key serial k
+leaving slab f m None gone key own serial k e ties placed alone none = not_none gone key none
+leaving slab f m (Some t) gone key own serial k e ties placed alone none =
+    let g = with_gone m (Some t) (gone ++ key ∷ []) in
+    let counted = gone_counted m t gone key in
+    let apart = gone_other m t gone key own (is_among t (get slab own)) (ties.bagged t own) (alone own) in
+    record {
+      among = leaving_is slab f m (Some t) gone key (Some k) e ties none;
+      other = (other_found slab f g t serial key k ties e counted (λ w. apart (some_key key own (sym w ∙ placed)))).1;
+      less = others_of slab f g (with_gone m (Some t) gone) t key k ties e counted (λ u j. gone_less m gone key u j (is_same t u));
+      none = tt;
+    }
+
+-- the keys that leave are those that are left and the last one
+pub going_from : (packets : Packets) (begun : Option Transaction) (serial : ℕ) (keys gone : List ℕ) (o : Option ℕ) (key : ℕ) → keys ≡ gone ++ option_to_list o → o ≡ Some key → IsGoing packets begun keys serial → IsGoing packets begun (gone ++ key ∷ []) serial
+going_from packets begun serial keys gone o key e h i = subst (λ xs. IsGoing packets begun xs serial) (e ∙ ap (λ p. gone ++ option_to_list p) h) i
+
+pub gone_from : (packets : Packets) (begun : Option Transaction) (serial : ℕ) (keys : List ℕ) → keys ≡ [] → IsGoing packets begun keys serial → IsGoing packets begun [] serial
+gone_from packets begun serial keys e i = subst (λ xs. IsGoing packets begun xs serial) e i
+
+-- none leaves any more
+pub going_exact : (packets : Packets) (begun : Option Transaction) (serial : ℕ) (keys : List ℕ) → keys ≡ [] → IsGoing packets begun keys serial → Exact packets
+going_exact packets begun serial keys e going =
+    let i = gone_from packets begun serial keys e going in
+    record {
+      ring = i.ring;
+      tied = same_tied packets.slab packets.slab (finds packets.ring) (finds packets.ring) (with_gone (times packets.bags) begun []) (times packets.bags) i.tied (λ key. refl) (λ q. refl) (λ t key. sym (gone_nothing (times packets.bags) begun [] t key refl));
+      full = i.full;
+    }

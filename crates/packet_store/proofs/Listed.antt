@@ -1,10 +1,15 @@
 -- The packets that a function has under the serials up to a last one, as a list.
 use Rattle.std.proofs.Common.{◌≡◌, ◌∙◌, refl, sym, ap, ℕ, zero, suc, ◌+◌, ◌<◌, ◌≤◌, Bool, true, false, List, [], ◌∷◌, ◌++◌, length, None, Some, cond, arith, length-append}
-use Rattle.std.specs.Prelude.{◌≢◌, ◌==◌, nat_lt, not, Option}
+use Rattle.std.specs.Prelude.{◌≢◌, ◌==◌, ◌&&◌, nat_lt, not, Option}
 use Rattle.std.proofs.lemmas.Bool.Decides.{nat_tests}
 use Rattle.packet_store.specs.declared.sent.Kept.{Kept}
 use Rattle.packet_store.specs.Kept.{without, with_delivered, delivered, found, AreBelow, marked}
 use Rattle.packet_store.specs.Shelves.{entry, listed}
+use Rattle.packet_store.specs.declared.transaction.Transaction.{Transaction}
+use Rattle.packet_store.specs.Transactions.{belongs}
+use Rattle.packet_store.specs.Packets.{is_begun}
+use Rattle.packet_store.specs.Sound.{is_earlier, withdrawn}
+use Rattle.packet_store.specs.Stored.{by_bus_rule}
 use Rattle.packet_store.proofs.Same.{differs, equal_of, same_test, unequal_of}
 use Rattle.std.proofs.lemmas.Option.{same_Some}
 
@@ -200,6 +205,76 @@ none_if false o e = e
 
 pub none_less : (f g : ℕ → Option Kept) (s q : ℕ) → ((p : ℕ) → g p ≡ cond (s == p) None (f p)) → f q ≡ None → g q ≡ None
 none_less f g s q e n = e q ∙ none_if (s == q) (f q) n
+
+-- ---- those of a transaction less, but for the last one
+-- what is left under a serial
+abbrev pub ruled : Option Transaction → ℕ → ℕ → Option Kept → Option Kept
+ruled begun last q o = cond (is_begun begun o && not (q == last)) None o
+
+below_by : (m last : ℕ) (b : Bool) → (m == last) ≡ b → m ≤ last → nat_lt m last ≡ not b
+below_by m last true e l = grind (arith, nat_tests)
+below_by m last false e l = grind (arith, nat_tests)
+
+withdrawn_one : (k : Kept) (b : Bool) → cond (not b) (k ∷ []) [] ≡ entry (cond b None (Some k))
+withdrawn_one k true = refl
+withdrawn_one k false = refl
+
+withdrawn_entry : (t : Transaction) (o : Option Kept) (last m : ℕ) → m ≤ last → ((k : Kept) → o ≡ Some k → k.serial ≡ m) → withdrawn t last (entry o) ≡ entry (ruled (Some t) last m o)
+withdrawn_entry t None last m l named = refl
+withdrawn_entry t (Some k) last m l named =
+    withdrawn_one k (belongs t k.sent && nat_lt k.serial last)
+    ∙ ap (λ q. entry (cond (belongs t k.sent && nat_lt q last) None (Some k))) (named k refl)
+    ∙ ap (λ b. entry (cond (belongs t k.sent && b) None (Some k))) (below_by m last (m == last) refl l)
+
+withdrawn_append : (t : Transaction) (last : ℕ) (xs ys : List Kept) → withdrawn t last (xs ++ ys) ≡ withdrawn t last xs ++ withdrawn t last ys
+withdrawn_append t last [] ys = refl
+withdrawn_append t last (k ∷ xs) ys = without_step last k (withdrawn t last (xs ++ ys)) (withdrawn t last xs) (withdrawn t last ys) (not (is_earlier t last k)) (withdrawn_append t last xs ys)
+
+listed_withdrawn : (f g : ℕ → Option Kept) (t : Transaction) (last n : ℕ) → n ≤ last → Named f → ((q : ℕ) → g q ≡ ruled (Some t) last q (f q)) → listed g n ≡ withdrawn t last (listed f n)
+listed_withdrawn f g t last zero l named e = refl
+listed_withdrawn f g t last (suc n) l named e =
+    ap (λ xs. xs ++ entry (g (suc n))) (listed_withdrawn f g t last n (omega (arith, l)) named e)
+    ∙ ap (λ o. withdrawn t last (listed f n) ++ entry o) (e (suc n))
+    ∙ ap (λ ys. withdrawn t last (listed f n) ++ ys) (sym (withdrawn_entry t (f (suc n)) last (suc n) l (named (suc n))))
+    ∙ sym (withdrawn_append t last (listed f n) (entry (f (suc n))))
+
+pub listed_ruled : (f g : ℕ → Option Kept) (begun : Option Transaction) (last : ℕ) → Named f → ((q : ℕ) → g q ≡ ruled begun last q (f q)) → listed g last ≡ by_bus_rule begun last (listed f last)
+listed_ruled f g None last named e = listed_same f g last (λ q l. e q)
+listed_ruled f g (Some t) last named e = listed_withdrawn f g t last last (omega arith) named e
+
+-- the one that is taken out would not be left
+ruled_by : (begun : Option Transaction) (last s q : ℕ) (k : Kept) (o : Option Kept) (b : Bool) → (s == q) ≡ b → s ≢ last → is_begun begun (Some k) ≡ true → (s ≡ q → o ≡ Some k) → ruled begun last q (cond b None o) ≡ ruled begun last q o
+ruled_by begun last s q k o true e ne among here =
+    let eq = equal_of s q e in
+    let d : (q == last) ≡ false = differs q last (λ x. ne (eq ∙ x)) in
+    none_ruled begun last q ∙ sym (ap (λ p. ruled begun last q p) (here eq) ∙ rw (among, d) refl)
+  where
+    none_ruled : (begun : Option Transaction) (last q : ℕ) → ruled begun last q None ≡ None
+    none_ruled None last q = refl
+    none_ruled (Some t) last q = refl
+ruled_by begun last s q k o false e ne among here = refl
+
+-- so the list that is left is the same
+pub ruled_less : (f g : ℕ → Option Kept) (begun : Option Transaction) (last s : ℕ) (k : Kept) → Named f → f s ≡ Some k → s ≢ last → is_begun begun (Some k) ≡ true → ((q : ℕ) → g q ≡ cond (s == q) None (f q)) → by_bus_rule begun last (listed g last) ≡ by_bus_rule begun last (listed f last)
+ruled_less f g begun last s k named here ne among e =
+    sym (listed_ruled g (λ q. ruled begun last q (g q)) begun last (named_less f g s named e) (λ q. refl))
+    ∙ listed_ruled f (λ q. ruled begun last q (g q)) begun last named
+    (λ q. ap (ruled begun last q) (e q) ∙ ruled_by begun last s q k (f q) (s == q) refl ne among (λ eq. ap f (sym eq) ∙ here))
+
+-- all are left where none but the last one is of the transaction
+stays_ruled : (begun : Option Transaction) (last q : ℕ) (o : Option Kept) (b : Bool) → (q == last) ≡ b → (q ≢ last → is_begun begun o ≡ false) → o ≡ ruled begun last q o
+stays_ruled begun last q o true e none = stays_at (is_begun begun o) (q == last) o e
+  where
+    stays_at : (b c : Bool) (o : Option Kept) → c ≡ true → o ≡ cond (b && not c) None o
+    stays_at true true o e = refl
+    stays_at true false o e = cc e
+    stays_at false c o e = refl
+stays_ruled begun last q o false e none =
+    let n = none (unequal_of q last e) in
+    rw n refl
+
+pub all_ruled : (f : ℕ → Option Kept) (begun : Option Transaction) (last : ℕ) → Named f → ((q : ℕ) → q ≢ last → is_begun begun (f q) ≡ false) → listed f last ≡ by_bus_rule begun last (listed f last)
+all_ruled f begun last named none = listed_ruled f f begun last named (λ q. stays_ruled begun last q (f q) (q == last) refl (none q))
 
 -- ---- how many
 one_more : (xs : List Kept) (o : Option Kept) (n : ℕ) → length xs ≤ n → length (xs ++ entry o) ≤ suc n

@@ -1,22 +1,20 @@
 -- The fields of a shelf fit each other after each change of its packets.
 use Rattle.std.proofs.Common.{◌≡◌, ◌∙◌, refl, sym, subst, ap, ℕ, ◌+◌, ◌-◌, ◌<◌, ◌≤◌, Bool, true, false, List, [], ◌∷◌, ◌++◌, length, None, Some, cond, arith, length-append}
-use Rattle.std.specs.Prelude.{◌≢◌, ◌==◌, nat_lt, Option, IfNone}
+use Rattle.std.specs.Prelude.{◌==◌, nat_lt, Option}
 use Rattle.std.proofs.lemmas.Bool.Decides.{nat_tests}
 use Rattle.packet_store.specs.declared.sent.Kept.{Kept}
 use Rattle.packet_store.specs.declared.packets.Packets.{Packets}
-use Rattle.packet_store.specs.declared.transaction.Transaction.{Transaction}
 use Rattle.packet_store.specs.declared.aloft.Flights.{Flights}
-use Rattle.packet_store.specs.Kept.{without, with_delivered, found, flying, in_air, AreBelow, marked}
+use Rattle.packet_store.specs.Kept.{without, with_delivered, flying, in_air, AreBelow, marked}
 use Rattle.packet_store.specs.Flights.{AreFlights, Landed, Least, NoneAbove, lowest_with}
-use Rattle.packet_store.specs.Packets.{holds, is_among, Exact}
+use Rattle.packet_store.specs.Packets.{holds}
 use Rattle.packet_store.specs.Shelves.{listed, IsShelf}
 use Rattle.packet_store.proofs.Airborne.{landed_count, put_count, put_least, least_same, still_count, still_least}
-use Rattle.packet_store.proofs.Listed.{Puts, found_any, none_behind, listed_same, listed_pushed, named_put, first_put, ends_put, listed_without, named_less, none_less, listed_less, listed_few, listed_delivered, named_delivered, none_delivered, delivered_length}
+use Rattle.packet_store.proofs.Listed.{Puts, none_behind, listed_same, listed_pushed, named_put, first_put, ends_put, listed_without, named_less, none_less, listed_less, listed_few, listed_delivered, named_delivered, none_delivered, delivered_length}
 
 -- ---- the same under each serial
-pub same_shelf : (packets after : Packets) (last count : ℕ) → IsShelf packets last count → Exact after → ((q : ℕ) → holds after q ≡ holds packets q) → IsShelf after last count
-same_shelf packets after last count i p e = record {
-  exact = p;
+pub same_shelf : (packets after : Packets) (last count : ℕ) → IsShelf packets last count → ((q : ℕ) → holds after q ≡ holds packets q) → IsShelf after last count
+same_shelf packets after last count i e = record {
   named = λ q k h. i.named q k (sym (e q) ∙ h);
   first = e 0 ∙ i.first;
   ends = λ q l. e q ∙ i.ends q l;
@@ -42,11 +40,10 @@ pushed_few packets after k last count i e l b =
     let eq = pushed_count packets after k last count i e l b in
     omega (arith, few, eq)
 
-pub pushed_shelf : (packets after : Packets) (k : Kept) (last count : ℕ) → IsShelf packets last count → Exact after → ((q : ℕ) → holds after q ≡ cond (k.serial == q) (Some k) (holds packets q)) → 0 < k.serial → AreBelow k.serial (listed (holds packets) last) → IsShelf after k.serial (count + 1)
-pushed_shelf packets after k last count i p e l b =
+pub pushed_shelf : (packets after : Packets) (k : Kept) (last count : ℕ) → IsShelf packets last count → ((q : ℕ) → holds after q ≡ cond (k.serial == q) (Some k) (holds packets q)) → 0 < k.serial → AreBelow k.serial (listed (holds packets) last) → IsShelf after k.serial (count + 1)
+pushed_shelf packets after k last count i e l b =
     let puts : Puts (holds packets) (holds after) k = record { put = e } in
     record {
-      exact = p;
       named = named_put (holds packets) (holds after) k puts i.named;
       first = first_put (holds packets) (holds after) k puts l i.first;
       ends = ends_put (holds packets) (holds after) k last puts i.named i.first i.ends b;
@@ -56,13 +53,6 @@ pushed_shelf packets after k last count i p e l b =
 -- ---- a packet less
 pub removed_list : (packets after : Packets) (s last count : ℕ) → IsShelf packets last count → ((q : ℕ) → holds after q ≡ cond (s == q) None (holds packets q)) → listed (holds after) last ≡ without s (listed (holds packets) last)
 removed_list packets after s last count i e = listed_without (holds packets) (holds after) s last i.named e
-
--- the one that was taken out stood in the list
-pub removed_other : (packets after : Packets) (t : Transaction) (s serial last count : ℕ) (k : Kept) (ks : List Kept) → IsShelf packets last count → listed (holds packets) last ≡ ks → (is_among t (holds packets s) ≡ true) × ((s ≢ serial) × (holds packets s ≡ Some k)) → ((q : ℕ) → holds after q ≡ cond (s == q) None (holds packets q)) → (is_among t (found s ks) ≡ true) × ((s ≢ serial) × (listed (holds after) last ≡ without s ks))
-removed_other packets after t s serial last count k ks i v was e = (
-  ap (is_among t) (ap (found s) (sym v) ∙ found_any (holds packets) s last i.named i.first i.ends) ∙ was.0,
-  (was.1.0, removed_list packets after s last count i e ∙ ap (without s) v),
-)
 
 inside_by : (packets : Packets) (s last count : ℕ) (k : Kept) (b : Bool) → nat_lt last s ≡ b → IsShelf packets last count → holds packets s ≡ Some k → s ≤ last
 inside_by packets s last count k true e i h =
@@ -75,11 +65,10 @@ pub removed_count : (packets after : Packets) (s last count : ℕ) (k : Kept) �
 removed_count packets after s last count k i e h =
     listed_less (holds packets) (holds after) s last k i.first e h (inside_by packets s last count k (nat_lt last s) refl i h) ∙ sym i.counted
 
-pub removed_shelf : (packets after : Packets) (s last count : ℕ) (k : Kept) → IsShelf packets last count → Exact after → ((q : ℕ) → holds after q ≡ cond (s == q) None (holds packets q)) → holds packets s ≡ Some k → IsShelf after last (count - 1)
-removed_shelf packets after s last count k i p e h =
+pub removed_shelf : (packets after : Packets) (s last count : ℕ) (k : Kept) → IsShelf packets last count → ((q : ℕ) → holds after q ≡ cond (s == q) None (holds packets q)) → holds packets s ≡ Some k → IsShelf after last (count - 1)
+removed_shelf packets after s last count k i e h =
     let n = removed_count packets after s last count k i e h in
     record {
-      exact = p;
       named = named_less (holds packets) (holds after) s i.named e;
       first = none_less (holds packets) (holds after) s 0 e i.first;
       ends = λ q l. none_less (holds packets) (holds after) s q e (i.ends q l);
@@ -90,9 +79,8 @@ removed_shelf packets after s last count k i p e h =
 pub delivered_list : (packets after : Packets) (s last count : ℕ) → IsShelf packets last count → ((q : ℕ) → holds after q ≡ cond (s == q) (marked (holds packets q)) (holds packets q)) → listed (holds after) last ≡ with_delivered s (listed (holds packets) last)
 delivered_list packets after s last count i e = listed_delivered (holds packets) (holds after) s last i.named e
 
-pub delivered_shelf : (packets after : Packets) (s last count : ℕ) → IsShelf packets last count → Exact after → ((q : ℕ) → holds after q ≡ cond (s == q) (marked (holds packets q)) (holds packets q)) → IsShelf after last count
-delivered_shelf packets after s last count i p e = record {
-  exact = p;
+pub delivered_shelf : (packets after : Packets) (s last count : ℕ) → IsShelf packets last count → ((q : ℕ) → holds after q ≡ cond (s == q) (marked (holds packets q)) (holds packets q)) → IsShelf after last count
+delivered_shelf packets after s last count i e = record {
   named = named_delivered (holds packets) (holds after) s i.named e;
   first = none_delivered (holds packets) (holds after) s 0 e i.first;
   ends = λ q l. none_delivered (holds packets) (holds after) s q e (i.ends q l);
@@ -150,8 +138,3 @@ pub few_flights : (packets : Packets) (last count : ℕ) (flights : Flights) →
 few_flights packets last count flights i fl =
     let n = fewer_flights (listed (holds packets) last) in
     omega (arith, n, i.counted, fl.counted)
-
--- ---- what an answer says, said in another way
-pub on_none : {A X Y : Type 0} (o : Option A) → IfNone o X → (X → Y) → IfNone o Y
-on_none None x f = f x
-on_none (Some s) x f = tt

@@ -1,14 +1,12 @@
 -- The kept packets after each change.
 use Rattle.std.proofs.Common.{◌≡◌, ◌∙◌, refl, sym, subst, ap, ℕ, ◌+◌, ◌<◌, ◌≤◌, Bool, true, false, List, [], ◌∷◌, ◌++◌, None, Some, cond, arith}
-use Rattle.std.specs.Prelude.{length, ◌≢◌, ◌==◌, ◌&&◌, ◌||◌, nat_lt, not}
+use Rattle.std.specs.Prelude.{length, ◌==◌, ◌&&◌, ◌||◌, nat_lt, not, Option}
 use Rattle.std.specs.List.{filter}
 use Rattle.std.proofs.lemmas.Bool.Decides.{nat_tests}
 use Rattle.packet_store.specs.declared.sent.Kept.{Kept}
 use Rattle.packet_store.specs.declared.transaction.Transaction.{Transaction}
-use Rattle.packet_store.specs.Transactions.{belongs}
-use Rattle.packet_store.specs.Packets.{is_among}
 use Rattle.packet_store.specs.Kept.{without, with_delivered, found, flying, is_delivered, recent, AreBelow}
-use Rattle.packet_store.specs.Stored.{stays, newest}
+use Rattle.packet_store.specs.Stored.{by_bus_rule, stays, newest}
 use Rattle.packet_store.specs.declared.sent.Sent.{Sent}
 use Rattle.packet_store.specs.Sound.{IsKept, AreKept, is_earlier, withdrawn}
 use Rattle.packet_store.proofs.Same.{differs}
@@ -66,83 +64,17 @@ pub sound_delivered : (kept after : List Kept) (last since s : ℕ) → since < 
 sound_delivered kept after last since s b t a = subst (AreKept last since 0) (sym a) (marked last since 0 s kept b t)
 
 -- ---- withdrawing
-and_false : (b x : Bool) → x ≡ false → (b && x) ≡ false
-and_false true x e = e
-and_false false x e = refl
+filtered_step : (last since low : ℕ) (k : Kept) (rest : List Kept) (b : Bool) → IsKept last since low k → AreKept last since k.serial rest → AreKept last since low (cond b (k ∷ rest) rest)
+filtered_step last since low k rest true h r = (h, r)
+filtered_step last since low k rest false h r = let up = h.above in lower last since low k.serial rest (omega (arith, up)) r
 
-earlier_is : (u : Transaction) (last : ℕ) (k : Kept) → belongs u k.sent ≡ true → k.serial < last → is_earlier u last k ≡ true
-earlier_is u last k b l =
-    let n : nat_lt k.serial last ≡ true = grind (arith, nat_tests) in
-    rw (b, n) refl
+withdrawn_kept : (t : Transaction) (n last since low : ℕ) (ks : List Kept) → AreKept last since low ks → AreKept last since low (withdrawn t n ks)
+withdrawn_kept t n last since low [] h = tt
+withdrawn_kept t n last since low (k ∷ ks) h = filtered_step last since low k (withdrawn t n ks) (not (is_earlier t n k)) h.0 (withdrawn_kept t n last since k.serial ks h.1)
 
-less_by : (u : Transaction) (last since low s : ℕ) (k : Kept) (ks : List Kept) (b : Bool) → (s == k.serial) ≡ b → AreKept last since low (k ∷ ks) → is_among u (cond b (Some k) (found s ks)) ≡ true → s < last → (is_among u (found s ks) ≡ true → withdrawn u last (without s ks) ≡ withdrawn u last ks) → withdrawn u last (cond (not b) (k ∷ without s ks) (without s ks)) ≡ withdrawn u last (k ∷ ks)
-less_by u last since low s k ks true d h e l ind =
-    let eq : s ≡ k.serial = grind (arith, nat_tests) in
-    let a = apart last since k.serial s ks h.1 (omega (arith, eq)) in
-    rw (a.none, earlier_is u last k e (omega (arith, eq, l))) refl
-less_by u last since low s k ks false d h e l ind = ap (λ xs. cond (not (is_earlier u last k)) (k ∷ xs) xs) (ind e)
-
-pub withdrawn_less : (u : Transaction) (last since low s : ℕ) (ks : List Kept) → AreKept last since low ks → is_among u (found s ks) ≡ true → s < last → withdrawn u last (without s ks) ≡ withdrawn u last ks
-withdrawn_less u last since low s [] h e l = refl
-withdrawn_less u last since low s (k ∷ ks) h e l =
-    less_by u last since low s k ks (s == k.serial) refl h e l (λ f. withdrawn_less u last since k.serial s ks h.1 f l)
-
--- what is found is one of the list, so its serial is at most the last one
-pub found_within : (u : Transaction) (last since low s : ℕ) (ks : List Kept) → AreKept last since low ks → is_among u (found s ks) ≡ true → s ≤ last
-found_within u last since low s [] h e = cc e
-found_within u last since low s (k ∷ ks) h e = within_by u last since low s k ks (s == k.serial) refl h e (λ f. found_within u last since k.serial s ks h.1 f)
-  where
-    within_by : (u : Transaction) (last since low s : ℕ) (k : Kept) (ks : List Kept) (b : Bool) → (s == k.serial) ≡ b → AreKept last since low (k ∷ ks) → is_among u (cond b (Some k) (found s ks)) ≡ true → (is_among u (found s ks) ≡ true → s ≤ last) → s ≤ last
-    within_by u last since low s k ks true d h e ind = let b = h.0.below in grind (arith, nat_tests)
-    within_by u last since low s k ks false d h e ind = ind e
-
-absent : (last since low s : ℕ) (ks : List Kept) → AreKept last since low ks → s ≤ low → found s ks ≡ None
-absent last since low s [] h l = refl
-absent last since low s (k ∷ ks) h l =
-    let up = h.0.above in
-    let d : (s == k.serial) ≡ false = differs s k.serial (λ eq. absurd (omega (arith, eq, up, l))) in
-    rw d (absent last since k.serial s ks h.1 (omega (arith, up, l)))
-
-without_by : (k : Kept) (b : Bool) (xs ks : List Kept) → length xs ≤ length ks → length (cond (not b) (k ∷ xs) xs) ≤ length (k ∷ ks)
-without_by k true xs ks l = omega (arith, l)
-without_by k false xs ks l = omega (arith, l)
-
-without_few : (s : ℕ) (ks : List Kept) → length (without s ks) ≤ length ks
-without_few s [] = omega arith
-without_few s (k ∷ ks) = without_by k (s == k.serial) (without s ks) ks (without_few s ks)
-
-fewer_by : (u : Transaction) (s : ℕ) (k : Kept) (ks : List Kept) (b : Bool) → is_among u (cond b (Some k) (found s ks)) ≡ true → (is_among u (found s ks) ≡ true → length (without s ks) < length ks) → length (cond (not b) (k ∷ without s ks) (without s ks)) < length (k ∷ ks)
-fewer_by u s k ks true e ind = let l = without_few s ks in omega (arith, l)
-fewer_by u s k ks false e ind = let l = ind e in omega (arith, l)
-
-pub without_shorter : (u : Transaction) (s : ℕ) (ks : List Kept) → is_among u (found s ks) ≡ true → length (without s ks) < length ks
-without_shorter u s [] e = cc e
-without_shorter u s (k ∷ ks) e = fewer_by u s k ks (s == k.serial) e (λ f. without_shorter u s ks f)
-
--- none but the last one is of the transaction
-abbrev NoOther : Transaction → ℕ → List Kept → Type 0
-NoOther u last ks = (q : ℕ) → q ≢ last → is_among u (found q ks) ≡ false
-
-none_of : (u : Transaction) (last : ℕ) (k : Kept) (ks : List Kept) (b : Bool) → (k.serial == last) ≡ b → NoOther u last (k ∷ ks) → is_earlier u last k ≡ false
-none_of u last k ks true d h =
-    let n : nat_lt k.serial last ≡ false = grind (arith, nat_tests) in
-    and_false (belongs u k.sent) (nat_lt k.serial last) n
-none_of u last k ks false d h =
-    let ne : k.serial ≢ last = λ eq. absurd (grind (arith, nat_tests)) in
-    let e : (k.serial == k.serial) ≡ true = grind (arith, nat_tests) in
-    let b : belongs u k.sent ≡ false = sym (ap (λ c. is_among u (cond c (Some k) (found k.serial ks))) e) ∙ h k.serial ne in
-    rw b refl
-
-rest_by : (u : Transaction) (last since low q : ℕ) (k : Kept) (ks : List Kept) (b : Bool) → (q == k.serial) ≡ b → AreKept last since low (k ∷ ks) → is_among u (cond b (Some k) (found q ks)) ≡ false → is_among u (found q ks) ≡ false
-rest_by u last since low q k ks true d h e =
-    let n = absent last since k.serial q ks h.1 (grind (arith, nat_tests)) in
-    ap (is_among u) n
-rest_by u last since low q k ks false d h e = e
-
-pub withdrawn_all : (u : Transaction) (last since low : ℕ) (ks : List Kept) → AreKept last since low ks → NoOther u last ks → withdrawn u last ks ≡ ks
-withdrawn_all u last since low [] h e = refl
-withdrawn_all u last since low (k ∷ ks) h e =
-    rw (none_of u last k ks (k.serial == last) refl e) (ap (λ xs. k ∷ xs) (withdrawn_all u last since k.serial ks h.1 (λ q ne. rest_by u last since low q k ks (q == k.serial) refl h (e q ne))))
+pub sound_ruled : (begun : Option Transaction) (n last since : ℕ) (ks : List Kept) → AreKept last since 0 ks → AreKept last since 0 (by_bus_rule begun n ks)
+sound_ruled None n last since ks h = h
+sound_ruled (Some t) n last since ks h = withdrawn_kept t n last since 0 ks h
 
 -- ---- the delivered packet that is not recent any more
 ltb_of : (a b : ℕ) → a < b → nat_lt a b ≡ true

@@ -1,7 +1,7 @@
-ghost use Rattle.std.specs.Prelude.{◌≡◌, ◌≢◌, ℕ, ◌<◌, ◌+◌, ◌-◌, ◌==◌, ◌&&◌, Some, length, slice_index_or, IfSome, IfNone, OnOk, OnErr};
+ghost use Rattle.std.specs.Prelude.{◌≡◌, ◌≢◌, ℕ, ◌<◌, ◌+◌, ◌-◌, ◌==◌, ◌&&◌, length, slice_index_or, IfSome, IfNone, IfOk, OnOk, OnErr};
 ghost use Rattle.packet_store.specs.declared.transaction.Transaction.{Transaction};
-ghost use Rattle.packet_store.specs.Transactions.{is_same, is_that};
-ghost use Rattle.packet_store.specs.Bags.{AreFull, count_of, one_if, times};
+ghost use Rattle.packet_store.specs.Transactions.{is_that};
+ghost use Rattle.packet_store.specs.Bags.{AreFull, Inserts, begun_if, count_of, one_if, times};
 
 use crate::transaction::Transaction;
 use sbp_base::NoMemory;
@@ -10,7 +10,7 @@ use std::alloc::Global;
 use std::collections::HashMap;
 
 /// The keys of packets by their transactions: in no order, each as often as it was added. Three stand in
-/// place, as those of a request, its response and the request behind them. The spots are where the keys
+/// place, as those of a request, its response and one that is sent again. The spots are where the keys
 /// were put in their bags: each is looked at before it is used.
 #[derive(Drop)]
 pub(crate) struct Bags {
@@ -33,28 +33,33 @@ impl Bags {
         }
     }
 
-    /// Adds a key under a transaction, if there is one.
+    /// Adds a key under a transaction, if there is one. Where it begins the transaction, the keys before it
+    /// leave their bag, and are what is given.
     #[tactic(auto, unfolding(crate::specs::Bags::times))]
     pub(crate) fn insert(
         &mut self,
         transaction: Option<Transaction>,
         key: usize,
-    ) -> Result<(), NoMemory>
+        begins: bool,
+    ) -> Result<SmallVec<usize, 3>, NoMemory>
         requires { AreFull self.old }
-        ensures added { OnOk result ((t : Transaction) (k : ℕ) → times self.new t k ≡ one_if (is_that t transaction && (key == k)) + times self.old t k) }
+        ensures inserted { IfOk result (λ gone. Inserts (times self.old) (times self.new) transaction (begun_if begins transaction) key gone.items) }
         ensures failed { OnErr result ((t : Transaction) (k : ℕ) → times self.new t k ≡ times self.old t k) }
         ensures full { AreFull self.new }
     {
+        let gone = SmallVec::new(self.alloc);
         let Some(transaction) = transaction else {
-            return Ok(());
+            return Ok(gone);
         };
-        if let Some(bag) = self.bags.get_mut(&transaction) {
-            return add_to(bag, key, &mut self.spots);
+        if !begins {
+            if let Some(bag) = self.bags.get_mut(&transaction) {
+                add_to(bag, key, &mut self.spots)?;
+                return Ok(gone);
+            }
         }
         let mut bag = SmallVec::new(self.alloc);
         add_to(&mut bag, key, &mut self.spots)?;
-        self.bags.insert(transaction, bag)?;
-        Ok(())
+        Ok(self.bags.insert(transaction, bag)?.unwrap_or(gone))
     }
 
     /// Takes a key out from under a transaction, if there is one, and the bag with its last key.
@@ -74,27 +79,6 @@ impl Bags {
         if bag.is_empty() {
             self.bags.remove(&transaction);
         }
-    }
-
-    /// Takes out a key of a transaction other than one, if there is one, and the bag with its last key.
-    #[tactic(auto, unfolding(crate::specs::Bags::times))]
-    pub(crate) fn take_other(&mut self, of: &Transaction, except: Option<usize>) -> Option<usize>
-        requires { AreFull self.old }
-        ensures found { IfSome result (λ k. (0 < times self.old of.now k) × (except ≢ Some k)) }
-        ensures less { IfSome result (λ key. (t : Transaction) (k : ℕ) → times self.new t k ≡ times self.old t k - one_if (is_same of.now t && (key == k))) }
-        ensures none { IfNone result ((k : ℕ) → 0 < times self.old of.now k → except ≡ Some k) }
-        ensures same { IfNone result ((t : Transaction) (k : ℕ) → times self.new t k ≡ times self.old t k) }
-        ensures full { AreFull self.new }
-    {
-        let bag = self.bags.get_mut(of)?;
-        let Some(key) = other_of(bag.as_slice(), except) else {
-            return None;
-        };
-        take_out(bag, key, &mut self.spots);
-        if bag.is_empty() {
-            self.bags.remove(of);
-        }
-        Some(key)
     }
 }
 
@@ -150,17 +134,4 @@ fn note(spots: &mut Vec<usize>, key: usize, spot: usize) -> Result<(), NoMemory>
     }
     spots[key] = spot;
     Ok(())
-}
-
-/// The first key of a bag other than one.
-#[tactic(auto, using(crate::proofs::Bagged::other_here, crate::proofs::Bagged::other_later, crate::proofs::Bagged::no_other))]
-fn other_of(bag: &[usize], except: Option<usize>) -> Option<usize>
-    ensures found { IfSome result (λ k. (0 < count_of k bag.now) × (except ≢ Some k)) }
-    ensures none { IfNone result ((k : ℕ) → 0 < count_of k bag.now → except ≡ Some k) }
-{
-    let (key, rest) = bag.split_first()?;
-    if except != Some(*key) {
-        return Some(*key);
-    }
-    other_of(rest, except)
 }

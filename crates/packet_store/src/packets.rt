@@ -1,9 +1,12 @@
-ghost use Rattle.std.specs.Prelude.{◌≡◌, ◌≢◌, ℕ, ◌^◌, ◌<◌, ◌≤◌, ◌==◌, if◌then◌else◌, false, true, None, Some, OnOk, OnErr, IfSome, IfNone};
+ghost use Rattle.std.specs.Prelude.{◌≡◌, ℕ, ◌^◌, ◌<◌, ◌≤◌, ◌==◌, ◌++◌, ◌∷◌, [], if◌then◌else◌, false, List, Option, None, Some, IfOk, OnOk, OnErr, IfSome, IfNone};
 ghost use Rattle.std.specs.Option.{option_copied};
 ghost use Rattle.packet_store.specs.Kept.{in_air, marked};
 ghost use Rattle.packet_store.specs.Flights.{IsNext};
-ghost use Rattle.packet_store.specs.Packets.{Exact, holds, is_among, key_in};
-ghost use Rattle.packet_store.specs.Rings.{finds};
+ghost use Rattle.packet_store.specs.Packets.{Exact, Goes, IsGoing, holds, key_in};
+ghost use Rattle.packet_store.specs.Bags.{begun_if};
+ghost use Rattle.packet_store.specs.declared.sent.Kept.{Kept};
+ghost use Rattle.packet_store.specs.declared.transaction.Transaction.{Transaction};
+ghost use Rattle.packet_store.specs.Rings.{IsRing, finds};
 ghost use Rattle.packet_store.specs.Transactions.{transaction_of};
 
 use crate::bags::Bags;
@@ -12,6 +15,7 @@ use crate::sent::Kept;
 use crate::transaction::Transaction;
 use sbp_base::NoMemory;
 use slab::Slab;
+use smallvec::SmallVec;
 use std::alloc::Global;
 
 /// Packets in a slab, and beside it its keys: by serial in a ring, by transaction in bags.
@@ -68,18 +72,21 @@ impl Packets {
         None
     }
 
-    /// Puts a packet, which belongs to this transaction, under its serial.
+    /// Puts a packet, which belongs to this transaction, under its serial. Where it begins the
+    /// transaction, the keys of the packets before it are given, which have to leave.
     pub(crate) fn put(
         &mut self,
         kept: Kept,
         transaction: Option<Transaction>,
-    ) -> Result<(), NoMemory>
+        begins: bool,
+    ) -> Result<SmallVec<usize, 3>, NoMemory>
         requires exact { Exact self.old }
         requires fresh { holds self.old kept.serial ≡ None }
         requires named { transaction ≡ transaction_of kept.sent }
         ensures put { OnOk result ((q : ℕ) → holds self.new q ≡ (if kept.serial == q then Some kept else holds self.old q)) }
         ensures failed { OnErr result ((q : ℕ) → holds self.new q ≡ holds self.old q) }
-        ensures exact { Exact self.new }
+        ensures exact { OnErr result (Exact self.new) }
+        ensures going { IfOk result (λ gone. IsGoing self.new (begun_if begins transaction) gone.items kept.serial) }
         ensures fits { kept.serial < 2 ^ 64 }
     {
         let serial = kept.serial;
@@ -90,12 +97,16 @@ impl Packets {
             key,
             transaction,
         })?;
-        if let Err(error) = self.bags.insert(transaction, key) {
-            self.ring.take(serial);
-            return Err(error);
+        match self.bags.insert(transaction, key, begins) {
+            Ok(gone) => {
+                self.slab.insert_reserved(kept);
+                Ok(gone)
+            }
+            Err(error) => {
+                self.ring.take(serial);
+                Err(error)
+            }
         }
-        self.slab.insert_reserved(kept);
-        Ok(())
     }
 
     /// Takes out the packet of a serial.
@@ -129,17 +140,12 @@ impl Packets {
         false
     }
 
-    /// Takes out a packet of a transaction under another serial than one, if there is one.
-    pub(crate) fn take_other(&mut self, transaction: &Transaction, serial: u64) -> Option<Kept>
-        requires { Exact self.old }
-        ensures found { IfSome result (λ k. (is_among transaction.now (holds self.old k.serial) ≡ true) × ((k.serial ≢ serial) × (holds self.old k.serial ≡ Some k))) }
-        ensures removed { IfSome result (λ k. (q : ℕ) → holds self.new q ≡ (if k.serial == q then None else holds self.old q)) }
-        ensures none { IfNone result ((q : ℕ) → q ≢ serial → is_among transaction.now (holds self.old q) ≡ false) }
-        ensures same { IfNone result ((q : ℕ) → holds self.new q ≡ holds self.old q) }
-        ensures exact { Exact self.new }
+    /// Takes out the packet of the last one of the keys that have to leave.
+    pub(crate) fn take_going(&mut self, key: usize) -> Option<Kept>
+        requires { IsRing self.old.ring }
+        ensures some { (begun : Option Transaction) (gone : List ℕ) (serial : ℕ) → IsGoing self.old begun (gone ++ key ∷ []) serial → (k : Kept) × (result ≡ Some k) }
+        ensures goes { IfSome result (λ k. (begun : Option Transaction) (gone : List ℕ) (serial : ℕ) → IsGoing self.old begun (gone ++ key ∷ []) serial → Goes self.old self.new begun gone serial k) }
     {
-        let except = self.key_of(serial);
-        let key = self.bags.take_other(transaction, except)?;
         let kept = self.slab.try_remove(key)?;
         self.ring.take(kept.serial);
         Some(kept)

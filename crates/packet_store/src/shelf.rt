@@ -1,10 +1,10 @@
-ghost use Rattle.std.specs.Prelude.{◌≡◌, ◌≢◌, ℕ, ◌<◌, ◌≤◌, ◌++◌, [], ◌∷◌, length, false, true, OnOk, OnErr, IfSome, IfNone};
+ghost use Rattle.std.specs.Prelude.{◌≡◌, ◌<◌, ◌≤◌, ◌++◌, [], ◌∷◌, length, OnOk, OnErr};
 ghost use Rattle.std.specs.Option.{option_copied};
 ghost use Rattle.packet_store.specs.Kept.{without, with_delivered, found, flying, in_air, AreBelow};
 ghost use Rattle.packet_store.specs.Flights.{Least};
-ghost use Rattle.packet_store.specs.Packets.{is_among};
+ghost use Rattle.packet_store.specs.Bags.{begun_if};
 ghost use Rattle.packet_store.specs.Transactions.{transaction_of};
-ghost use Rattle.packet_store.specs.Stored.{newest};
+ghost use Rattle.packet_store.specs.Stored.{by_bus_rule, newest};
 
 use crate::aloft::Flights;
 use crate::packets::Packets;
@@ -28,7 +28,7 @@ pub(crate) struct Shelf {
 impl Model for Shelf {
     ghost use Rattle.std.specs.Prelude.{◌≤◌, List, length};
     ghost use Rattle.packet_store.specs.declared.sent.Kept.{Kept};
-    ghost use Rattle.packet_store.specs.Packets.{holds};
+    ghost use Rattle.packet_store.specs.Packets.{Exact, holds};
     ghost use Rattle.packet_store.specs.Shelves.{listed, IsShelf};
     ghost use Rattle.packet_store.specs.Flights.{AreFlights};
 
@@ -36,7 +36,7 @@ impl Model for Shelf {
 
     ghost view = { λ a. listed (holds a.packets) a.last };
 
-    ghost invariant = { λ a. IsShelf a.packets a.last a.count × AreFlights a.packets a.last a.flights × (length a.spares.items ≤ 16) };
+    ghost invariant = { λ a. IsShelf a.packets a.last a.count × AreFlights a.packets a.last a.flights × (length a.spares.items ≤ 16) × Exact a.packets };
 }
 
 impl Shelf {
@@ -92,17 +92,18 @@ impl Shelf {
     }
 
     /// Puts a packet, which belongs to this transaction, in flight under a new serial, from 1 on, behind
-    /// all others.
+    /// all others. Where it begins the transaction, the packets before it are withdrawn.
     pub(crate) fn push(
         &mut self,
         serial: u64,
         sent: Sent,
         transaction: Option<Transaction>,
+        begins: bool,
     ) -> Result<(), NoMemory>
         requires named { transaction ≡ transaction_of sent }
         requires counted { 0 < serial }
         requires above { AreBelow serial self.old }
-        ensures pushed { OnOk result (self.new ≡ self.old ++ newest serial sent ∷ []) }
+        ensures pushed { OnOk result (self.new ≡ by_bus_rule (begun_if begins transaction) serial (self.old ++ newest serial sent ∷ [])) }
         ensures failed { OnErr result (self.new ≡ self.old) }
     {
         let kept = Kept {
@@ -110,10 +111,20 @@ impl Shelf {
             in_flight: true,
             sent,
         };
-        self.packets.put(kept, transaction)?;
+        let mut going = self.packets.put(kept, transaction, begins)?;
         self.last = serial;
         self.count += 1;
         self.flights.take_off(serial);
+        while let Some(key) = going.pop() {
+            if let Some(kept) = self.packets.take_going(key) {
+                self.count -= 1;
+                let (gone, flew) = (kept.serial, kept.in_flight);
+                set_aside(&mut self.spares, kept.sent.bytes);
+                if flew {
+                    self.flights.land(&self.packets, gone, serial);
+                }
+            }
+        }
         Ok(())
     }
 
@@ -129,22 +140,6 @@ impl Shelf {
                 self.flights.land(&self.packets, serial, self.last);
             }
         }
-    }
-
-    /// Takes out a packet of a transaction under another serial than one, if there is one; its serial.
-    pub(crate) fn remove_other(&mut self, transaction: &Transaction, serial: u64) -> Option<u64>
-        ensures removed { IfSome result (λ s. (is_among transaction.now (found s self.old) ≡ true) × ((s ≢ serial) × (self.new ≡ without s self.old))) }
-        ensures none { IfNone result ((q : ℕ) → q ≢ serial → is_among transaction.now (found q self.old) ≡ false) }
-        ensures same { IfNone result (self.new ≡ self.old) }
-    {
-        let kept = self.packets.take_other(transaction, serial)?;
-        self.count -= 1;
-        let (gone, flew) = (kept.serial, kept.in_flight);
-        set_aside(&mut self.spares, kept.sent.bytes);
-        if flew {
-            self.flights.land(&self.packets, gone, self.last);
-        }
-        Some(gone)
     }
 
     /// Bytes of a packet that was taken out, if there are any, for their room.

@@ -54,12 +54,8 @@ impl Store {
     {
         let role = role_of(packet.bytes.as_slice());
         let transaction = transaction_of(role, &packet);
-        self.tables.add(packet, transaction)?;
-        if let Role::Request(_) = role {
-            if let Some(transaction) = transaction {
-                self.tables.withdraw(transaction);
-            }
-        }
+        let begins = matches!(role, Role::Request(_));
+        self.tables.add(packet, transaction, begins)?;
         self.tables.drop_aged();
         self.calls += 1;
         Ok(self.tables.last)

@@ -1,9 +1,10 @@
 ghost use Rattle.std.specs.Prelude.{◌≡◌, ℕ, ◌+◌, ◌-◌, ◌^◌, ◌<◌, ◌++◌, [], ◌∷◌, OnOk, OnErr};
 ghost use Rattle.std.specs.List.{filter};
 ghost use Rattle.packet_store.specs.Transactions.{transaction_of};
-ghost use Rattle.packet_store.specs.Stored.{newest, stays};
+ghost use Rattle.packet_store.specs.Bags.{begun_if};
+ghost use Rattle.packet_store.specs.Stored.{by_bus_rule, newest, stays};
 ghost use Rattle.packet_store.specs.Kept.{without, with_delivered, found, is_delivered};
-ghost use Rattle.packet_store.specs.Sound.{AreKept, withdrawn};
+ghost use Rattle.packet_store.specs.Sound.{AreKept};
 
 use crate::sent::Sent;
 use crate::shelf::Shelf;
@@ -50,33 +51,25 @@ impl Tables {
         self.shelf.remove(serial);
     }
 
-    /// Withdraws each packet of a transaction that was sent before the last one.
-    pub(crate) fn withdraw(&mut self, transaction: Transaction)
-        requires { AreKept self.old.last (self.old.last - 1025) 0 self.old.shelf }
-        ensures shelf { self.new.shelf ≡ withdrawn transaction self.old.last self.old.shelf }
-        ensures last { self.new.last ≡ self.old.last }
-        ensures sound { AreKept self.new.last (self.new.last - 1025) 0 self.new.shelf }
-    {
-        while let Some(_serial) = self.shelf.remove_other(&transaction, self.last) {}
-    }
-
-    /// Puts a packet, which belongs to this transaction, in flight under the next serial.
+    /// Puts a packet, which belongs to this transaction, in flight under the next serial. Where it begins
+    /// the transaction, the packets before it are withdrawn.
     pub(crate) fn add(
         &mut self,
         sent: Sent,
         transaction: Option<Transaction>,
+        begins: bool,
     ) -> Result<(), NoMemory>
         requires room { self.old.last < 2 ^ 63 }
         requires named { transaction ≡ transaction_of sent }
         requires sound { AreKept self.old.last (self.old.last - 1024) 0 self.old.shelf }
-        ensures added { OnOk result (self.new.shelf ≡ self.old.shelf ++ newest (self.old.last + 1) sent ∷ []) }
+        ensures added { OnOk result (self.new.shelf ≡ by_bus_rule (begun_if begins transaction) (self.old.last + 1) (self.old.shelf ++ newest (self.old.last + 1) sent ∷ [])) }
         ensures failed { OnErr result (self.new.shelf ≡ self.old.shelf) }
         ensures last { OnOk result (self.new.last ≡ self.old.last + 1) }
         ensures no_last { OnErr result (self.new.last ≡ self.old.last) }
         ensures sound { AreKept self.new.last (self.old.last - 1024) 0 self.new.shelf }
     {
         let serial = self.last + 1;
-        self.shelf.push(serial, sent, transaction)?;
+        self.shelf.push(serial, sent, transaction, begins)?;
         self.last = serial;
         Ok(())
     }

@@ -17,10 +17,11 @@ invariant_of-self c =
     let s = c.self.inside in
     let i = c.self.invariant.0 in
     let l = landed_marked c.args.serial (holds s.packets) (holds c.deliver-flew.new.self) c.deliver-flew.ensures.marked in (
-      delivered_shelf s.packets c.deliver-flew.new.self c.args.serial s.last s.count i c.deliver-flew.ensures.exact c.deliver-flew.ensures.marked,
+      delivered_shelf s.packets c.deliver-flew.new.self c.args.serial s.last s.count i c.deliver-flew.ensures.marked,
       landed_flights s.packets c.deliver-flew.new.self c.args.serial s.last s.count s.flights c.land.new.self i c.self.invariant.1 l (sym c.deliver-flew.ensures.flew ∙ c.if-flew.true) c.land.ensures.count
           (c.land.ensures.lowest (holds s.packets) l (none_above s.packets s.last s.count i) c.self.invariant.1.lowest),
       c.self.invariant.2,
+      c.deliver-flew.ensures.exact,
     )
 
 pub invariant_of-self-else-flew : goal.invariant_of-self-else-flew
@@ -28,9 +29,10 @@ invariant_of-self-else-flew c =
     let s = c.self.inside in
     let i = c.self.invariant.0 in
     let l = landed_marked c.args.serial (holds s.packets) (holds c.deliver-flew.new.self) c.deliver-flew.ensures.marked in (
-      delivered_shelf s.packets c.deliver-flew.new.self c.args.serial s.last s.count i c.deliver-flew.ensures.exact c.deliver-flew.ensures.marked,
+      delivered_shelf s.packets c.deliver-flew.new.self c.args.serial s.last s.count i c.deliver-flew.ensures.marked,
       still_flights s.packets c.deliver-flew.new.self c.args.serial s.last s.flights c.self.invariant.1 l (sym c.deliver-flew.ensures.flew ∙ c.if-flew.false),
       c.self.invariant.2,
+      c.deliver-flew.ensures.exact,
     )
 
 pub returns-then-flew : goal.returns-then-flew

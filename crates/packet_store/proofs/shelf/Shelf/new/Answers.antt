@@ -5,7 +5,6 @@ pub invariant_of-result : goal.invariant_of-result
 invariant_of-result c =
     let none = c.new.ensures.none in (
       record {
-        exact = c.new.ensures.exact;
         named = λ q k h. let e : None ≡ Some k = sym (none q) ∙ h in cc e;
         first = none 0;
         ends = λ q l. none q;
@@ -13,4 +12,5 @@ invariant_of-result c =
       },
       record { lowest = λ q. rw (none q) refl; counted = refl },
       omega arith,
+      c.new.ensures.exact,
     )

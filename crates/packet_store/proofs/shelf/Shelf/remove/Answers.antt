@@ -25,10 +25,11 @@ invariant_of-self c =
     let i = c.self.invariant.0 in
     let here = sym c.take.ensures.taken ∙ c.in-Some.is in
     let l = landed_less c.args.serial (holds s.packets) (holds c.take.new.self) c.take.ensures.removed in (
-      removed_shelf s.packets c.take.new.self c.args.serial s.last s.count c.in-Some.kept i c.take.ensures.exact c.take.ensures.removed here,
+      removed_shelf s.packets c.take.new.self c.args.serial s.last s.count c.in-Some.kept i c.take.ensures.removed here,
       landed_flights s.packets c.take.new.self c.args.serial s.last s.count s.flights c.land.new.self i c.self.invariant.1 l (ap in_air here ∙ c.if-flew.true) c.land.ensures.count
           (c.land.ensures.lowest (holds s.packets) l (none_above s.packets s.last s.count i) c.self.invariant.1.lowest),
       c.set_aside.ensures c.self.invariant.2,
+      c.take.ensures.exact,
     )
 
 pub invariant_of-self-else-flew : goal.invariant_of-self-else-flew
@@ -37,9 +38,10 @@ invariant_of-self-else-flew c =
     let i = c.self.invariant.0 in
     let here = sym c.take.ensures.taken ∙ c.in-Some.is in
     let l = landed_less c.args.serial (holds s.packets) (holds c.take.new.self) c.take.ensures.removed in (
-      removed_shelf s.packets c.take.new.self c.args.serial s.last s.count c.in-Some.kept i c.take.ensures.exact c.take.ensures.removed here,
+      removed_shelf s.packets c.take.new.self c.args.serial s.last s.count c.in-Some.kept i c.take.ensures.removed here,
       still_flights s.packets c.take.new.self c.args.serial s.last s.flights c.self.invariant.1 l (ap in_air here ∙ c.if-flew.false),
       c.set_aside.ensures c.self.invariant.2,
+      c.take.ensures.exact,
     )
 
 pub returns-then-flew : goal.returns-then-flew
@@ -58,9 +60,10 @@ pub invariant_of-self-in_default : goal.invariant_of-self-in_default
 invariant_of-self-in_default c =
     let s = c.self.inside in
     let same = gone_already (holds s.packets) (holds c.take.new.self) c.args.serial (sym c.take.ensures.taken ∙ c.in_default.is) c.take.ensures.removed in (
-      same_shelf s.packets c.take.new.self s.last s.count c.self.invariant.0 c.take.ensures.exact same,
+      same_shelf s.packets c.take.new.self s.last s.count c.self.invariant.0 same,
       same_flights s.packets c.take.new.self s.last s.flights c.self.invariant.1 same,
       c.self.invariant.2,
+      c.take.ensures.exact,
     )
 
 pub returns-in_default : goal.returns-in_default
