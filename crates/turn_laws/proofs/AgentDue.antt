@@ -1,5 +1,5 @@
 -- The deaths and ends of an agent's turn are due, where the turn's step at the target and at the terms is one: the notes name whom and what the laws name, and the first request finds a label by both.
-use Rattle.std.proofs.Common.{arith, ◌≡◌, ◌∙◌, refl, sym, ap, subst, ℕ, suc, is_some, Bool, true, false, cond, List, ◌∷◌, Option, Some, None}
+use Rattle.std.proofs.Common.{arith, ◌≡◌, ◌∙◌, refl, sym, ap, subst, ℕ, suc, is_some, Bool, true, false, cond, List, [], ◌∷◌, Option, Some, None}
 use Rattle.bus_transactions.specs.Fitting.{FitsRequest}
 use Rattle.label_table.specs.Bodies.{Body}
 use Rattle.label_table.specs.Layer.{Layer}
@@ -9,9 +9,11 @@ use Rattle.command_agent.specs.Machine.{Machine, has_present}
 use Rattle.command_agent.specs.declared.phase.Phase.{Phase}
 use Rattle.command_agent.specs.declared.phase.Phase.TheVariants as phases
 use Rattle.command_agent.specs.declared.step.AgentStep.{AgentStep}
+use Rattle.command_agent.specs.Steps.{quiet}
 use Rattle.rbc_disk.specs.Disk.{Disk}
 use Rattle.sbp_bus.specs.declared.places.Holder.{Holder}
-use Rattle.sbp_laws.specs.Agents.{AgentTurn, agent_notes_for, body_of, fifo_in, list_taken, wire_after, wire_before}
+use Rattle.sbp_laws.specs.Agents.{AgentTurn, agent_event, agent_notes_for, agent_turn, body_of, fifo_in, finds_first, list_taken, nothing, target_before, wire_after, wire_before}
+use Rattle.sbp_laws.specs.Deaths.{ends_by, ends_due}
 use Rattle.sbp_laws.specs.Lists.{Orb, named}
 use Rattle.sbp_laws.specs.NoteKinds.{is_end_note, of_kind}
 use Rattle.sbp_laws.specs.Packets.{finds_label}
@@ -29,7 +31,8 @@ use Rattle.turn_laws.proofs.StepLabels.{finds_in, same_found}
 use Rattle.turn_laws.proofs.EndFound.{body_same, ends_tried}
 use Rattle.turn_laws.proofs.EndNotes.{brought_noted, ends_noted}
 use Rattle.turn_laws.proofs.EndShapes.{IsShapedStep}
-use Rattle.turn_laws.proofs.EndTries.{brought, brought_notes, brought_sides, found_by}
+use Rattle.turn_laws.proofs.EndSizes.{IsSizedBy}
+use Rattle.turn_laws.proofs.EndTries.{brought, brought_notes, brought_sides, found_by, notes_tried}
 
 -- an ORB that is there is that of a list
 listed : (phase : Phase) → has_present phase ≡ true → has_list phase ≡ true
@@ -52,6 +55,8 @@ pub record IsTurnOf (start : List Disk) (T : Target) (t : Turn) (a : AgentTurn) 
   pub carried : Carries step.ask m.outgoing
   pub fits : IfBody (agent_body step.ask (is_some step.ended) login.fifo m.outgoing)
   pub fifo : fifo_in (login_at T a.place) ≡ login.fifo
+  pub law_sized : IsSizedBy a.step.ended a.step.ask a.machine.outgoing
+  pub sized : IsSizedBy step.ended step.ask m.outgoing
   pub finds : (body : Body) → FitsRequest body → finds_in a.place layer login body ≡ finds_label (wire_after t) 0 (suc (initiator_at T (wire_before t) a.place)) body
   pub holders : ℕ → Holder
   pub tickets : ℕ → ℕ → Option TicketParts
@@ -64,16 +69,16 @@ module _ (start : List Disk) (T : Target) (t : Turn) (a : AgentTurn) (step : Age
   abbrev q : ℕ
   q = a.place
 
-  abbrev i : ℕ
+  abbrev pub i : ℕ
   i = initiator_at T (wire_before t) q
 
-  abbrev list : Option ℕ
+  abbrev pub list : Option ℕ
   list = list_taken start (t.start ∷ t.past) q
 
-  abbrev found : Bool
+  abbrev pub found : Bool
   found = found_at q layer login step m
 
-  abbrev own : Option Body
+  abbrev pub own : Option Body
   own = body_of step.ask m step.ended (fifo_in (login_at T q))
 
   own_is : agent_body step.ask (is_some step.ended) login.fifo m.outgoing ≡ own
@@ -82,21 +87,21 @@ module _ (start : List Disk) (T : Target) (t : Turn) (a : AgentTurn) (step : Age
   of_own : (body : Body) → own ≡ Some body → FitsRequest body
   of_own body e = subst IfBody (own_is ∙ e) h.fits
 
-  found_is : found ≡ found_by (finds_in q layer login) own
+  pub found_is : found ≡ found_by (finds_in q layer login) own
   found_is = ap (found_by (finds_in q layer login)) own_is
 
-  law_found : found_by (finds_label (wire_after t) 0 (suc i)) own ≡ found
+  pub law_found : found_by (finds_label (wire_after t) 0 (suc i)) own ≡ found
   law_found = sym (found_is ∙ same_found (finds_in q layer login) (finds_label (wire_after t) 0 (suc i)) own (λ body e. h.finds body (of_own body e)))
 
   -- the name of its ORB
-  abbrev one : Option Orb
+  abbrev pub one : Option Orb
   one = name_in (h.tickets q (orb_of m))
 
   named_alike : has_present m.phase ≡ true → named t.past i a.machine.present ≡ one
   named_alike e =
       ap (named t.past i) (h.alike.present (listed m.phase e) ∙ sym (ap (λ b. or_zero (cond b (Some m.present) None)) e)) ∙ sym (h.names (orb_of m))
 
-  told_is : of_kind is_end_note t.rest ≡ brought_notes i list one (brought found step m.phase)
+  pub told_is : of_kind is_end_note t.rest ≡ brought_notes i list one (brought found step m.phase)
   told_is =
       let b = brought found step m.phase in
       h.told ∙ (brought_noted h.holders h.tickets q m b
@@ -104,3 +109,45 @@ module _ (start : List Disk) (T : Target) (t : Turn) (a : AgentTurn) (step : Age
 
   pub agent_due : of_kind is_end_note t.rest ≡ agent_notes_for start T t a
   agent_due = ends_tried T t a step m h.step_is h.alike h.shaped found list one told_is (finds_in q layer login) (named t.past i a.machine.present) found_is law_found named_alike
+
+-- ---- what a turn tells: of an agent by its step at the target, or of one that does nothing
+pub data HasTurn (start : List Disk) (T : Target) (t : Turn) (a : AgentTurn) : Type 0 where
+  has_steps : (step : AgentStep) (m : Machine) (login : Login) (layer : Layer Purpose) → IsTurnOf start T t a step m login layer → HasTurn start T t a
+  has_rest : a.step ≡ quiet → of_kind is_end_note t.rest ≡ [] → HasTurn start T t a
+
+-- and nothing where it is for no agent
+abbrev pub TellsFor : List Disk → Target → Turn → Option AgentTurn → Type 0
+TellsFor start T t None = of_kind is_end_note t.rest ≡ []
+TellsFor start T t (Some a) = HasTurn start T t a
+
+abbrev pub turn_in : List Disk → Turn → Option AgentTurn
+turn_in start t = agent_turn (agent_event start t) (target_before start t) (wire_before t) t.rest
+
+abbrev pub TellsEnds : List Disk → Turn → Type 0
+TellsEnds start t = TellsFor start (target_before start t) t (turn_in start t)
+
+pub turn_tells : (start : List Disk) (t : Turn) (x : Option AgentTurn) → turn_in start t ≡ x → TellsFor start (target_before start t) t x → TellsEnds start t
+turn_tells start t x e h = subst (TellsFor start (target_before start t) t) (sym e) h
+
+pub none_tells : (start : List Disk) (t : Turn) → agent_event start t ≡ nothing → of_kind is_end_note t.rest ≡ [] → TellsEnds start t
+none_tells start t e h = turn_tells start t None (ap (λ x. agent_turn x (target_before start t) (wire_before t) t.rest) e) h
+
+-- so its deaths and ends are due
+module _ (start : List Disk) (T : Target) (t : Turn) (a : AgentTurn) where
+  resting : a.step ≡ quiet → agent_notes_for start T t a ≡ []
+  resting e =
+      let i = initiator_at T (wire_before t) a.place in
+      let fifo = fifo_in (login_at T a.place) in
+      let list = list_taken start (t.start ∷ t.past) a.place in
+      let one = named t.past i a.machine.present in
+      let finds = finds_first T t a in
+      notes_tried finds (finds_label (wire_after t) 0 (suc i)) fifo i list one a.step a.machine (body_of a.step.ask a.machine a.step.ended fifo)
+      ∙ ap (λ step. brought_notes i list one (brought (found_by finds (body_of step.ask a.machine step.ended fifo)) step a.machine.phase)) e
+
+ends_for : (start : List Disk) (T : Target) (t : Turn) (x : Option AgentTurn) → TellsFor start T t x → of_kind is_end_note t.rest ≡ ends_by start T t x
+ends_for start T t None h = h
+ends_for start T t (Some a) (has_steps step m login layer h) = agent_due start T t a step m login layer h
+ends_for start T t (Some a) (has_rest e none) = none ∙ sym (resting start T t a e)
+
+pub ends_told : (start : List Disk) (t : Turn) → TellsEnds start t → of_kind is_end_note t.rest ≡ ends_due start t
+ends_told start t h = ends_for start (target_before start t) t (turn_in start t) h

@@ -27,7 +27,7 @@ use Rattle.sbp_journal.specs.declared.note.Note.{Note}
 use Rattle.sbp_journal.specs.declared.note.Note.TheVariants as notes
 use Rattle.sbp_journal.specs.declared.side.Side.{Side}
 use Rattle.sbp_journal.specs.declared.side.Side.TheVariants as sides
-use Rattle.sbp_laws.specs.Agents.{AgentTurn, agent_notes_for, list_taken}
+use Rattle.sbp_laws.specs.Agents.{AgentTurn, list_taken}
 use Rattle.sbp_laws.specs.Lists.{list_in, named}
 use Rattle.sbp_laws.specs.NoteKinds.{is_end_note, of_kind}
 use Rattle.sbp_laws.specs.Packets.{finds_label}
@@ -45,7 +45,7 @@ use Rattle.sbp_world.specs.Telling.{holder, ticket_at, told}
 use Rattle.sbp_world.specs.Worlds.{Scene, WorldState}
 use Rattle.sbp_world.proofs.Agents.Management.Still.{hist}
 use Rattle.sbp_world.proofs.FitTarget.Agents.{FitsAsk}
-use Rattle.turn_laws.proofs.AgentDue.{IsTurnOf, agent_due}
+use Rattle.turn_laws.proofs.AgentDue.{HasTurn, IsTurnOf, has_rest, has_steps}
 use Rattle.turn_laws.proofs.AgentEnds.{Tells, asked_tells, found_at}
 use Rattle.turn_laws.proofs.AgentHere.{fifo_is, good, holder_is, initiator_is, names_are}
 use Rattle.bus_transactions.specs.Fitting.{FitsRequest}
@@ -68,6 +68,7 @@ use Rattle.turn_laws.proofs.AgentHere.{small_fifo}
 use Rattle.turn_laws.proofs.StepLabels.{finds_in}
 use Rattle.turn_laws.proofs.EndNotes.{beside_handed, ends_noted, opened_handed}
 use Rattle.turn_laws.proofs.EndShapes.{IsShapedStep}
+use Rattle.turn_laws.proofs.EndSizes.{IsNoWrite, IsSizedBy, no_write_sized}
 use Rattle.turn_laws.proofs.EndTries.{brought, brought_sides}
 use Rattle.turn_laws.proofs.FollowEnds.{ends_in}
 use Rattle.turn_laws.proofs.FollowSides.{AreBeside}
@@ -162,7 +163,7 @@ module _ (units ready : ℕ) (has : 0 < units) (start : List Disk) (past : List 
   body_fits : (ask : Ask) (m : Machine) → FitsAsk ask → FitsAgent m → IfBody (agent_body ask false login.fifo m.outgoing)
   body_fits ask m f g = agent_body_fits ask false login.fifo m.outgoing f (small_fifo units ready has start past s here q login served.is served.live) g.outgoing
 
-  module _ (rest : List Note) (ask : Ask) (m : Machine) (law_ask : Ask) (law_machine : Machine) (ask_is : law_ask ≡ ask) (alike : Alike A.untold law_machine m) (shaped : IsShapedStep (asks ask, m)) (carried : Carries ask m.outgoing) (fits_ask : FitsAsk ask) (fits_agent : FitsAgent m) (H : ℕ → Holder) (K : ℕ → ℕ → Option TicketParts) (told_is : of_kind is_end_note rest ≡ ends_noted H K (brought_sides q m (brought (found_at q answered_layer login (asks ask) m) (asks ask) m.phase))) (initiator : (H q).initiator ≡ (holder w q).initiator) (list : (H q).list ≡ list_taken start (said (notes.Got serial) ∷ ms) q) (tickets : (orb : ℕ) → K q orb ≡ ticket_at w q orb) where
+  module _ (rest : List Note) (ask : Ask) (m : Machine) (law_ask : Ask) (law_machine : Machine) (ask_is : law_ask ≡ ask) (alike : Alike A.untold law_machine m) (shaped : IsShapedStep (asks ask, m)) (carried : Carries ask m.outgoing) (reads : IsNoWrite ask) (fits_ask : FitsAsk ask) (fits_agent : FitsAgent m) (H : ℕ → Holder) (K : ℕ → ℕ → Option TicketParts) (told_is : of_kind is_end_note rest ≡ ends_noted H K (brought_sides q m (brought (found_at q answered_layer login (asks ask) m) (asks ask) m.phase))) (initiator : (H q).initiator ≡ (holder w q).initiator) (list : (H q).list ≡ list_taken start (said (notes.Got serial) ∷ ms) q) (tickets : (orb : ℕ) → K q orb ≡ ticket_at w q orb) where
     is_turn : IsTurnOf start T (t rest) (law_turn law_ask law_machine) (asks ask) m login answered_layer
     is_turn = record {
       step_is = ap asks ask_is;
@@ -171,6 +172,8 @@ module _ (units ready : ℕ) (has : 0 < units) (start : List Disk) (past : List 
       carried = carried;
       fits = body_fits ask m fits_ask fits_agent;
       fifo = fifo_is units ready has start past s here q login served.is served.live;
+      law_sized = subst (λ x. IsSizedBy None x law_machine.outgoing) (sym ask_is) (no_write_sized ask law_machine.outgoing reads);
+      sized = no_write_sized ask m.outgoing reads;
       finds = finds_so;
       holders = H;
       tickets = K;
@@ -180,13 +183,13 @@ module _ (units ready : ℕ) (has : 0 < units) (start : List Disk) (past : List 
       names = λ orb. ap name_in (tickets orb) ∙ names_are units ready has start past s here q login served.is served.live orb;
     }
 
-    asks_due : of_kind is_end_note rest ≡ agent_notes_for start T (t rest) (law_turn law_ask law_machine)
-    asks_due = agent_due start T (t rest) (law_turn law_ask law_machine) (asks ask) m login answered_layer is_turn
+    asks_due : HasTurn start T (t rest) (law_turn law_ask law_machine)
+    asks_due = has_steps (asks ask) m login answered_layer is_turn
 
   -- ---- the world behind the note of the packet: the places and tickets are as before
   module _ (now : WorldState) (holders : (k : ℕ) → holder now k ≡ holder w k) (tickets_now : (k orb : ℕ) → ticket_at now k orb ≡ ticket_at w k orb) (places : now.places ≡ w.places) where
     -- ---- ORB_POINTER
-    module _ (ask : Ask) (m : Machine) (pointer : OrbPointer) (law_machine : Machine) (alike : Alike A.untold law_machine m) (shaped : IsShapedStep (asks ask, m)) (carried : Carries ask m.outgoing) (fits_ask : FitsAsk ask) (fits_agent : FitsAgent m) (there : has_list m.phase ≡ true) (orb_is : orb_of m ≡ m.present) where
+    module _ (ask : Ask) (m : Machine) (pointer : OrbPointer) (law_machine : Machine) (alike : Alike A.untold law_machine m) (shaped : IsShapedStep (asks ask, m)) (carried : Carries ask m.outgoing) (reads : IsNoWrite ask) (fits_ask : FitsAsk ask) (fits_agent : FitsAgent m) (there : has_list m.phase ≡ true) (orb_is : orb_of m ≡ m.present) where
       abbrev desk : Desk
       desk = record d { agent = m; pointer = present_of m }
 
@@ -232,17 +235,17 @@ module _ (units ready : ℕ) (has : 0 < units) (start : List Disk) (past : List 
           ∙ (ap list_in (names_are units ready has start past s here q login served.is served.live m.present ∙ ap (named ms i) (sym (alike.present there))) ∙ sym law_list)))
 
       module _ (o : OutboxState) (o_is : o.sides ≡ asking.outbox.sides) (law_ask : Ask) (ask_is : law_ask ≡ ask) (law_list : list_taken start (said (notes.Got serial) ∷ ms) q ≡ list_in (named ms i law_machine.present)) where
-        pub opened_due : of_kind is_end_note (handed 0 0 o now) ≡ agent_notes_for start T (t (handed 0 0 o now)) (law_turn law_ask law_machine)
+        pub opened_due : HasTurn start T (t (handed 0 0 o now)) (law_turn law_ask law_machine)
         opened_due =
             let g = tells.goes in
             let H = holder opened in
             let K = ticket_at opened in
-            asks_due (handed 0 0 o now) ask m law_ask law_machine ask_is alike shaped carried fits_ask fits_agent H K
+            asks_due (handed 0 0 o now) ask m law_ask law_machine ask_is alike shaped carried reads fits_ask fits_agent H K
             (opened_handed H K 0 q (orb_of m) g.more o now (o_is ∙ g.is) (λ k. refl, λ k orb. refl) g.beside ∙ ap (ends_noted H K) (sym (ap ends_in g.is) ∙ tells.ends))
             owner (opened_list law_list) opened_ticket
 
     -- ---- DOORBELL, of an agent out of RESET
-    module _ (ask : Ask) (m : Machine) (law_ask : Ask) (law_machine : Machine) (ask_is : law_ask ≡ ask) (alike : Alike A.untold law_machine m) (shaped : IsShapedStep (asks ask, m)) (carried : Carries ask m.outgoing) (fits_ask : FitsAsk ask) (fits_agent : FitsAgent m) where
+    module _ (ask : Ask) (m : Machine) (law_ask : Ask) (law_machine : Machine) (ask_is : law_ask ≡ ask) (alike : Alike A.untold law_machine m) (shaped : IsShapedStep (asks ask, m)) (carried : Carries ask m.outgoing) (reads : IsNoWrite ask) (fits_ask : FitsAsk ask) (fits_agent : FitsAgent m) where
       abbrev rung : TargetScene
       rung = asked_in q ask (Some login) (answered p one.bytes 0 [] (scene (with_desk left q (record d { agent = m })) empty_outbox))
 
@@ -256,16 +259,15 @@ module _ (units ready : ℕ) (has : 0 < units) (start : List Disk) (past : List 
             beside_handed (holder now) (ticket_at now) 0 o now (λ k. refl, λ k orb. refl) (subst AreBeside (sym (o_is ∙ g.is)) g.beside)
             ∙ ap (ends_noted (holder now) (ticket_at now)) (ap ends_in o_is ∙ ring_tells.ends)
 
-        pub rung_due : is_reset (state_in d.agent.phase) ≡ false → list_taken start (said (notes.Got serial) ∷ ms) q ≡ list_taken start ms q → of_kind is_end_note (handed 0 0 o now) ≡ agent_notes_for start T (t (handed 0 0 o now)) (law_turn law_ask law_machine)
+        pub rung_due : is_reset (state_in d.agent.phase) ≡ false → list_taken start (said (notes.Got serial) ∷ ms) q ≡ list_taken start ms q → HasTurn start T (t (handed 0 0 o now)) (law_turn law_ask law_machine)
         rung_due up law_list =
-            asks_due (handed 0 0 o now) ask m law_ask law_machine ask_is alike shaped carried fits_ask fits_agent (holder now) (ticket_at now) ring_noted
+            asks_due (handed 0 0 o now) ask m law_ask law_machine ask_is alike shaped carried reads fits_ask fits_agent (holder now) (ticket_at now) ring_noted
             (ap (λ (h : Holder). h.initiator) (holders q))
             (ap (λ (h : Holder). h.list) (holders q) ∙ (sym (here.taken q b up) ∙ sym law_list))
             (λ orb. tickets_now q orb)
 
         -- one in RESET asks for nothing
-        pub rung_none : ask ≡ Nothing → of_kind is_end_note (handed 0 0 o now) ≡ agent_notes_for start T (t (handed 0 0 o now)) (law_turn law_ask law_machine)
+        pub rung_none : ask ≡ Nothing → HasTurn start T (t (handed 0 0 o now)) (law_turn law_ask law_machine)
         rung_none nothing =
-            ring_noted
-            ∙ (ap (λ x. ends_noted (holder now) (ticket_at now) (brought_sides q m (brought (found_at q answered_layer login (asks x) m) (asks x) m.phase))) nothing
-            ∙ sym (ap (λ x. agent_notes_for start T (t (handed 0 0 o now)) (law_turn x law_machine)) (ask_is ∙ nothing)))
+            has_rest (ap asks (ask_is ∙ nothing))
+            (ring_noted ∙ ap (λ x. ends_noted (holder now) (ticket_at now) (brought_sides q m (brought (found_at q answered_layer login (asks x) m) (asks x) m.phase))) nothing)

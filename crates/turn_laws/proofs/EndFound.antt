@@ -213,7 +213,7 @@ module _ (T : Target) (t : Turn) (a : AgentTurn) (step : AgentStep) (m : Machine
       by_ask (Write offset len) e f =
           ap (λ x. found_by told_so (body_of (Write offset len) a.machine x fifo)) ended_none ∙ (so (write_dead offset len step.dead (mute_as (Write offset len) e)) ∙ f)
 
-      untold_found : found_by told_so asked ≡ found
+      pub untold_found : found_by told_so asked ≡ found
       untold_found = ap (λ (s : AgentStep). found_by told_so (body_of s.ask a.machine s.ended fifo)) step_is ∙ (by_ask step.ask refl found_is ∙ sym found_is)
 
     -- the laws find a label where the target does

@@ -25,21 +25,23 @@ use Rattle.sbp_journal.specs.declared.note.Note.TheVariants as notes
 use Rattle.login_table.specs.Table.{expired_ids}
 use Rattle.orb_layout.specs.Replies.{Expired}
 use Rattle.sbp_journal.specs.Transactions.{Sending}
-use Rattle.sbp_laws.specs.Agents.{agent_turn, nothing, reply_to}
+use Rattle.sbp_laws.specs.Agents.{agent_event, nothing, reply_to}
 use Rattle.sbp_laws.specs.Packets.{sender_in}
 use Rattle.sbp_world.proofs.Agents.Management.Lapse.{from_asked}
 use Rattle.sbp_world.proofs.Agents.Purposes.{g, law}
-use Rattle.sbp_laws.specs.Deaths.{ends_by, ends_due}
 use Rattle.sbp_laws.specs.Targets.{is_serial, over, purpose_of, target_at}
-use Rattle.sbp_laws.specs.Turns.{turn}
+use Rattle.sbp_laws.specs.Turns.{EachTurn, turn}
 use Rattle.sbp_target.specs.Nodes as target
 use Rattle.sbp_target.proofs.Histories.Told.{side_law}
 use Rattle.sbp_world.specs.Lines.{weight_in}
 use Rattle.sbp_world.specs.Worlds.{Scene, initiator_at, with_initiator, with_note, with_target}
 use Rattle.sbp_world.proofs.Agents.Management.Still.{hist}
 use Rattle.turn_laws.specs.Ends.{EndsLaw, EndsWhereDue}
+use Rattle.turn_laws.specs.Runs.{OfEveryRun}
+use Rattle.turn_laws.proofs.AgentDue.{TellsEnds, ends_told, none_tells}
 use Rattle.turn_laws.proofs.Calls.{Brings, Cases, calls, injects, loses, refuses, refuses_action, resets, sets_key}
 use Rattle.turn_laws.proofs.EndNotes.{NoEnds, low_ranks, none_handed, own_ends}
+use Rattle.turn_laws.proofs.EachTurns.{brought_law}
 use Rattle.turn_laws.proofs.Gots.{own_brings_nothing}
 use Rattle.turn_laws.proofs.Handed.{handed}
 use Rattle.turn_laws.proofs.LateEnds.{Expires, late_ends}
@@ -68,26 +70,19 @@ module _ (units ready : ℕ) (has : 0 < units) (start : List Disk) (past : List 
   away None e = refl
   away (Some packet) e = from_is packet e
 
-  own_late : (rest : List Note) → ends_due start (turn ms (said (notes.TimedOut serial)) rest) ≡ []
-  own_late rest =
-      let T = over (target_at start ms) in
-      let t = turn ms (said (notes.TimedOut serial)) rest in
-      ap (λ b. ends_by start T t (agent_turn (cond b (reply_to (purpose_of T serial) Expired) nothing) T wire rest)) (away (wire.sent serial) refl)
+  own_late : (rest : List Note) → agent_event start (turn ms (said (notes.TimedOut serial)) rest) ≡ nothing
+  own_late rest = ap (λ b. cond b (reply_to (purpose_of (over (target_at start ms)) serial) Expired) nothing) (away (wire.sent serial) refl)
 
 -- ---- a packet that an initiator got
-own_got : (units ready : ℕ) (has : 0 < units) (start : List Disk) (past : List Moment) (s : Scene) (here : Place units ready start past s) (serial : ℕ) (one : Sent) (found : found_sent serial s.world.store.kept ≡ Some one) (i : ℕ) → one.to ≡ suc i → (judged : Judged) (rest : List Note) → ends_due start (turn (hist past s.world) (said (judged_note serial judged)) rest) ≡ []
-own_got units ready has start past s here serial one found i to_is judgements.Got rest =
-    let ms = hist past s.world in
-    let T = over (target_at start ms) in
-    let t = turn ms (said (notes.Got serial)) rest in
-    ap (λ x. ends_by start T t (agent_turn x T (terms ms) rest)) (own_brings_nothing units ready has start past s here serial one found i to_is)
+own_got : (units ready : ℕ) (has : 0 < units) (start : List Disk) (past : List Moment) (s : Scene) (here : Place units ready start past s) (serial : ℕ) (one : Sent) (found : found_sent serial s.world.store.kept ≡ Some one) (i : ℕ) → one.to ≡ suc i → (judged : Judged) (rest : List Note) → agent_event start (turn (hist past s.world) (said (judged_note serial judged)) rest) ≡ nothing
+own_got units ready has start past s here serial one found i to_is judgements.Got rest = own_brings_nothing units ready has start past s here serial one found i to_is
 own_got units ready has start past s here serial one found i to_is (judgements.Ignored cause) rest = refl
 
 -- ---- the turns of the calls
 abbrev expiries : List ℕ → List Side
 expiries ids = map (λ login. sides.Expired login) ids
 
-line_ends : (start : List Disk) (line : ℕ) (s : Scene) (past : List Moment) (event : LineEvent) (rest : List Note) → Brings line s event rest → EndsWhereDue start (turn past (asked line event) rest)
+line_ends : (start : List Disk) (line : ℕ) (s : Scene) (past : List Moment) (event : LineEvent) (rest : List Note) → Brings line s event rest → TellsEnds start (turn past (asked line event) rest)
 line_ends start line s past event rest (calls is_event c) = refl
 line_ends start line s past event rest (refuses is_event number) = refl
 line_ends start line s past event rest (refuses_action i action number e) = refl
@@ -96,23 +91,25 @@ line_ends start line s past event rest (loses serial) = refl
 line_ends start line s past event rest (sets_key unit key) = refl
 line_ends start line s past event rest (injects i bytes serial generation from to) = refl
 
-end_ends : (start : List Disk) (past : List Moment) (done : Bool) → EndsWhereDue start (turn past (said (end_note done)) [])
+end_ends : (start : List Disk) (past : List Moment) (done : Bool) → TellsEnds start (turn past (said (end_note done)) [])
 end_ends start past true = refl
 end_ends start past false = refl
 
 module _ (units ready : ℕ) (has : 0 < units) (start : List Disk) where
-  pub ends_cases : Cases units ready start (EndsWhereDue start)
+  pub ends_cases : Cases units ready start (TellsEnds start)
   ends_cases = record {
     heard = λ past s serial again run one found zero_to may others here behind judged. called_ends units ready has start past s here serial again run one found zero_to may others judged;
     heard_own = λ past s serial again one i found to_is inside own here behind judged.
         let x = receive_step one.generation one.bytes empty_outbox (initiator_at s.world i) in
         let v = with_note (judged_note serial x.0) (marked serial again (with_initiator i x.1.1 s.world)) in
-        own_ends (suc i) 0 x.1.0 v own ∙ sym (own_got units ready has start past s here serial one found i to_is x.0 (handed (suc i) 0 x.1.0 v));
+        let rest = handed (suc i) 0 x.1.0 v in
+        none_tells start (turn (hist past s.world) (said (judged_note serial x.0)) rest) (own_got units ready has start past s here serial one found i to_is x.0 rest) (own_ends (suc i) 0 x.1.0 v own);
     late = λ past s serial request done t found node_is e others here behind judged.
         subst (Expires units ready has start past s here serial request found node_is) e (late_ends units ready has start past s here serial request found node_is) others;
     late_own = λ past s serial request i outbox state found node_is inside e own here behind judged.
         let v = with_note (notes.TimedOut serial) (with_initiator i state s.world) in
-        own_ends (suc i) 0 outbox v own ∙ sym (own_late units ready has start past s here serial request found i node_is (handed (suc i) 0 outbox v));
+        let rest = handed (suc i) 0 outbox v in
+        none_tells start (turn (hist past s.world) (said (notes.TimedOut serial)) rest) (own_late units ready has start past s here serial request found i node_is rest) (own_ends (suc i) 0 outbox v own);
     sees = λ past s others here behind judged.
         let g = s.world.generations.latest in
         let told = side_law.sights g.generation (id_of g 0) s.world.target in
@@ -130,5 +127,9 @@ module _ (units ready : ℕ) (has : 0 < units) (start : List Disk) where
     begins = λ line initiators is_ready. refl;
   }
 
+-- Each turn tells of an agent by its step.
+pub tells_law : OfEveryRun (λ start past. EachTurn (TellsEnds start) past)
+tells_law = of_every_run TellsEnds (λ units ready start has. ends_cases units ready has start)
+
 pub ends_law : EndsLaw
-ends_law = of_every_run EndsWhereDue (λ units ready start has. ends_cases units ready has start)
+ends_law = brought_law TellsEnds EndsWhereDue ends_told tells_law

@@ -113,15 +113,15 @@ late_answer T wire serial answer e = by (is_serial (sender_in (wire.sent serial)
     by false f = absurd (no_no answer f)
 
 -- ---- the response and the request that it closes
-record Closes (wire : Terms) (serial own : ℕ) : Type 0 where
-  packet : Sending
-  sent : wire.sent serial ≡ Some packet
-  label : ℕ
-  kind : Kind
-  part : part_of packet.bytes ≡ response label kind
-  waited : Kind
-  held : wire.held (between packet packet.to packet.from label) ≡ waits waited own
-  alike : is_same_kind waited kind ≡ true
+pub record Closes (wire : Terms) (serial own : ℕ) : Type 0 where
+  pub packet : Sending
+  pub sent : wire.sent serial ≡ Some packet
+  pub label : ℕ
+  pub kind : Kind
+  pub part : part_of packet.bytes ≡ response label kind
+  pub waited : Kind
+  pub held : wire.held (between packet packet.to packet.from label) ≡ waits waited own
+  pub alike : is_same_kind waited kind ≡ true
 
 module _ (wire : Terms) (serial own : ℕ) where
   module _ (q : Sending) (s : wire.sent serial ≡ Some q) (label : ℕ) (kind : Kind) (p : part_of q.bytes ≡ response label kind) where
@@ -144,7 +144,7 @@ module _ (wire : Terms) (serial own : ℕ) where
   by_sent None s g = absurd (let no : None ≡ Some own = g in cc)
   by_sent (Some q) s g = by_part q s (part_of q.bytes) refl g
 
-  closes_at : answered_at wire serial ≡ Some own → Closes wire serial own
+  pub closes_at : answered_at wire serial ≡ Some own → Closes wire serial own
   closes_at e = by_sent (wire.sent serial) refl e
 
 -- ---- at a place

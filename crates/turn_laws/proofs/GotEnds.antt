@@ -28,9 +28,7 @@ use Rattle.sbp_journal.specs.declared.note.Note.{Note}
 use Rattle.sbp_journal.specs.declared.note.Note.TheVariants as notes
 use Rattle.sbp_journal.specs.declared.side.Side.{Side}
 use Rattle.sbp_journal.specs.declared.side.Side.TheVariants as sides
-use Rattle.sbp_laws.specs.Agents.{agent_event, agent_turn, nothing, told_among, untold_among}
-use Rattle.sbp_laws.specs.Deaths.{ends_by, ends_due}
-use Rattle.sbp_laws.specs.NoteKinds.{is_end_note, of_kind}
+use Rattle.sbp_laws.specs.Agents.{agent_event, nothing, told_among, untold_among}
 use Rattle.sbp_laws.specs.Targets.{Agent, Target, agent_at, for_manager, for_nobody, initiator_at, over, target_at, told_of}
 use Rattle.sbp_laws.specs.Turns.{Turn, turn}
 use Rattle.sbp_target.specs.declared.purpose.Purpose.{Purpose}
@@ -53,6 +51,7 @@ use Rattle.sbp_world.proofs.Lists.DueRuns.{event_for, hand, inside, its, serve}
 use Rattle.sbp_world.proofs.Lists.DueTurns.{plain_told}
 use Rattle.sbp_world.proofs.Lists.RunTells.{AreRunless, RanBy}
 use Rattle.sbp_world.proofs.Wire.ToldBytes.{told_fits}
+use Rattle.turn_laws.proofs.AgentDue.{TellsEnds, none_tells}
 use Rattle.turn_laws.proofs.AgentHere.{initiator_is}
 use Rattle.turn_laws.proofs.EndNotes.{NoEnds, low_ranks, none_handed}
 use Rattle.turn_laws.proofs.Handed.{handed}
@@ -101,24 +100,21 @@ module _ (units ready : ℕ) (has : 0 < units) (start : List Disk) (past : List 
     behind x = with_note (notes.Got serial) (marked serial again (with_target x w))
 
     abbrev Due : NodeState → OutboxState → Type 0
-    Due x o = of_kind is_end_note (handed 0 0 o (behind x)) ≡ ends_due start (t (handed 0 0 o (behind x)))
+    Due x o = TellsEnds start (t (handed 0 0 o (behind x)))
 
     -- of nobody, and of the management
-    due_as : (rest : List Note) → agent_event start (t rest) ≡ nothing → ends_due start (t rest) ≡ []
-    due_as rest e = ap (λ x. ends_by start T (t rest) (agent_turn x T wire rest)) e
-
     module _ (purpose : Option Purpose) (e : Is purpose) (rest : List Note) where
-      nobody_due : purpose ≡ None → ends_due start (t rest) ≡ []
-      nobody_due f = due_as rest (event_for units ready has start s here.holds (site units ready has start past s here serial again one found zero_to judged) here.units_are.each serial judged rest one found zero_to p read some label new purpose e for_nobody ((hand units ready has start s here.holds (site units ready has start past s here serial again one found zero_to judged) here.units_are.each serial judged rest one found zero_to p read some label new purpose e).nobody f))
+      nobody_due : purpose ≡ None → agent_event start (t rest) ≡ nothing
+      nobody_due f = event_for units ready has start s here.holds (site units ready has start past s here serial again one found zero_to judged) here.units_are.each serial judged rest one found zero_to p read some label new purpose e for_nobody ((hand units ready has start s here.holds (site units ready has start past s here serial again one found zero_to judged) here.units_are.each serial judged rest one found zero_to p read some label new purpose e).nobody f)
 
-      unsolicited_due : purpose ≡ Some purposes.Unsolicited → ends_due start (t rest) ≡ []
-      unsolicited_due f = due_as rest (event_for units ready has start s here.holds (site units ready has start past s here serial again one found zero_to judged) here.units_are.each serial judged rest one found zero_to p read some label new purpose e for_nobody ((hand units ready has start s here.holds (site units ready has start past s here serial again one found zero_to judged) here.units_are.each serial judged rest one found zero_to p read some label new purpose e).unsolicited f))
+      unsolicited_due : purpose ≡ Some purposes.Unsolicited → agent_event start (t rest) ≡ nothing
+      unsolicited_due f = event_for units ready has start s here.holds (site units ready has start past s here serial again one found zero_to judged) here.units_are.each serial judged rest one found zero_to p read some label new purpose e for_nobody ((hand units ready has start s here.holds (site units ready has start past s here serial again one found zero_to judged) here.units_are.each serial judged rest one found zero_to p read some label new purpose e).unsolicited f)
 
-      manager_due : purpose ≡ Some purposes.Management → ends_due start (t rest) ≡ []
-      manager_due f = due_as rest (event_for units ready has start s here.holds (site units ready has start past s here serial again one found zero_to judged) here.units_are.each serial judged rest one found zero_to p read some label new purpose e for_manager ((hand units ready has start s here.holds (site units ready has start past s here serial again one found zero_to judged) here.units_are.each serial judged rest one found zero_to p read some label new purpose e).operation f))
+      manager_due : purpose ≡ Some purposes.Management → agent_event start (t rest) ≡ nothing
+      manager_due f = event_for units ready has start s here.holds (site units ready has start past s here serial again one found zero_to judged) here.units_are.each serial judged rest one found zero_to p read some label new purpose e for_manager ((hand units ready has start s here.holds (site units ready has start past s here serial again one found zero_to judged) here.units_are.each serial judged rest one found zero_to p read some label new purpose e).operation f)
 
-    none_ends : (x : NodeState) (o : OutboxState) → AreOthers o.sides → NoEnds o.sides → ((rest : List Note) → ends_due start (t rest) ≡ []) → Due x o
-    none_ends x o others none due = none_handed o (behind x) others none ∙ sym (due (handed 0 0 o (behind x)))
+    none_ends : (x : NodeState) (o : OutboxState) → AreOthers o.sides → NoEnds o.sides → ((rest : List Note) → agent_event start (t rest) ≡ nothing) → Due x o
+    none_ends x o others none due = let rest = handed 0 0 o (behind x) in none_tells start (t rest) (due rest) (none_handed o (behind x) others none)
 
     pub nobody_ends : Is None → (x : NodeState) (o : OutboxState) → o ≡ given None → AreOthers o.sides → Due x o
     unfolding concluded

@@ -20,8 +20,7 @@ use Rattle.sbp_journal.specs.Wire.{Terms, terms}
 use Rattle.sbp_journal.specs.declared.note.Note.{Note}
 use Rattle.sbp_journal.specs.declared.note.Note.TheVariants as notes
 use Rattle.sbp_journal.specs.declared.side.Side.{Side}
-use Rattle.sbp_laws.specs.Agents.{AgentTurn, Event, agent_event, agent_notes_for, agent_turn, nothing, replies, reply_to, told_among, untold_among}
-use Rattle.sbp_laws.specs.Deaths.{ends_by, ends_due}
+use Rattle.sbp_laws.specs.Agents.{AgentTurn, Event, agent_event, agent_turn, nothing, replies, reply_to, told_among, untold_among}
 use Rattle.sbp_laws.specs.NoteKinds.{is_end_note, of_kind}
 use Rattle.sbp_laws.specs.Packets.{finds_label, sender_in}
 use Rattle.sbp_laws.specs.Targets.{Agent, Purpose as TermPurpose, Reply, Target, agent_at, for_agent, for_manager, for_nobody, initiator_at, is_serial, over, plain_for, purpose_of, reply_of, target_at}
@@ -47,12 +46,13 @@ use Rattle.sbp_world.proofs.Agents.Steps.{reply_alike}
 use Rattle.sbp_world.proofs.Lists.DueTurns.{plain_told}
 use Rattle.sbp_world.proofs.Lists.RunTells.{AreRunless, lapse_runless}
 use Rattle.sbp_world.proofs.Lists.Runless.{AllPlain}
-use Rattle.turn_laws.proofs.AgentDue.{IsTurnOf, agent_due}
+use Rattle.turn_laws.proofs.AgentDue.{IsTurnOf, TellsEnds, has_steps, none_tells, turn_in, turn_tells}
 use Rattle.turn_laws.proofs.AgentEnds.{Tells, expired_tells, found_at}
 use Rattle.turn_laws.proofs.AgentHere.{desk_fits, fifo_is, good, holder_is, initiator_is, lost_body, lost_carries, names_are, up_by}
 use Rattle.turn_laws.proofs.EndNotes.{NoEnds, beside_handed, ends_noted, low_ranks, none_handed}
 use Rattle.turn_laws.proofs.FollowEnds.{ends_in}
 use Rattle.turn_laws.proofs.EndShapes.{lost_shaped}
+use Rattle.turn_laws.proofs.EndSizes.{lost_sized, reply_sized}
 use Rattle.turn_laws.proofs.EndTries.{brought, brought_sides}
 use Rattle.turn_laws.proofs.FollowSides.{AreBeside}
 use Rattle.turn_laws.proofs.FoundLabels.{late_finds}
@@ -88,8 +88,8 @@ module _ (units ready : ℕ) (has : 0 < units) (start : List Disk) (past : List 
   abbrev t : List Note → Turn
   t rest = turn ms (said (notes.TimedOut serial)) rest
 
-  due_for : (rest : List Note) (event : Event) → agent_event start (t rest) ≡ event → ends_due start (t rest) ≡ ends_by start T (t rest) (agent_turn event T wire rest)
-  due_for rest event e = ap (λ x. ends_by start T (t rest) (agent_turn x T wire rest)) e
+  turn_for : (rest : List Note) (event : Event) → agent_event start (t rest) ≡ event → turn_in start (t rest) ≡ agent_turn event T wire rest
+  turn_for rest event e = ap (λ x. agent_turn x T wire rest) e
 
   module _ (purpose : Option Purpose) (new : Layer Purpose) (e : expiring_step node.layer request.peer request.label ≡ (Ok purpose, new)) where
     a : Asked units ready has start w here.holds serial request found zero_is purpose new e
@@ -102,8 +102,8 @@ module _ (units ready : ℕ) (has : 0 < units) (start : List Disk) (past : List 
     event_for rest for f = ap (λ b. cond b (reply_to (purpose_of T serial) Expired) nothing) sender ∙ ap (λ x. reply_to x Expired) f
 
     -- of the management, and of nobody
-    none_due : (rest : List Note) (for : TermPurpose) → purpose_of T serial ≡ for → reply_to for Expired ≡ nothing → ends_due start (t rest) ≡ []
-    none_due rest for f n = due_for rest nothing (event_for rest for f ∙ n)
+    none_for : (rest : List Note) (for : TermPurpose) → purpose_of T serial ≡ for → reply_to for Expired ≡ nothing → agent_event start (t rest) ≡ nothing
+    none_for rest for f n = event_for rest for f ∙ n
 
     -- ---- of an agent
     record LateAgent (q : ℕ) : Type 0 where
@@ -173,8 +173,8 @@ module _ (units ready : ℕ) (has : 0 < units) (start : List Disk) (past : List 
       abbrev law_turn : List Note → AgentTurn
       law_turn rest = record { place = q; untold = untold_among i rest plain A.untold; which = its.which; step = (law_step rest).0; machine = (law_step rest).1 }
 
-      due_is : (rest : List Note) → ends_due start (t rest) ≡ agent_notes_for start T (t rest) (law_turn rest)
-      due_is rest = due_for rest (replies reply) (event_for rest (for_agent q its.which) its.purpose_is)
+      turn_is : (rest : List Note) → turn_in start (t rest) ≡ Some (law_turn rest)
+      turn_is rest = turn_for rest (replies reply) (event_for rest (for_agent q its.which) its.purpose_is)
 
       module _ (rest : List Note) (plainly : AllPlain rest) where
         alike : StepsAlike A.untold A.untold (law_step rest) l
@@ -216,6 +216,8 @@ module _ (units ready : ℕ) (has : 0 < units) (start : List Disk) (past : List 
               carried = lost_carries d (desk_fits units ready has start past s here q b) its.which its.sent its.kept causes.Timeout;
               fits = lost_body units ready has start past s here q login there live its.which causes.Timeout;
               fifo = fifo_is units ready has start past s here q login there live;
+              law_sized = reply_sized A.machine q plain (told_among i rest plain) its.which Expired;
+              sized = lost_sized d.agent its.which causes.Timeout;
               finds = λ body fit.
                   late_finds units ready start past s here q login there live serial request found zero_is purpose new e body fit
                   ∙ ap (λ n. finds_label (terms (said (notes.TimedOut serial) ∷ ms)) 0 (suc n) body) (sym (initiator_is units ready has start past s here q login there live ∙ holder_is units ready has start past s here q login there live));
@@ -227,8 +229,8 @@ module _ (units ready : ℕ) (has : 0 < units) (start : List Disk) (past : List 
               names = names_are units ready has start past s here q login there live;
             }
 
-        agent_ends : of_kind is_end_note rest ≡ ends_due start (t rest)
-        agent_ends = agent_due start T (t rest) (law_turn rest) l.0 l.1 login new is_turn ∙ sym (due_is rest)
+        agent_ends : TellsEnds start (t rest)
+        agent_ends = turn_tells start (t rest) (Some (law_turn rest)) (turn_is rest) (has_steps l.0 l.1 login new is_turn)
 
     -- ---- whatever it was for
     module _ (o : OutboxState) (v : WorldState) (others : AreOthers o.sides) (runless : AreRunless o.sides) where
@@ -236,10 +238,10 @@ module _ (units ready : ℕ) (has : 0 < units) (start : List Disk) (past : List 
       after = with_note (notes.TimedOut serial) (with_target v.target w)
 
       abbrev Due : Type 0
-      Due = of_kind is_end_note (handed 0 0 o after) ≡ ends_due start (t (handed 0 0 o after))
+      Due = TellsEnds start (t (handed 0 0 o after))
 
       none_ends : (for : TermPurpose) → purpose_of T serial ≡ for → reply_to for Expired ≡ nothing → NoEnds o.sides → Due
-      none_ends for f n h = none_handed o after others h ∙ sym (none_due (handed 0 0 o after) for f n)
+      none_ends for f n h = let rest = handed 0 0 o after in none_tells start (t rest) (none_for rest for f n) (none_handed o after others h)
 
       by_purpose : (p : Option Purpose) → purpose ≡ p → o ≡ (timed_out p request.peer request.label (scene (record node { layer = new }) empty_outbox)).outbox → Due
       by_purpose None own o_is = none_ends for_nobody ((handed_for units ready has start w here.holds serial request found zero_is purpose new e here.agents.requests here.agents.are here.agents.known).nobody own) refl (subst (λ (x : OutboxState). NoEnds x.sides) (sym o_is) tt)
@@ -251,7 +253,7 @@ module _ (units ready : ℕ) (has : 0 < units) (start : List Disk) (past : List 
 
   -- ---- a time-out
   abbrev pub Expires : Result (Unit {0}) Stale × target.Scene → Type 0
-  Expires (Ok done, x) = AreOthers x.outbox.sides → of_kind is_end_note (handed 0 0 x.outbox (with_note (notes.TimedOut serial) (with_target x.node w))) ≡ ends_due start (t (handed 0 0 x.outbox (with_note (notes.TimedOut serial) (with_target x.node w))))
+  Expires (Ok done, x) = AreOthers x.outbox.sides → TellsEnds start (t (handed 0 0 x.outbox (with_note (notes.TimedOut serial) (with_target x.node w))))
   Expires (Err stale, x) = Unit {0}
 
   by_layer : (r : Result (Option Purpose) Stale × Layer Purpose) → expiring_step node.layer request.peer request.label ≡ r → AreRunless (expired_in r request.peer request.label (scene node empty_outbox)).1.outbox.sides → Expires (expired_in r request.peer request.label (scene node empty_outbox))

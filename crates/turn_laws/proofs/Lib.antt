@@ -15,6 +15,8 @@ pub mod Cuts
 pub mod FaultSteps
 pub mod FaultSides
 pub mod Faults
+pub mod EachTurns
+pub mod EndSizes
 pub mod FollowEnds
 pub mod EndTries
 pub mod RequestLabels
@@ -62,6 +64,12 @@ pub mod FailingRows
 pub mod FailingKinds
 pub mod FailingCalls
 pub mod FailingRuns
+pub mod Unserved
+pub mod IdleAheads
+pub mod DeathSteps
+pub mod DeathRows
+pub mod DeathAnswers
+pub mod Deaths
 pub mod DecisionEffects
 pub mod DecisionWords
 pub mod DecisionRuns

@@ -21,7 +21,6 @@ use Rattle.command_agent.specs.declared.step.PointRefusal.TheVariants as refusal
 use Rattle.command_agent.specs.declared.step.Which.{Which}
 use Rattle.command_agent.specs.declared.step.Which.TheVariants.{Ahead, Main}
 use Rattle.sbp_journal.specs.Addresses.{agent_reset, agent_state, doorbell, orb_pointer, unsolicited_enable}
-use Rattle.sbp_journal.specs.Run.{Moment, asked, said}
 use Rattle.sbp_journal.specs.declared.note.Note.{Note}
 use Rattle.sbp_journal.specs.declared.note.Note.TheVariants as notes
 use Rattle.sbp_laws.specs.Agents.{AgentTurn, Event, agent_event, agent_notes_for, agent_turn, body_of, by_doorbell, by_pointer, fifo_in, finds_first, is_dead, list_taken, nothing, replies, target_before, told_among, untold_among, wire_after, wire_before, writes}
@@ -30,28 +29,13 @@ use Rattle.sbp_laws.specs.Lists.{Orb, named}
 use Rattle.sbp_laws.specs.NoteKinds.{is_end_note, of_kind}
 use Rattle.sbp_laws.specs.Packets.{finds_label}
 use Rattle.sbp_laws.specs.Targets.{Target, agent_at, initiator_at, login_at, plain_for}
-use Rattle.sbp_laws.specs.Turns.{EachTurnBefore, Turn, turn}
-use Rattle.sbp_world.specs.Histories.{history_of}
+use Rattle.sbp_laws.specs.Turns.{Turn}
 use Rattle.turn_laws.specs.Ends.{EndsWhereDue}
 use Rattle.turn_laws.specs.Once.{DiesOnce, OnceLaw}
-use Rattle.turn_laws.specs.Runs.{history_between}
+use Rattle.turn_laws.proofs.EachTurns.{brought_law}
 use Rattle.turn_laws.proofs.Ends.{ends_law}
 use Rattle.turn_laws.proofs.EndShapes.{reply_shaped}
 use Rattle.turn_laws.proofs.EndTries.{Brought, IsShaped, brings, brought, brought_notes, brought_unsent, dead_in, found_by, notes_tried}
-
--- ---- a law of turns that another one brings
-module _ (L M : Turn → Type 0) (brings_it : (t : Turn) → L t → M t) where
-  pub each_turn : (past : List Moment) (rest : List Note) → EachTurnBefore L past rest → EachTurnBefore M past rest
-  each_turn [] rest h = tt
-  each_turn (asked line event ∷ past) rest h = (brings_it (turn past (asked line event) rest) h.0, each_turn past [] h.1)
-  each_turn (said (notes.Got serial) ∷ past) rest h = (brings_it (turn past (said (notes.Got serial)) rest) h.0, each_turn past [] h.1)
-  each_turn (said (notes.Ignored serial cause) ∷ past) rest h = (brings_it (turn past (said (notes.Ignored serial cause)) rest) h.0, each_turn past [] h.1)
-  each_turn (said (notes.TimedOut serial) ∷ past) rest h = (brings_it (turn past (said (notes.TimedOut serial)) rest) h.0, each_turn past [] h.1)
-  each_turn (said (notes.Seen node generation) ∷ past) rest h = (brings_it (turn past (said (notes.Seen node generation)) rest) h.0, each_turn past [] h.1)
-  each_turn (said notes.Tick ∷ past) rest h = (brings_it (turn past (said notes.Tick) rest) h.0, each_turn past [] h.1)
-  each_turn (said notes.Settled ∷ past) rest h = (brings_it (turn past (said notes.Settled) rest) h.0, each_turn past [] h.1)
-  each_turn (said notes.Stopped ∷ past) rest h = (brings_it (turn past (said notes.Stopped) rest) h.0, each_turn past [] h.1)
-  each_turn (said note ∷ past) rest h = each_turn past (note ∷ rest) h
 
 -- ---- deaths are ends
 abbrev deaths : List Note → ℕ
@@ -258,7 +242,4 @@ once_of start t h =
     ap (λ n. nat_lt 1 n || (nat_lt 0 n && was_dead T event)) (ap length (deaths_by_ends t.rest ∙ ap (filter is_death_note) h)) ∙ event_fine start T t event t.rest
 
 pub once_law : OnceLaw
-once_law = record {
-  after_lines = λ line run is some most size. each_turn (EndsWhereDue run.start.disks) (DiesOnce run.start.disks) (once_of run.start.disks) (history_of line run) [] (ends_law.after_lines line run is some most size);
-  between = λ line run is some most size next deliveries told may. each_turn (EndsWhereDue run.start.disks) (DiesOnce run.start.disks) (once_of run.start.disks) (history_between line run next deliveries told) [] (ends_law.between line run is some most size next deliveries told may);
-}
+once_law = brought_law EndsWhereDue DiesOnce once_of ends_law

@@ -26,8 +26,7 @@ use Rattle.sbp_journal.specs.Wire.{Terms, terms}
 use Rattle.sbp_journal.specs.declared.note.Note.{Note}
 use Rattle.sbp_journal.specs.declared.note.Note.TheVariants as notes
 use Rattle.sbp_journal.specs.declared.side.Side.{Side}
-use Rattle.sbp_laws.specs.Agents.{AgentTurn, agent_notes_for, agent_turn, list_taken, listed_at, told_among, untold_among}
-use Rattle.sbp_laws.specs.Deaths.{ends_by, ends_due}
+use Rattle.sbp_laws.specs.Agents.{AgentTurn, agent_turn, list_taken, listed_at, told_among, untold_among}
 use Rattle.sbp_laws.specs.NoteKinds.{is_end_note, of_kind}
 use Rattle.sbp_laws.specs.Packets.{finds_label}
 use Rattle.sbp_laws.specs.Targets.{Agent, Reply, Target, agent_at, initiator_at, over, target_at}
@@ -50,11 +49,12 @@ use Rattle.sbp_world.proofs.Agents.Management.Holding.{ours}
 use Rattle.sbp_world.proofs.Agents.Management.Still.{hist}
 use Rattle.sbp_world.proofs.FitTarget.Demands.{answer_small}
 use Rattle.sbp_world.proofs.Lists.DueRuns.{AtDelivery, alike, event_is, plain_is}
-use Rattle.turn_laws.proofs.AgentDue.{IsTurnOf, agent_due}
+use Rattle.turn_laws.proofs.AgentDue.{IsTurnOf, TellsEnds, has_steps, turn_in, turn_tells}
 use Rattle.turn_laws.proofs.AgentEnds.{Tells, advance_tells, found_at}
 use Rattle.turn_laws.proofs.AgentHere.{desk_fits, fifo_is, good, holder_is, initiator_is, names_are, reply_body, reply_carries, up_by}
 use Rattle.turn_laws.proofs.EndNotes.{beside_handed, ends_noted}
 use Rattle.turn_laws.proofs.EndShapes.{reply_shaped}
+use Rattle.turn_laws.proofs.EndSizes.{reply_sized}
 use Rattle.turn_laws.proofs.EndTries.{brought, brought_sides}
 use Rattle.turn_laws.proofs.FollowEnds.{ends_in}
 use Rattle.turn_laws.proofs.FollowSides.{AreBeside}
@@ -145,10 +145,10 @@ module _ (units ready : ℕ) (has : 0 < units) (start : List Disk) (past : List 
     abbrev law_turn : PlainDisk → List Note → AgentTurn
     law_turn x rest = record { place = q; untold = untold_among i rest x A.untold; which = which; step = (law_step x rest).0; machine = (law_step x rest).1 }
 
-    due_is : (rest : List Note) → ends_due start (t rest) ≡ agent_notes_for start T (t rest) (law_turn plain rest)
-    due_is rest =
-        ap (λ x. ends_by start T (t rest) (agent_turn x T wire rest)) (event_is units ready has start s here.holds site here.units_are.each serial judged rest one found zero_to p read some label new (Some (purposes.Agent q)) e q refl login there which is_which)
-        ∙ ap (λ x. agent_notes_for start T (t rest) (law_turn x rest)) (plain_is units ready has start s here.holds site here.units_are.each serial judged rest one found zero_to p read some label new (Some (purposes.Agent q)) e q refl login there which is_which)
+    turn_is : (rest : List Note) → turn_in start (t rest) ≡ Some (law_turn plain rest)
+    turn_is rest =
+        ap (λ x. agent_turn x T wire rest) (event_is units ready has start s here.holds site here.units_are.each serial judged rest one found zero_to p read some label new (Some (purposes.Agent q)) e q refl login there which is_which)
+        ∙ ap (λ x. Some (law_turn x rest)) (plain_is units ready has start s here.holds site here.units_are.each serial judged rest one found zero_to p read some label new (Some (purposes.Agent q)) e q refl login there which is_which)
 
     list_same : (rest : List Note) → list_taken start ms q ≡ list_taken start (said (notes.Got serial) ∷ ms) q
     list_same rest =
@@ -186,6 +186,8 @@ module _ (units ready : ℕ) (has : 0 < units) (start : List Disk) (past : List 
           fits = reply_body units ready has start past s here q login there live q plain run which answer told_bytes
               (answer_small p (bytes_of p one.bytes (spelled one.bytes p read) (ours w here.holds.sound.stands serial one found).bytes));
           fifo = fifo_is units ready has start past s here q login there live;
+          law_sized = reply_sized A.machine q plain (told_among i rest plain) which answer;
+          sized = reply_sized d.agent q plain run which answer;
           finds = λ body fit.
               response_finds units ready start past s here q login there live serial one found zero_to p label (Some (purposes.Agent q)) new e body fit
               ∙ ap (λ n. finds_label (terms (said (notes.Got serial) ∷ ms)) 0 (suc n) body) (sym (initiator_is units ready has start past s here q login there live ∙ holder_is units ready has start past s here q login there live));
@@ -197,5 +199,5 @@ module _ (units ready : ℕ) (has : 0 < units) (start : List Disk) (past : List 
           names = names_are units ready has start past s here q login there live;
         }
 
-        pub agent_ends : of_kind is_end_note rest ≡ ends_due start (t rest)
-        agent_ends = agent_due start T (t rest) (law_turn plain rest) own.0 own.1 login new is_turn ∙ sym (due_is rest)
+        pub agent_ends : TellsEnds start (t rest)
+        agent_ends = turn_tells start (t rest) (Some (law_turn plain rest)) (turn_is rest) (has_steps own.0 own.1 login new is_turn)

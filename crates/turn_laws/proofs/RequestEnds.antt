@@ -25,9 +25,7 @@ use Rattle.sbp_journal.specs.declared.cause.CutCause.TheVariants as cuts
 use Rattle.sbp_journal.specs.declared.note.Note.{Note}
 use Rattle.sbp_journal.specs.declared.note.Note.TheVariants as notes
 use Rattle.sbp_journal.specs.declared.side.Side.TheVariants as sides
-use Rattle.sbp_laws.specs.Agents.{Event, agent_turn, by_doorbell, by_pointer, event_by, list_taken, listed_at, listed_by, write_in}
-use Rattle.sbp_laws.specs.Deaths.{ends_by, ends_due}
-use Rattle.sbp_laws.specs.NoteKinds.{is_end_note, of_kind}
+use Rattle.sbp_laws.specs.Agents.{AgentTurn, Event, agent_turn, by_doorbell, by_pointer, event_by, list_taken, listed_at, listed_by, write_in}
 use Rattle.sbp_laws.specs.Targets.{Agent, Target, agent_at, initiator_at, over, target_at}
 use Rattle.sbp_laws.specs.Turns.{Turn, turn}
 use Rattle.sbp_target.specs.declared.desk.Desk.{Desk}
@@ -58,10 +56,12 @@ use Rattle.target_base.specs.declared.address.Access.{Access}
 use Rattle.target_base.specs.declared.address.Access.TheVariants as accesses
 use Rattle.target_base.specs.declared.address.Demand.{Demand}
 use Rattle.target_base.specs.declared.address.Demand.TheVariants as demands
+use Rattle.turn_laws.proofs.AgentDue.{TellsEnds, TellsFor, turn_in, turn_tells}
 use Rattle.turn_laws.proofs.AgentEnds.{AsksIf, point_asks, ring_asks}
 use Rattle.turn_laws.proofs.AgentHere.{good}
 use Rattle.turn_laws.proofs.AskEnds.{CarriesIf, opened_due, point_carries, ring_carries, rung_due, rung_none}
 use Rattle.turn_laws.proofs.EndNotes.{NoEnds, low_ranks, none_handed}
+use Rattle.turn_laws.proofs.EndSizes.{IsNoWrite, ReadsIf, point_reads, ring_reads}
 use Rattle.turn_laws.proofs.Gots.{request_brings}
 use Rattle.turn_laws.proofs.Handed.{handed}
 use Rattle.turn_laws.proofs.OrderManaged.{starts}
@@ -117,28 +117,28 @@ module _ (units ready : ℕ) (has : 0 < units) (start : List Disk) (past : List 
   t = turn ms (said (notes.Got serial)) rest
 
   abbrev Due : Type 0
-  Due = of_kind is_end_note rest ≡ ends_due start t
+  Due = TellsEnds start t
 
   -- ---- what the laws make of it
-  abbrev F : Event → List Note
-  F event = ends_by start T t (agent_turn event T wire rest)
+  abbrev F : Event → Option AgentTurn
+  F event = agent_turn event T wire rest
 
-  abbrev pointed : ℕ → OrbPointer → List Note
-  pointed q pointer = ends_by start T t (by_pointer q (agent_at T q) (point_step (agent_at T q).machine pointer))
+  abbrev pointed : ℕ → OrbPointer → Option AgentTurn
+  pointed q pointer = by_pointer q (agent_at T q) (point_step (agent_at T q).machine pointer)
 
-  abbrev rung : ℕ → List Note
-  rung q = ends_by start T t (by_doorbell q (agent_at T q) (doorbell_step (agent_at T q).machine))
+  abbrev rung : ℕ → Option AgentTurn
+  rung q = by_doorbell q (agent_at T q) (doorbell_step (agent_at T q).machine)
 
-  takes : Takes F [] pointed rung
+  takes : Takes F None pointed rung
   takes = record { none = refl; state = λ q a. refl; reset = λ q a. refl; enable = λ q a. refl; points = λ q a. refl; rings = λ q a. refl }
 
   event_is : (let there = access_there p none in event_by (said (notes.Got serial)) T wire ≡ write_in (Some there.access))
   event_is = request_brings units ready has start past s here serial one found zero_to p read none ∙ ap write_in (access_there p none).is
 
-  due_is : ends_due start t ≡ demand_takes F [] pointed rung takes (demand_of (length node.rom) p)
-  due_is =
+  turn_is : turn_in start t ≡ demand_takes F None pointed rung takes (demand_of (length node.rom) p)
+  turn_is =
       let there = access_there p none in
-      ap F event_is ∙ request_takes F [] pointed rung takes (length node.rom) p there.access here.holds.rom there.is
+      ap F event_is ∙ request_takes F None pointed rung takes (length node.rom) p there.access here.holds.rom there.is
 
   -- and the list of a place
   module _ (q : ℕ) where
@@ -163,8 +163,8 @@ module _ (units ready : ℕ) (has : 0 < units) (start : List Disk) (past : List 
         ap L event_is ∙ (request_takes L before list_pointed list_rung list_takes (length node.rom) p there.access here.holds.rom there.is ∙ ap (demand_takes L before list_pointed list_rung list_takes) d)
 
   -- ---- what the target does
-  none_due : (demand : Demand) → demand_of (length node.rom) p ≡ demand → demand_takes F [] pointed rung takes demand ≡ [] → NoEnds o.sides → Due
-  none_due demand d e n = none_handed o now others n ∙ sym (due_is ∙ (ap (demand_takes F [] pointed rung takes) d ∙ e))
+  none_due : (demand : Demand) → demand_of (length node.rom) p ≡ demand → demand_takes F None pointed rung takes demand ≡ None → NoEnds o.sides → Due
+  none_due demand d e n = turn_tells start t None (turn_is ∙ (ap (demand_takes F None pointed rung takes) d ∙ e)) (none_handed o now others n)
 
   small_bytes : BytesOf p
   small_bytes = bytes_of p one.bytes (spelled one.bytes p read) (ours w here.holds.sound.stands serial one found).bytes
@@ -181,8 +181,8 @@ module _ (units ready : ℕ) (has : 0 < units) (start : List Disk) (past : List 
       abbrev Points : Result Ask PointRefusal × Machine → Type 0
       Points r = o.sides ≡ (pointed_by q p one.bytes (pointed_desk d r) here_scene).outbox.sides → point_step d.agent pointer ≡ r → Due
 
-      law_is : (r : Result Ask PointRefusal × Machine) → point_step A.machine pointer ≡ r → ends_due start t ≡ ends_by start T t (by_pointer q A r)
-      law_is r e = due_is ∙ (ap (demand_takes F [] pointed rung takes) demand ∙ ap (λ x. ends_by start T t (by_pointer q A x)) e)
+      law_is : (r : Result Ask PointRefusal × Machine) → point_step A.machine pointer ≡ r → turn_in start t ≡ by_pointer q A r
+      law_is r e = turn_is ∙ (ap (demand_takes F None pointed rung takes) demand ∙ ap (λ x. by_pointer q A x) e)
 
       listed_is : (r : Result Ask PointRefusal × Machine) → point_step A.machine pointer ≡ r → list_taken start (said (notes.Got serial) ∷ ms) q ≡ listed_by r ms (initiator_at T wire q) (list_taken start ms q)
       listed_is r e =
@@ -190,11 +190,14 @@ module _ (units ready : ℕ) (has : 0 < units) (start : List Disk) (past : List 
           ∙ (ap (λ x. cond x (listed_by (point_step A.machine pointer) ms (initiator_at T wire q) (list_taken start ms q)) (list_taken start ms q)) (let same : nat_eq q q ≡ true = grind (arith, nat_tests) in same)
           ∙ ap (λ x. listed_by x ms (initiator_at T wire q) (list_taken start ms q)) e)
 
-      refused : (refusal : PointRefusal) (r : Result Ask PointRefusal × Machine) → r.0 ≡ Err refusal → ends_by start T t (by_pointer q A r) ≡ []
+      refused : (refusal : PointRefusal) (r : Result Ask PointRefusal × Machine) → r.0 ≡ Err refusal → by_pointer q A r ≡ None
       refused refusal (Err other, m) e = refl
       refused refusal (Ok ask, m) e = absurd (let no : Ok ask ≡ Err refusal = e in cc)
 
       module _ (ask : Ask) (m : Machine) (is : o.sides ≡ (pointed_by q p one.bytes (pointed_desk d (Ok ask, m)) here_scene).outbox.sides) (e : point_step d.agent pointer ≡ (Ok ask, m)) where
+        reads : ReadsIf (Ok ask, m)
+        reads = subst ReadsIf e (point_reads d.agent pointer)
+
         carried : CarriesIf (Ok ask, m)
         carried = subst CarriesIf e (point_carries d.agent pointer)
 
@@ -206,17 +209,18 @@ module _ (units ready : ℕ) (has : 0 < units) (start : List Disk) (past : List 
         by_law (Ok other, machine) f g al =
             let fit = point_fits d.agent pointer is_pointer (here.holds.sound.nodes.target_holds.fits.agents q) in
             let there = carried.1 in
-            opened_due units ready has start past s here serial one found zero_to p read none new same_layer q b served now holders tickets places ask m pointer machine al shaped carried.0
+            turn_tells start t (by_pointer q A (Ok other, machine)) (law_is (Ok other, machine) f)
+            (opened_due units ready has start past s here serial one found zero_to p read none new same_layer q b served now holders tickets places ask m pointer machine al shaped carried.0 reads
             (fit.ask ask (ap (λ (r : Result Ask PointRefusal × Machine). r.0) e)) (subst (λ (r : Result Ask PointRefusal × Machine). FitsAgent r.1) e fit.agent) there.0 there.1
             o (is ∙ ap (λ x. (asked_in q ask x (answered p one.bytes 0 [] (scene (with_desk here_scene.node q (record d { agent = m; pointer = present_of m })) (with_side empty_outbox (sides.Opened q (orb_of m)))))).outbox.sides) served.is)
-            other (let same : other ≡ ask = cc in same) (listed_is (Ok other, machine) f)
-            ∙ sym (law_is (Ok other, machine) f)
+            other (let same : other ≡ ask = cc in same) (listed_is (Ok other, machine) f))
 
       points : (r : Result Ask PointRefusal × Machine) → Points r
       points (Err refusal, m) is e =
-          none_handed o now others (subst NoEnds (sym (is ∙ answered_sides p one.bytes _ [] (scene (with_desk here_scene.node q (record d { agent = m })) empty_outbox))) tt)
-          ∙ sym (law_is (point_step A.machine pointer) refl
+          turn_tells start t None
+          (law_is (point_step A.machine pointer) refl
           ∙ refused refusal (point_step A.machine pointer) ((point_alike A.untold A.machine d.agent pointer (here.agents.are.each q b).machine).0 ∙ ap (λ (r : Result Ask PointRefusal × Machine). r.0) e))
+          (none_handed o now others (subst NoEnds (sym (is ∙ answered_sides p one.bytes _ [] (scene (with_desk here_scene.node q (record d { agent = m })) empty_outbox))) tt))
       points (Ok ask, m) is e =
           let al = point_alike A.untold A.machine d.agent pointer (here.agents.are.each q b).machine in
           by_law ask m is e (point_step A.machine pointer) refl (al.0 ∙ ap (λ (r : Result Ask PointRefusal × Machine). r.0) e)
@@ -224,8 +228,8 @@ module _ (units ready : ℕ) (has : 0 < units) (start : List Disk) (past : List 
 
     -- a doorbell
     module _ (demand : demand_of (length node.rom) p ≡ demands.Agent q accesses.Ring) where
-      rung_is : (r : Ask × Machine) → doorbell_step A.machine ≡ r → ends_due start t ≡ ends_by start T t (by_doorbell q A r)
-      rung_is r e = due_is ∙ (ap (demand_takes F [] pointed rung takes) demand ∙ ap (λ x. ends_by start T t (by_doorbell q A x)) e)
+      rung_is : (r : Ask × Machine) → doorbell_step A.machine ≡ r → turn_in start t ≡ by_doorbell q A r
+      rung_is r e = turn_is ∙ (ap (demand_takes F None pointed rung takes) demand ∙ ap (λ x. by_doorbell q A x) e)
 
       still_listed : list_taken start (said (notes.Got serial) ∷ ms) q ≡ list_taken start ms q
       still_listed = list_is q (demands.Agent q accesses.Ring) demand
@@ -241,13 +245,14 @@ module _ (units ready : ℕ) (has : 0 < units) (start : List Disk) (past : List 
             let fit = ring_fits d.agent (here.holds.sound.nodes.target_holds.fits.agents q) in
             let fits_ask = subst (λ (r : Ask × Machine). FitsAsk r.0) e fit.ask in
             let fits_agent = subst (λ (r : Ask × Machine). FitsAgent r.1) e fit.agent in
-            by x up shaped carried fits_ask fits_agent ∙ sym (rung_is (other, machine) f)
+            let reads = subst (λ (r : Ask × Machine). IsNoWrite r.0) e (ring_reads d.agent) in
+            turn_tells start t (by_doorbell q A (other, machine)) (rung_is (other, machine) f) (by x up shaped carried reads fits_ask fits_agent)
           where
-            by : (x : Bool) → is_reset (state_in d.agent.phase) ≡ x → IsShapedStep (asks ask, m) → Carries ask m.outgoing → FitsAsk ask → FitsAgent m → of_kind is_end_note rest ≡ ends_by start T t (by_doorbell q A (other, machine))
-            by false up shaped carried fits_ask fits_agent =
-                rung_due units ready has start past s here serial one found zero_to p read none new same_layer q b served now holders tickets places ask m other machine g al shaped carried fits_ask fits_agent o sides_are up still_listed
-            by true up shaped carried fits_ask fits_agent =
-                rung_none units ready has start past s here serial one found zero_to p read none new same_layer q b served now holders tickets places ask m other machine g al shaped carried fits_ask fits_agent o sides_are
+            by : (x : Bool) → is_reset (state_in d.agent.phase) ≡ x → IsShapedStep (asks ask, m) → Carries ask m.outgoing → IsNoWrite ask → FitsAsk ask → FitsAgent m → TellsFor start T t (by_doorbell q A (other, machine))
+            by false up shaped carried reads fits_ask fits_agent =
+                rung_due units ready has start past s here serial one found zero_to p read none new same_layer q b served now holders tickets places ask m other machine g al shaped carried reads fits_ask fits_agent o sides_are up still_listed
+            by true up shaped carried reads fits_ask fits_agent =
+                rung_none units ready has start past s here serial one found zero_to p read none new same_layer q b served now holders tickets places ask m other machine g al shaped carried reads fits_ask fits_agent o sides_are
                 (sym (ap (λ (r : Ask × Machine). r.0) e) ∙ reset_rings d.agent up)
 
       rings : (r : Ask × Machine) → o.sides ≡ (rung_by q p one.bytes r here_scene).outbox.sides → doorbell_step d.agent ≡ r → Due

@@ -21,8 +21,6 @@ use Rattle.sbp_journal.specs.declared.cause.Judged.{Judged}
 use Rattle.sbp_journal.specs.declared.cause.Judged.TheVariants as judgements
 use Rattle.sbp_journal.specs.declared.note.Note.TheVariants as notes
 use Rattle.sbp_journal.specs.declared.side.Side.TheVariants as sides
-use Rattle.sbp_laws.specs.Deaths.{ends_due}
-use Rattle.sbp_laws.specs.NoteKinds.{is_end_note, of_kind}
 use Rattle.sbp_laws.specs.Turns.{turn}
 use Rattle.sbp_target.specs.declared.purpose.Purpose.{Purpose}
 use Rattle.sbp_target.specs.declared.purpose.Purpose.TheVariants as purposes
@@ -36,6 +34,7 @@ use Rattle.sbp_world.specs.Hosts.Handing.{AreOthers}
 use Rattle.sbp_world.specs.Worlds.{Scene, WorldState, with_note, with_target}
 use Rattle.sbp_world.proofs.Agents.Management.Still.{hist}
 use Rattle.sbp_world.proofs.Lists.RunTells.{NoneRan, RanBy, TellsRun, delivery_tells as runs_tell, of_none, of_run}
+use Rattle.turn_laws.proofs.AgentDue.{TellsEnds}
 use Rattle.turn_laws.proofs.AgentHere.{good}
 use Rattle.turn_laws.proofs.EndNotes.{NoEnds, none_handed}
 use Rattle.turn_laws.proofs.Gots.{no_kind}
@@ -66,7 +65,7 @@ module _ (units ready : ℕ) (has : 0 < units) (start : List Disk) (past : List 
   behind judged x = with_note (judged_note serial judged) (marked serial again (with_target x w))
 
   abbrev Ends : Judged → NodeState → OutboxState → Type 0
-  Ends judged x o = of_kind is_end_note (handed 0 0 o (behind judged x)) ≡ ends_due start (turn ms (said (judged_note serial judged)) (handed 0 0 o (behind judged x)))
+  Ends judged x o = TellsEnds start (turn ms (said (judged_note serial judged)) (handed 0 0 o (behind judged x)))
 
   abbrev IfCalled : Judged × Whole → Type 0
   IfCalled (judged, x) = AreOthers x.outbox.sides → AreJudged (said (judged_note serial judged) ∷ ms) → TellsRun (NoneRan node one run s.media) (RanBy node one run s.media) x.outbox.sides → Ends judged x.node x.outbox

@@ -3,6 +3,7 @@ use Rattle.turn_laws.specs.Together.{TurnsLaw}
 use Rattle.turn_laws.proofs.Announcing.{announced_law}
 use Rattle.turn_laws.proofs.Cleared.{cleared_law}
 use Rattle.turn_laws.proofs.Cuts.{cuts_law}
+use Rattle.turn_laws.proofs.Deaths.{deaths_law}
 use Rattle.turn_laws.proofs.DecisionRuns.{decided_law}
 use Rattle.turn_laws.proofs.FailingRuns.{failing_law}
 use Rattle.turn_laws.proofs.FailureNotes.{failures_law}
@@ -13,6 +14,7 @@ use Rattle.turn_laws.proofs.LoginRuns.{login_run_law}
 use Rattle.turn_laws.proofs.Once.{once_law}
 use Rattle.turn_laws.proofs.OrderRuns.{ordered_law}
 use Rattle.turn_laws.proofs.SentPackets.{packets_run_law}
+use Rattle.turn_laws.proofs.Unserved.{unserved_law}
 
 pub turns_law : TurnsLaw
 turns_law = record {
@@ -25,6 +27,8 @@ turns_law = record {
     packets = packets_run_law.after_lines line run is some most size;
     ends = ends_law.after_lines line run is some most size;
     once = once_law.after_lines line run is some most size;
+    deaths = deaths_law.after_lines line run is some most size;
+    unserved = unserved_law.after_lines line run is some most size;
     faults = faults_law.after_lines line run is some most size;
     decided = decided_law.after_lines line run is some most size;
     failures = failures_law.after_lines line run is some most size;
@@ -40,6 +44,8 @@ turns_law = record {
     packets = packets_run_law.between line run is some most size next deliveries told may;
     ends = ends_law.between line run is some most size next deliveries told may;
     once = once_law.between line run is some most size next deliveries told may;
+    deaths = deaths_law.between line run is some most size next deliveries told may;
+    unserved = unserved_law.between line run is some most size next deliveries told may;
     faults = faults_law.between line run is some most size next deliveries told may;
     decided = decided_law.between line run is some most size next deliveries told may;
     failures = failures_law.between line run is some most size next deliveries told may;

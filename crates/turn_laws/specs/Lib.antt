@@ -5,6 +5,8 @@ pub mod Announced
 pub mod Faults
 pub mod Ends
 pub mod Once
+pub mod Deaths
+pub mod Unserved
 pub mod Ordered
 pub mod Logins
 pub mod Decisions

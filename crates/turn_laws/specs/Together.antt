@@ -11,12 +11,14 @@ use Rattle.sbp_laws.specs.Turns.{EachMoment, EachTurn}
 use Rattle.turn_laws.specs.Announced.{AnnouncesWhereDue}
 use Rattle.turn_laws.specs.Cleared.{ClearsWhereDue}
 use Rattle.turn_laws.specs.Cuts.{CutsWhereDue}
+use Rattle.turn_laws.specs.Deaths.{DiesByRows}
 use Rattle.turn_laws.specs.Failing.{FailsByRows}
 use Rattle.turn_laws.specs.Failures.{FailsWhereDue}
 use Rattle.turn_laws.specs.Ends.{EndsWhereDue}
 use Rattle.turn_laws.specs.Faults.{DiesBeforeFaults}
 use Rattle.turn_laws.specs.Once.{DiesOnce}
 use Rattle.turn_laws.specs.Runs.{OfEveryRun}
+use Rattle.turn_laws.specs.Unserved.{UnservedWhereTold}
 
 pub record LawfulInTurns (start : List Disk) (past : List Moment) : Type 0 where
   pub judgement : JudgementLaw start past
@@ -27,6 +29,8 @@ pub record LawfulInTurns (start : List Disk) (past : List Moment) : Type 0 where
   pub packets : EachMoment SentAt past
   pub ends : EachTurn (EndsWhereDue start) past
   pub once : EachTurn (DiesOnce start) past
+  pub deaths : EachTurn (DiesByRows start) past
+  pub unserved : EachTurn (UnservedWhereTold start) past
   pub faults : EachTurn DiesBeforeFaults past
   pub decided : EachTurn (DecisionStands start) past
   pub failures : EachTurn (FailsWhereDue start) past

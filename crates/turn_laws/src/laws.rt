@@ -2,6 +2,7 @@
 ghost use Rattle.turn_laws.specs.Announced.{AnnouncedLaw};
 ghost use Rattle.turn_laws.specs.Cleared.{ClearedLaw};
 ghost use Rattle.turn_laws.specs.Cuts.{CutsLaw};
+ghost use Rattle.turn_laws.specs.Deaths.{DeathsLaw};
 ghost use Rattle.turn_laws.specs.Decided.{DecidedLaw};
 ghost use Rattle.turn_laws.specs.Failing.{FailingLaw};
 ghost use Rattle.turn_laws.specs.Failures.{FailuresLaw};
@@ -12,6 +13,7 @@ ghost use Rattle.turn_laws.specs.Login.{LoginRunLaw};
 ghost use Rattle.turn_laws.specs.Once.{OnceLaw};
 ghost use Rattle.turn_laws.specs.Ordered.{OrderedLaw};
 ghost use Rattle.turn_laws.specs.Packets.{PacketsLaw};
+ghost use Rattle.turn_laws.specs.Unserved.{UnservedLaw};
 ghost use Rattle.turn_laws.specs.Operations.{StatusEndsLaw};
 
 /// In each turn of every run exactly the units are cleared that the decision of the turn resets, whatever
@@ -69,6 +71,22 @@ pub fn orbs_end_where_due()
 #[tactic(auto, using(crate::proofs::Once::once_law))]
 pub fn agents_die_once()
     ensures { OnceLaw }
+{}
+
+/// In each turn of every run a death of an agent has its row, whatever anybody injected: a main transaction of the
+/// agent timed out, found no label, was answered by another rcode than 0 or brought a payload of another length
+/// than it asked for, or the ORB or the page table that comes to be checked is illegal: `deaths` of the cause law.
+#[tactic(auto, using(crate::proofs::Deaths::deaths_law))]
+pub fn deaths_have_rows()
+    ensures { DeathsLaw }
+{}
+
+/// In every run, whatever anybody injected, there are bytes with which the write of a chunk of an answer finds no
+/// label, as many as it has, where the medium did not tell them and the turn tells that it found none: `unserved`
+/// of the cause law.
+#[tactic(auto, using(crate::proofs::Unserved::unserved_law))]
+pub fn untold_chunks_find_no_label()
+    ensures { UnservedLaw }
 {}
 
 /// The login law holds of every run, whatever anybody injected: in each turn the decisions stand that are
