@@ -2,7 +2,7 @@
 use Rattle.std.proofs.Common.{◌≡◌, ◌∙◌, List, [], ◌∷◌, ◌++◌, map, reverse, true≢false, refl, sym, ap}
 use Rattle.std.proofs.lemmas.Grind.{reverse_onto}
 use Rattle.std.proofs.lemmas.List.{reverse-reverse}
-use Rattle.sbp_journal.specs.Run.{Moment, asked, said}
+use Rattle.sbp_journal.specs.Run.{Moment, said}
 use Rattle.sbp_journal.specs.declared.note.Note.{Note}
 use Rattle.sbp_journal.specs.declared.note.Note.TheVariants as notes
 use Rattle.sbp_laws.specs.Deliveries.{AreEffects, once_told}
@@ -78,20 +78,7 @@ module _ (Law : Turn → Type 0) where
   turns_before (notes.Stopped ∷ rest) past each = (turns_before rest (said notes.Stopped ∷ past) each).1
   turns_before (note ∷ rest) past each = turns_before rest (said note ∷ past) each
 
--- two laws of turns, and of moments, as one
-module _ (A B C : Turn → Type 0) (make : (t : Turn) → A t → B t → C t) where
-  pub with_turns : (past : List Moment) (rest : List Note) → EachTurnBefore A past rest → EachTurnBefore B past rest → EachTurnBefore C past rest
-  with_turns [] rest a b = tt
-  with_turns (asked line event ∷ past) rest a b = (make _ a.0 b.0, with_turns past [] a.1 b.1)
-  with_turns (said (notes.Got serial) ∷ past) rest a b = (make _ a.0 b.0, with_turns past [] a.1 b.1)
-  with_turns (said (notes.Ignored serial cause) ∷ past) rest a b = (make _ a.0 b.0, with_turns past [] a.1 b.1)
-  with_turns (said (notes.TimedOut serial) ∷ past) rest a b = (make _ a.0 b.0, with_turns past [] a.1 b.1)
-  with_turns (said (notes.Seen node generation) ∷ past) rest a b = (make _ a.0 b.0, with_turns past [] a.1 b.1)
-  with_turns (said notes.Tick ∷ past) rest a b = (make _ a.0 b.0, with_turns past [] a.1 b.1)
-  with_turns (said notes.Settled ∷ past) rest a b = (make _ a.0 b.0, with_turns past [] a.1 b.1)
-  with_turns (said notes.Stopped ∷ past) rest a b = (make _ a.0 b.0, with_turns past [] a.1 b.1)
-  with_turns (said note ∷ past) rest a b = with_turns past (note ∷ rest) a b
-
+-- two laws of moments as one
 module _ (A B C : Moment → List Moment → Type 0) (make : (moment : Moment) (past : List Moment) → A moment past → B moment past → C moment past) where
   pub with_moments : (past : List Moment) → EachMoment A past → EachMoment B past → EachMoment C past
   with_moments [] a b = tt

@@ -19,11 +19,12 @@ use Rattle.sbp_laws.specs.StatusLaw.{TakesEach}
 use Rattle.sbp_laws.specs.Turns.{EachMoment, EachTurn, Turn}
 use Rattle.lawful_journal.specs.Determined.{IsLawfulAsTold, RunsAreDetermined}
 use Rattle.lawful_journal.specs.Telling.{TakenAsTold, Telling, TurnAsTold}
-use Rattle.lawful_journal.proofs.Histories.{moments_before, put_reverse, turns_before, with_moments, with_turns}
+use Rattle.lawful_journal.proofs.Histories.{moments_before, put_reverse, turns_before, with_moments}
 use Rattle.lawful_journal.proofs.Lines.{same_line}
 use Rattle.lawful_journal.proofs.Settling.{Stands}
 use Rattle.lawful_journal.proofs.Takings.{HoldsAt}
 use Rattle.lawful_journal.proofs.Turned.{Holds}
+use Rattle.sbp_laws.proofs.EachTurns.{with_turns}
 
 -- ---- the numbered events
 abbrev Numbered : Type 0

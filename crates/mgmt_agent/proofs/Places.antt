@@ -29,7 +29,7 @@ use Rattle.mgmt_agent.proofs.Doing.{effects_of_decisions}
 use Rattle.mgmt_agent.proofs.Effects.{decisions_call, replies_call}
 use Rattle.mgmt_agent.proofs.Outcomes.{decide_fit}
 
-calls_kept : (calls : List Call) (table : Table) → IsTable table → IsTable (all_after calls table)
+pub calls_kept : (calls : List Call) (table : Table) → IsTable table → IsTable (all_after calls table)
 calls_kept [] table t = t
 calls_kept (call ∷ calls) table t = after_kept call (all_after calls table) (calls_kept calls table t)
 

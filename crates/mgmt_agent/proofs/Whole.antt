@@ -248,7 +248,7 @@ noted_before : (s : ManagerStep × (Machine × Table)) (table : Table) (keys : L
 noted_before s table keys bytes notes e =
     ap (λ (f : Option FailCause). note_ask s.0.ask s.0.failed s.1.0.outgoing (note_decided s.0.decided s.0.effect table keys s.1.1 (note_answer (Payload bytes) f notes))) (sym e)
 
-either_goes_on : (b : Bool) (x y : ManagerStep × Machine) → x.0.failed ≡ None → y.0.failed ≡ None → (cond b x y).0.failed ≡ None
+pub either_goes_on : (b : Bool) (x y : ManagerStep × Machine) → x.0.failed ≡ None → y.0.failed ≡ None → (cond b x y).0.failed ≡ None
 either_goes_on true x y p q = p
 either_goes_on false x y p q = q
 
@@ -256,7 +256,7 @@ decide_goes_on : (m : Machine) (operation : Operation) (orb : ManagementOrb) (eu
 unfolding decide_step
 decide_goes_on m operation orb eui table keys = either_goes_on _ _ _ refl refl
 
-either_read : (b : Bool) (x y : ManagerStep × (Machine × Table)) → x.0.failed ≡ None → y.0.failed ≡ None → (cond b x y).0.failed ≡ None
+pub either_read : (b : Bool) (x y : ManagerStep × (Machine × Table)) → x.0.failed ≡ None → y.0.failed ≡ None → (cond b x y).0.failed ≡ None
 either_read true x y p q = p
 either_read false x y p q = q
 

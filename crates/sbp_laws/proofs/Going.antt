@@ -87,7 +87,7 @@ quiet_on note n t = by t.reply refl
         ∙ sym (ap (λ (r : Option Reply). taken_on None r t) e)
 
 -- ---- the initiator of an ID is the same by terms that have the same IDs
-from_same : (more i : ℕ) (t u : Terms) (id : ℕ) → ((n : ℕ) → id_for u 0 n ≡ id_for t 0 n) → initiator_from more i u id ≡ initiator_from more i t id
+pub from_same : (more i : ℕ) (t u : Terms) (id : ℕ) → ((n : ℕ) → id_for u 0 n ≡ id_for t 0 n) → initiator_from more i u id ≡ initiator_from more i t id
 from_same zero i t u id same = refl
 from_same (suc more) i t u id same =
     ap (λ x. cond (x == id) i (initiator_from more (i + 1) u id)) (same (i + 1)) ∙ ap (λ x. cond (id_for t 0 (i + 1) == id) i x) (from_same more (i + 1) t u id same)

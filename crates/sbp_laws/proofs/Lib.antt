@@ -21,3 +21,4 @@ mod OthersTries
 mod NamedTries
 mod OwnTries
 pub mod InTime
+pub mod EachTurns

@@ -4,6 +4,7 @@ pub mod Made
 pub mod Found
 pub mod Answered
 pub mod Labelled
+pub mod Followed
 pub mod Quiet
 pub mod Framed
 pub mod Told

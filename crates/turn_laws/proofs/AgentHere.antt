@@ -1,14 +1,13 @@
 -- What is known at a place of an agent that is not in RESET: whose login it serves, by what names the notes and the laws have its initiator, its list and its ORBs, and that its requests fit packets.
-use Rattle.std.proofs.Common.{arith, ◌≡◌, ◌∙◌, refl, sym, ap, subst, ℕ, ◌<◌, ◌^◌, is_some, Bool, true, false, List, length, Option, Some}
+use Rattle.std.proofs.Common.{◌≡◌, ◌∙◌, refl, sym, ap, subst, ℕ, ◌<◌, ◌^◌, is_some, Bool, true, false, List, length, Option, Some}
 use Rattle.login_table.specs.Table.{Table, is_live, place_at}
 use Rattle.login_table.specs.declared.login.Login.{Login}
 use Rattle.orb_layout.specs.declared.ask.FailCause.{FailCause}
-use Rattle.orb_layout.specs.declared.ask.FailCause.TheVariants as causes
 use Rattle.orb_layout.specs.Replies.{Answer}
 use Rattle.rbc_disk.specs.Disk.{Disk}
 use Rattle.rbc_disk.specs.Runs.{Told}
 use Rattle.rbc_disk.specs.Units.{PlainDisk}
-use Rattle.command_agent.specs.Machine.{Machine, is_ahead, is_sent, state_in}
+use Rattle.command_agent.specs.Machine.{Machine, is_ahead, state_in}
 use Rattle.command_agent.specs.Steps.{is_reset, lost_step, quiet, reply_step}
 use Rattle.command_agent.specs.declared.phase.Phase.{Phase}
 use Rattle.command_agent.specs.declared.phase.Phase.TheVariants as phases
@@ -44,19 +43,7 @@ use Rattle.sbp_world.proofs.FitTarget.Agents.{BytesIn, FitsStep, lost_fits, repl
 use Rattle.sbp_world.proofs.FitTarget.Nodes.{IfBody, agent_body_fits}
 use Rattle.sbp_world.proofs.Lists.DueRuns.{named_as}
 use Rattle.turn_laws.proofs.Places.{Place}
-
--- an agent that waits for something is out of RESET
-sent_up : (phase : Phase) → is_sent phase ≡ true → is_reset (state_in phase) ≡ false
-sent_up phases.Reset e = absurd (let no : false ≡ true = e in cc)
-sent_up phases.Fetching e = refl
-sent_up phases.ReadingTable e = refl
-sent_up (phases.ReadingData wanted) e = refl
-sent_up phases.Answering e = refl
-sent_up phases.WritingStatus e = refl
-sent_up phases.ReadingNext e = refl
-sent_up phases.WritingLastStatus e = refl
-sent_up phases.Suspended e = refl
-sent_up phases.Dead e = refl
+use Rattle.sbp_world.proofs.Agents.AskedAgents.{sent_reset}
 
 ahead_up : (phase : Phase) (b : Bool) → b ≡ true → (is_bare phase ≡ true → b ≡ false) → is_reset (state_in phase) ≡ false
 ahead_up phases.Reset b e f = absurd (let no : true ≡ false = sym e ∙ f refl in cc)
@@ -72,7 +59,7 @@ ahead_up phases.Dead b e f = refl
 
 module _ (d : Desk) (fits : Fits d) where
   under_way : (which : Which) (sent : Sent) → kept_as which d ≡ Some sent → is_reset (state_in d.agent.phase) ≡ false
-  under_way Main sent e = sent_up d.agent.phase (sym fits.main ∙ ap (λ (o : Option Sent). is_some o) e)
+  under_way Main sent e = sent_reset d.agent.phase (sym fits.main ∙ ap (λ (o : Option Sent). is_some o) e)
   under_way Ahead sent e = ahead_up d.agent.phase (is_ahead d.agent.ahead) (sym fits.ahead ∙ ap (λ (o : Option Sent). is_some o) e) fits.agent.bare
 
   -- a packet carries what its step asks for

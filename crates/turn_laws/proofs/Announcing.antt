@@ -1,6 +1,6 @@
 -- Each turn of every run tells of a disc that came whom the media law has told of it: behind a run that was a load each other live login of the unit whose register is enabled, by rising
 -- place; and in no other turn anybody.
-use Rattle.std.proofs.Common.{arith, ◌≡◌, ◌∙◌, refl, sym, ap, subst, ℕ, zero, suc, ◌+◌, ◌<◌, ◌≤◌, ◌==◌, ◌&&◌, ◌||◌, not, nat_lt, is_some, Bool, true, false, cond, List, [], ◌∷◌, ◌++◌, length, map, Option, Some, None, Result}
+use Rattle.std.proofs.Common.{arith, ◌≡◌, ◌∙◌, refl, sym, ap, subst, ℕ, zero, suc, ◌+◌, ◌<◌, ◌≤◌, ◌==◌, ◌&&◌, not, nat_lt, is_some, Bool, true, false, cond, List, [], ◌∷◌, ◌++◌, length, map, Option, Some, None, Result}
 use Rattle.std.specs.Prelude.{slice_index_or, slice_set, unwrap_or}
 use Rattle.std.proofs.lemmas.Bool.Decides.{nat_tests}
 use Rattle.std.proofs.lemmas.List.{get_or-set_same, set_past}
@@ -21,8 +21,7 @@ use Rattle.login_table.specs.declared.login.Login.{Login}
 use Rattle.media_bay.specs.Unsolicited.{block}
 use Rattle.mgmt_agent.specs.Machine.{reply_step as manager_reply, source_in}
 use Rattle.orb_layout.specs.Replies.{Answer}
-use Rattle.packet_store.specs.Kept.{found_sent, is_flying}
-use Rattle.packet_store.specs.Stored.{deliver_step}
+use Rattle.packet_store.specs.Kept.{found_sent}
 use Rattle.packet_store.specs.declared.sent.Sent.{Sent}
 use Rattle.rbc_command.specs.declared.sense.Sense.{Sense}
 use Rattle.rbc_disk.specs.Disk.{Disk, disk_at, no_disk}
@@ -53,7 +52,7 @@ use Rattle.sbp_laws.specs.DiskFold.{asks_load, is_good, moves_disc, unit_at}
 use Rattle.sbp_laws.specs.MediaLaw.{Load, is_push_note, is_told, load_if, load_in, logins_for, told_logins}
 use Rattle.sbp_laws.specs.NoteKinds.{of_kind}
 use Rattle.sbp_laws.specs.Packets.{id_for}
-use Rattle.sbp_laws.specs.Targets.{Reply, Target, initiator_from, initiator_with, node_in, over, place_on, taken_on, target_at}
+use Rattle.sbp_laws.specs.Targets.{Reply, Target, initiator_with, node_in, over, place_on, taken_on, target_at}
 use Rattle.sbp_laws.specs.Turns.{turn}
 use Rattle.sbp_initiator.specs.Receiving.{receive_step}
 use Rattle.sbp_target.specs.Calls.{receives}
@@ -99,6 +98,10 @@ use Rattle.turn_laws.proofs.ManagedSides.{begins, from_self}
 use Rattle.turn_laws.proofs.Pass.{of_every_run}
 use Rattle.turn_laws.proofs.Places.{Place}
 use Rattle.turn_laws.proofs.PushSides.{ArePushes, AreSilent, NoPushes, announced_pushes, decision_silent, expired_silent, first_none, is_ran_note, last_noted, plain_none, pushes_in, pushes_none, quiet_before, request_silent, run_noted, runs_none, sight_silent, silent_none, silent_runless}
+use Rattle.sbp_world.proofs.Wire.Kept.{and_false}
+use Rattle.sbp_laws.proofs.Going.{from_same}
+use Rattle.turn_laws.proofs.Cuts.{marked_holder}
+use Rattle.sbp_world.proofs.Common.{and_first, and_second}
 
 -- ---- kinds of notes that the target tells
 push_kind : IsToldKind is_push_note
@@ -147,22 +150,13 @@ got_ids : (so : Option Sending) (serial : ℕ) (t : Terms) → SameIds t (gets s
 got_ids None serial t = (refl, refl)
 got_ids (Some packet) serial t = got_as_ids (part_of packet.bytes) serial packet (is_served serial (is_news serial (arrives serial t)))
 
-same_from : (left i : ℕ) (t u : Terms) (id : ℕ) → ((m : ℕ) → id_for u 0 m ≡ id_for t 0 m) → initiator_from left i u id ≡ initiator_from left i t id
-same_from zero i t u id h = refl
-same_from (suc left) i t u id h =
-    ap (λ x. cond (x == id) i (initiator_from left (i + 1) u id)) (h (i + 1)) ∙ ap (λ k. cond (id_for t 0 (i + 1) == id) i k) (same_from left (i + 1) t u id h)
-
 pub got_initiator : (serial : ℕ) (ms : List Moment) (id : ℕ) → initiator_with (terms (said (notes.Got serial) ∷ ms)) id ≡ initiator_with (terms ms) id
 got_initiator serial ms id =
     let t = terms ms in
     let g = got_ids (t.sent serial) serial t in
-    same_from 4 0 t (terms (said (notes.Got serial) ∷ ms)) id (λ m. ap (λ (ids : ℕ → ℕ → ℕ). ids ((terms (said (notes.Got serial) ∷ ms)).generation 0) m) g.0 ∙ ap (λ (generation : ℕ → ℕ). t.ids (generation 0) m) g.1)
+    from_same 4 0 t (terms (said (notes.Got serial) ∷ ms)) id (λ m. ap (λ (ids : ℕ → ℕ → ℕ). ids ((terms (said (notes.Got serial) ∷ ms)).generation 0) m) g.0 ∙ ap (λ (generation : ℕ → ℕ). t.ids (generation 0) m) g.1)
 
 -- ---- a disc that came
-and_false : (b : Bool) → (b && false) ≡ false
-and_false true = refl
-and_false false = refl
-
 beyond_none : (disks : List Disk) (unit : ℕ) → length disks ≤ unit → disk_at disks unit ≡ no_disk
 beyond_none [] unit l = refl
 beyond_none (disk ∷ disks) zero l = absurd (omega (arith, l))
@@ -201,9 +195,7 @@ shuffled false true c d = refl
 shuffled false false c d = refl
 
 second_of : (a b c : Bool) → (a && (b && c)) ≡ true → b ≡ true
-second_of true true c e = refl
-second_of true false c e = absurd (let no : false ≡ true = e in cc)
-second_of false b c e = absurd (let no : false ≡ true = e in cc)
+second_of a b c e = and_first b c (and_second a (b && c) e)
 
 -- ---- at a place
 module _ (units ready : ℕ) (has : 0 < units) (start : List Disk) (past : List Moment) (s : Scene) (here : Place units ready start past s) where
@@ -570,14 +562,6 @@ line_due start line s past event rest (resets physical generation e) = refl
 line_due start line s past event rest (loses serial) = refl
 line_due start line s past event rest (sets_key unit key) = refl
 line_due start line s past event rest (injects i bytes serial generation from to) = refl
-
--- the places are as before the call
-marked_holder : (serial : ℕ) (again : Bool) (v : WorldState) (p : ℕ) → holder (marked serial again v) p ≡ holder v p
-marked_holder serial again v p = by (again || not (is_flying serial v.store.kept))
-  where
-    by : (b : Bool) → holder (cond b v (record v { store = deliver_step v.store serial })) p ≡ holder v p
-    by true = refl
-    by false = refl
 
 module _ (units ready : ℕ) (has : 0 < units) (start : List Disk) where
   own_due : (past : List Moment) (first : Moment) (node weight : ℕ) (outbox : OutboxState) (w : WorldState) → AreOwn outbox.sides → AnnouncesWhereDue start (turn past first (handed node weight outbox w))

@@ -27,6 +27,7 @@ use Rattle.sbp_world.proofs.Hosts.Answering.{answer}
 use Rattle.sbp_world.proofs.Wire.Bus.{holds}
 use Rattle.sbp_world.proofs.Wire.Found.{node_found}
 use Rattle.turn_laws.proofs.Handed.{handed, notes_sent, notes_told, packet_note}
+use Rattle.sbp_world.proofs.Agents.Management.Delivery.{marked_generations}
 
 -- ---- nothing is handed out
 pub none_handed : (node : ℕ) (o : OutboxState) (w : WorldState) → o.sides ≡ [] → o.packets ≡ [] → handed node 0 o w ≡ []
@@ -43,13 +44,6 @@ marked_last : (serial : ℕ) (again : Bool) (w : WorldState) → (marked serial 
 marked_last serial again w = by (again || not (is_flying serial w.store.kept)) refl
   where
     by : (b : Bool) → (again || not (is_flying serial w.store.kept)) ≡ b → (marked serial again w).store.last ≡ w.store.last
-    by true e = rw e refl
-    by false e = rw e refl
-
-marked_generations : (serial : ℕ) (again : Bool) (w : WorldState) → (marked serial again w).generations ≡ w.generations
-marked_generations serial again w = by (again || not (is_flying serial w.store.kept)) refl
-  where
-    by : (b : Bool) → (again || not (is_flying serial w.store.kept)) ≡ b → (marked serial again w).generations ≡ w.generations
     by true e = rw e refl
     by false e = rw e refl
 

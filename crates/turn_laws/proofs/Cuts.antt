@@ -95,6 +95,8 @@ use Rattle.turn_laws.proofs.Handed.{handed}
 use Rattle.turn_laws.proofs.KindNotes.{none_behind, own_handed}
 use Rattle.turn_laws.proofs.Pass.{of_every_run}
 use Rattle.turn_laws.proofs.Places.{Place}
+use Rattle.turn_laws.proofs.RequestEvents.{quadlet_writes}
+use Rattle.sbp_world.proofs.Agents.Demands.{none_some}
 
 no_own : (note : Note) → IsNoRun note → is_cut_note note ≡ false
 no_own (notes.Cut i list cause) h = absurd h
@@ -123,11 +125,6 @@ module _ (start : List Disk) (ms : List Moment) (wire : Terms) (T : Target) wher
   either true event e = e
   either false event e = refl
 
-  quadlet_writes : (l w b : Bool) → (not l && w && not b) ≡ true → w ≡ true
-  quadlet_writes true w b e = absurd (let no : false ≡ true = e in cc)
-  quadlet_writes false true b e = refl
-  quadlet_writes false false b e = absurd (let no : false ≡ true = e in cc)
-
   pointer_cuts : (w : Bool) (place : ℕ) (access : Access) → access_cuts place (cond w (accesses.Point (pointer_at access.payload 0)) accesses.Pointer) ≡ []
   pointer_cuts true place access = refl
   pointer_cuts false place access = refl
@@ -141,9 +138,6 @@ module _ (start : List Disk) (ms : List Moment) (wire : Terms) (T : Target) wher
       either (access.is_write && start_serves (register place orb_pointer) access) (writes orb_pointer place access) refl ∙ sym (pointer_cuts access.is_write place access)
   register_cuts doorbell place access s = either (access.is_write && start_serves (register place doorbell) access) (writes doorbell place access) refl
   register_cuts unsolicited_enable place access s = either (access.is_write && start_serves (register place unsolicited_enable) access) (writes unsolicited_enable place access) refl
-
-  none_some : (d : Demand) → Some d ≡ None → ⊥
-  none_some d e = cc
 
   start_cuts : (at : Start) (access : Access) (d : Demand) → start_serves at access ≡ true → Some d ≡ asked_at at access → ByEvent (write_of at access) ≡ demand_cuts d
   start_cuts management_agent access d s e =
@@ -500,7 +494,7 @@ end_cuts start past true = refl
 end_cuts start past false = refl
 
 -- the places are as before the call
-marked_holder : (serial : ℕ) (again : Bool) (v : WorldState) (p : ℕ) → holder (marked serial again v) p ≡ holder v p
+pub marked_holder : (serial : ℕ) (again : Bool) (v : WorldState) (p : ℕ) → holder (marked serial again v) p ≡ holder v p
 marked_holder serial again v p = by (again || not (is_flying serial v.store.kept))
   where
     by : (b : Bool) → holder (cond b v (record v { store = deliver_step v.store serial })) p ≡ holder v p

@@ -34,6 +34,7 @@ use Rattle.turn_laws.specs.Ends.{EndsWhereDue}
 use Rattle.turn_laws.proofs.DeathSteps.{FairFor, Has, Row, ahead_lives, main_dies}
 use Rattle.turn_laws.proofs.EndTries.{Brought, brings, brought, brought_notes, brought_unsent, dead_in, fails_in, found_by, notes_tried}
 use Rattle.turn_laws.proofs.IdleAheads.{idle_ahead}
+use Rattle.sbp_world.proofs.Common.{none_is}
 
 -- An answer to a main transaction is one to what the agent asked for.
 abbrev pub AnswersAt : List Disk → List Moment → Moment → Type 0
@@ -43,19 +44,16 @@ AnswersAt start past moment =
 abbrev pub AnswersFairly : List Disk → Turn → Type 0
 AnswersFairly start t = AnswersAt start t.past t.start
 
-none_some : {A : Type 0} (x : FailCause) → None ≡ Some x → A
-none_some x e = absurd (let no : None ≡ Some x = e in cc)
-
 lacks : (finds : Body → Bool) (body : Option Body) → found_by finds body ≡ false → lacks_label finds body ≡ true
 lacks finds None e = absurd (let no : true ≡ false = e in cc)
 lacks finds (Some body) e = ap not e
 
 -- a loss for want of a label
 by_label : (phase : Phase) (cause : FailCause) → dead_in phase ≡ Some cause → causes.Label ≡ cause
-by_label phases.Reset cause e = none_some cause e
-by_label phases.Suspended cause e = none_some cause e
-by_label phases.Dead cause e = none_some cause e
-by_label phases.WritingLastStatus cause e = none_some cause e
+by_label phases.Reset cause e = none_is cause e
+by_label phases.Suspended cause e = none_is cause e
+by_label phases.Dead cause e = none_is cause e
+by_label phases.WritingLastStatus cause e = none_is cause e
 by_label phases.Fetching cause e = cc
 by_label phases.ReadingTable cause e = cc
 by_label (phases.ReadingData wanted) cause e = cc
@@ -122,10 +120,10 @@ module _ (start : List Disk) (t : Turn) where
 
     unsent_rows : HasRow causes.Label → (ended : Option StatusKind) → Rows (brought_notes i list one (brought_unsent a.step a.machine.phase ended))
     unsent_rows h (Some kind) = let phase = a.machine.phase in brought_rows i list one (brings a.step.dead (Some kind) (dead_in phase)) dies (lost_rows h)
-    unsent_rows h None = let phase = a.machine.phase in brought_rows i list one (brings (dead_in phase) (fails_in phase) None) (lost_rows h) (λ cause e. none_some cause e)
+    unsent_rows h None = let phase = a.machine.phase in brought_rows i list one (brings (dead_in phase) (fails_in phase) None) (lost_rows h) (λ cause e. none_is cause e)
 
     step_rows : (b : Bool) → found_by (finds_first T t a) body ≡ b → Rows (brought_notes i list one (brought b a.step a.machine.phase))
-    step_rows true e = brought_rows i list one (brings a.step.dead a.step.ended None) dies (λ cause f. none_some cause f)
+    step_rows true e = brought_rows i list one (brings a.step.dead a.step.ended None) dies (λ cause f. none_is cause f)
     step_rows false e = unsent_rows (label_row e) a.step.ended
 
     agent_rows : Rows (agent_notes_for start T t a)
@@ -148,7 +146,7 @@ module _ (start : List Disk) (t : Turn) where
     row_of causes.Label h = absurd h
 
     rows_by : (dead : Option FailCause) → Has m answer access m.phase dead → HaveRows dead
-    rows_by None h cause e = none_some cause e
+    rows_by None h cause e = none_is cause e
     rows_by (Some other) h cause e = let same : other ≡ cause = cc in subst HasRow same (row_of other h)
 
     main_rows : FairFor (main_under m) answer access → (place : ℕ) (plain : PlainDisk) (told : Option Told) → HaveRows (reply_step m place plain told Main answer).0.dead
@@ -156,7 +154,7 @@ module _ (start : List Disk) (t : Turn) where
 
   -- ---- at each event
   none_rows : (dead : Option FailCause) → dead ≡ None → HaveRows dead
-  none_rows dead e cause f = none_some cause (sym e ∙ f)
+  none_rows dead e cause f = none_is cause (sym e ∙ f)
 
   reply_dies : AnswersFairly start t → (q : ℕ) (which : Which) (answer : Answer) → event ≡ replies (record { place = q; which = which; answer = answer }) → (plain : PlainDisk) (told : Option Told) → HaveRows (reply_step (agent_at T q).machine q plain told which answer).0.dead
   reply_dies fair q Main answer e plain told = main_rows q answer e (fair (record { place = q; which = Main; answer = answer }) e refl) q plain told

@@ -1,5 +1,6 @@
 -- Why an agent dies at a reply to its main transaction: by the answer, where it is one to what the agent asked for, or by an ORB or a page table that is illegal.
 use Rattle.std.proofs.Common.{◌≡◌, ◌∙◌, refl, sym, ap, subst, ℕ, ◌*◌, ◌+◌, ◌^◌, ◌==◌, ◌&&◌, ◌||◌, not, nat_lt, is_some, Bool, true, false, cond, List, ◌++◌, length, Option, Some, None, Result, Ok, Err}
+use Rattle.std.proofs.lemmas.Bool.{or_left, or_right}
 use Rattle.orb_layout.specs.declared.ask.Ask.{Ask}
 use Rattle.orb_layout.specs.declared.ask.Ask.TheVariants.{Nothing, Read, Write}
 use Rattle.orb_layout.specs.declared.ask.FailCause.{FailCause}
@@ -36,14 +37,13 @@ use Rattle.sbp_journal.specs.Addresses.{Access}
 use Rattle.sbp_laws.specs.Deaths.{illegal_meaning, is_expired, is_other_length, is_refused, meaning_at, table_meaning}
 use Rattle.sbp_world.proofs.Lists.OrbSteps.{has_read}
 use Rattle.turn_laws.proofs.FailingRows.{MayAnswer}
+use Rattle.sbp_world.proofs.Common.{none_is}
+use Rattle.sbp_world.proofs.Lists.DataSteps.{done_of}
 
 -- ---- an illegal ORB
 abbrev meaning_in : Option StatusKind → Option ℕ
 meaning_in (Some (kinds.Illegal meaning)) = Some meaning
 meaning_in kind = None
-
-no_meaning : {A : Type 0} (meaning : ℕ) → None ≡ Some meaning → A
-no_meaning meaning e = absurd (let no : None ≡ Some meaning = e in cc)
 
 -- by the fields that are looked at, in their order
 abbrev kinds_by : (b c d e f : Bool) → Option StatusKind
@@ -65,9 +65,9 @@ abbrev kind_by : (three zero aborted : Bool) → Option StatusKind → Option St
 kind_by three zero aborted x = cond three (Some kinds.Dummy) (cond (not zero) (Some (kinds.Illegal 0x01)) (cond aborted (Some kinds.Aborted) x))
 
 by_format : (three zero aborted : Bool) (x : Option StatusKind) (y : Option ℕ) (meaning : ℕ) → meaning_in x ≡ y → meaning_in (kind_by three zero aborted x) ≡ Some meaning → cond (not zero) (cond three None (Some 0x01)) y ≡ Some meaning
-by_format true zero aborted x y meaning f e = no_meaning meaning e
+by_format true zero aborted x y meaning f e = none_is meaning e
 by_format false false aborted x y meaning f e = e
-by_format false true true x y meaning f e = no_meaning meaning e
+by_format false true true x y meaning f e = none_is meaning e
 by_format false true false x y meaning f e = sym f ∙ e
 
 abbrev fields_meaning : CommandOrb → Option ℕ
@@ -124,21 +124,6 @@ read_bytes Done size bytes e = absurd (let no : Err causes.Grammar ≡ Ok bytes 
 read_bytes (Refused rcode) size bytes e = absurd (let no : Err causes.Refused ≡ Ok bytes = e in cc)
 read_bytes Expired size bytes e = absurd (let no : Err causes.Timeout ≡ Ok bytes = e in cc)
 read_bytes NoLabel size bytes e = absurd (let no : Err causes.Label ≡ Ok bytes = e in cc)
-
-written_done : (answer : Answer) → write_failure answer ≡ None → answer ≡ Done
-written_done (Payload bytes) e = absurd (let no : Some causes.Grammar ≡ None = e in cc)
-written_done Done e = refl
-written_done (Refused rcode) e = absurd (let no : Some causes.Refused ≡ None = e in cc)
-written_done Expired e = absurd (let no : Some causes.Timeout ≡ None = e in cc)
-written_done NoLabel e = absurd (let no : Some causes.Label ≡ None = e in cc)
-
-or_right : (x y : Bool) → y ≡ true → (x || y) ≡ true
-or_right true y e = refl
-or_right false y e = e
-
-or_left : (x y : Bool) → x ≡ true → (x || y) ≡ true
-or_left true y e = refl
-or_left false y e = absurd (let no : false ≡ true = e in cc)
 
 -- an answer to what was asked for
 abbrev pub FairFor : Ask → Answer → Option Access → Type 0
@@ -272,7 +257,7 @@ module _ (m : Machine) (answer : Answer) (access : Option Access) where
   status_moves (Some cause) e fair = write_by phases.WritingStatus answer refl fair cause e
   status_moves None e fair =
       follow_moves phases.WritingStatus m m.orb.next
-      (λ orb f. checks_by phases.WritingStatus orb false (λ meaning g. illegal_row phases.WritingStatus (illegal_meaning orb) meaning (ap (meaning_at m phases.WritingStatus) (written_done answer e) ∙ ap (λ (x : ReadAhead). meaning_at (record m { ahead = x }) phases.WritingStatus Done) f) g))
+      (λ orb f. checks_by phases.WritingStatus orb false (λ meaning g. illegal_row phases.WritingStatus (illegal_meaning orb) meaning (ap (meaning_at m phases.WritingStatus) (done_of answer e) ∙ ap (λ (x : ReadAhead). meaning_at (record m { ahead = x }) phases.WritingStatus Done) f) g))
 
   kept_idle : {A : Type 0} (ahead : ReadAhead) (orb : CommandOrb) → ahead ≡ aheads.Idle → ahead ≡ aheads.Kept orb → A
   kept_idle ahead orb e f = absurd (let no : aheads.Idle ≡ aheads.Kept orb = sym e ∙ f in cc)

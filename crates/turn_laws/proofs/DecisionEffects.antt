@@ -1,12 +1,11 @@
 -- The effect of a decision is that of its function, where its status is 00: on the login that has the subject as its ID, in its place or on its unit. With another status it has none.
-use Rattle.std.proofs.Common.{arith, ◌≡◌, ◌∙◌, refl, sym, ap, subst, ℕ, ◌+◌, ◌*◌, ◌^◌, ◌==◌, ◌&&◌, nat_eq, not, Bool, true, false, cond, List, Option, Some, None, Result, Ok, Err}
-use Rattle.std.proofs.lemmas.Bool.Decides.{nat_tests}
+use Rattle.std.proofs.Common.{◌≡◌, ◌∙◌, refl, sym, ap, subst, ℕ, ◌+◌, ◌*◌, ◌^◌, ◌==◌, not, Bool, true, false, cond, List, Option, Some, None, Result, Ok, Err}
 use Rattle.login_table.specs.Sound.{IsSound}
 use Rattle.login_table.specs.declared.login.Entered.{Entered}
 use Rattle.login_table.specs.declared.login.Login.{Login}
 use Rattle.login_table.specs.declared.login.LoginRefusal.{LoginRefusal}
 use Rattle.login_table.specs.declared.login.LoginRefusal.TheVariants as refusals
-use Rattle.login_table.specs.Table.{Table, back_step, enter_step, find, id_of, is_live, is_live_of, leave_step, place_at}
+use Rattle.login_table.specs.Table.{Table, back_step, enter_step, find, id_of, is_live_of, leave_step, place_at}
 use Rattle.login_table.proofs.Searching.{found}
 use Rattle.mgmt_agent.specs.declared.decision.Decision.{Decision}
 use Rattle.mgmt_agent.specs.declared.decision.Effect.{Effect}
@@ -31,6 +30,7 @@ use Rattle.sbp_base.specs.Quadlets.{quad}
 use Rattle.sbp_journal.specs.declared.operation.FunctionWord.{FunctionWord}
 use Rattle.sbp_journal.specs.declared.operation.FunctionWord.TheVariants as words
 use Rattle.sbp_laws.specs.Management.{word_by}
+use Rattle.sbp_world.proofs.Sessions.Decisions.{of_id}
 
 -- ---- the login that a decision names
 abbrev pub IsAt : List (Option Login) → (place id : ℕ) → Type 0
@@ -66,14 +66,6 @@ abbrev FitsAs : List (Option Login) → FunctionWord → (subject : ℕ) → Out
 FitsAs places word subject x = Fits places (good_by (number_of x.status) word) subject x.effect
 
 -- ---- a decision
-live_id : (id node : ℕ) (login : Login) → is_live_of id node login ≡ true → login.login ≡ id
-live_id id node login e = by (is_live login) (nat_eq login.login id) (nat_eq login.node node) refl e
-  where
-    by : (a b c : Bool) → nat_eq login.login id ≡ b → (a && b && c) ≡ true → login.login ≡ id
-    by false b c f e = absurd (let no : false ≡ true = e in cc)
-    by true true c f e = grind (arith, nat_tests)
-    by true false c f e = absurd (let no : false ≡ true = e in cc)
-
 module _ (orb : ManagementOrb) (source eui : ℕ) (t : Table) (sound : IsSound t.places) (keys : List (List ℕ)) where
   abbrev F : FunctionWord → Outcome → Type 0
   F word x = FitsAs t.places word orb.subject x
@@ -123,7 +115,7 @@ module _ (orb : ManagementOrb) (source eui : ℕ) (t : Table) (sound : IsSound t
   found_live (Some k) e login f =
       let g = found (is_live_of orb.subject source) t.places k e in
       let same : g.login ≡ login = (let z : Some g.login ≡ Some login = sym g.stands ∙ f in cc) in
-      (ap (place_at t.places) (sound.numbered k login f).own ∙ f, live_id orb.subject source login (subst (λ (x : Login). is_live_of orb.subject source x ≡ true) same g.passes))
+      (ap (place_at t.places) (sound.numbered k login f).own ∙ f, of_id orb.subject source login (subst (λ (x : Login). is_live_of orb.subject source x ≡ true) same g.passes))
 
   live_there : (login : Login) → live_login t.places orb.subject source ≡ Some login → IsThere login
   unfolding live_login

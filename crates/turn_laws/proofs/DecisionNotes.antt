@@ -1,5 +1,5 @@
 -- In each turn of every run a decision is told exactly where the operation of the terms decides, as it decides.
-use Rattle.std.proofs.Common.{arith, ◌≡◌, ◌∙◌, refl, sym, ap, subst, ℕ, suc, ◌+◌, ◌-◌, ◌==◌, ◌<◌, ◌≤◌, ◌||◌, not, is_some, Bool, true, false, cond, List, [], ◌∷◌, ◌++◌, length, Option, Some, None, Result, Ok, Err}
+use Rattle.std.proofs.Common.{◌≡◌, ◌∙◌, refl, sym, ap, subst, ℕ, suc, ◌+◌, ◌-◌, ◌==◌, ◌<◌, is_some, Bool, true, false, cond, List, [], ◌∷◌, ◌++◌, Option, Some, None, Result, Ok, Err}
 use Rattle.std.proofs.lemmas.List.Elements.{filter-append}
 use Rattle.async_packet.specs.Labels.{LabelParts}
 use Rattle.async_packet.specs.Packet.{Packet}
@@ -22,12 +22,12 @@ use Rattle.mgmt_agent.specs.declared.operation.Phase.TheVariants as phases
 use Rattle.orb_layout.specs.declared.ask.Ask.{Ask}
 use Rattle.orb_layout.specs.Replies.{Answer, Expired}
 use Rattle.packet_store.specs.declared.sent.Sent.{Sent}
-use Rattle.packet_store.specs.Kept.{found_sent, is_flying}
+use Rattle.packet_store.specs.Kept.{found_sent}
 use Rattle.rbc_disk.specs.Disk.{Disk}
 use Rattle.rbc_disk.specs.Runs.{Told}
 use Rattle.sbp_bus.specs.Generations.{GenerationsState, id_of}
 use Rattle.sbp_bus.specs.Packets.{end_note, judged_note}
-use Rattle.sbp_bus.specs.Telling.{initiator_by, managed_note}
+use Rattle.sbp_bus.specs.Telling.{managed_note}
 use Rattle.sbp_bus.specs.Telling as bus
 use Rattle.sbp_bus.specs.Words.{function_word}
 use Rattle.sbp_bus.specs.Words as words_of
@@ -47,7 +47,7 @@ use Rattle.sbp_journal.specs.declared.side.Side.TheVariants as sides
 use Rattle.sbp_laws.specs.LoginLaw.{is_decision_note}
 use Rattle.sbp_laws.specs.Management.{Call, answer_to, answers, call_by, decided_in, decided_note, login_if, manager_turn, no_call, operator, operator_for, start_in, start_of, started, starts, word_by}
 use Rattle.sbp_laws.specs.NoteKinds.{of_kind}
-use Rattle.sbp_laws.specs.Packets.{id_for, sender_in}
+use Rattle.sbp_laws.specs.Packets.{sender_in}
 use Rattle.sbp_laws.specs.Targets.{Purpose as TermPurpose, Target, for_agent, for_manager, for_nobody, initiator_with, is_serial, over, purpose_of, target_at}
 use Rattle.sbp_laws.specs.Turns.{turn}
 use Rattle.sbp_target.specs.declared.purpose.Purpose.{Purpose}
@@ -57,18 +57,15 @@ use Rattle.sbp_target.specs.Nodes as target_nodes
 use Rattle.sbp_target.specs.Receiving.{answer_in, expired, received, received_as, with_layer}
 use Rattle.sbp_target.proofs.Histories.Calling.{Good}
 use Rattle.sbp_target.proofs.Histories.Found.{IsFound, found as found_as}
-use Rattle.packet_store.specs.Stored.{deliver_step}
 use Rattle.sbp_world.specs.Delivering.{marked, whole_of}
 use Rattle.sbp_world.specs.Hosts.Handing.{AreOthers, IsOther}
 use Rattle.sbp_world.specs.Lines.{weight_in}
 use Rattle.sbp_world.specs.Telling.{told}
 use Rattle.sbp_world.specs.Worlds.{Scene, WorldState, with_note, with_target}
 use Rattle.sbp_world.proofs.Agents.CrewFirsts.{agrees}
-use Rattle.sbp_world.proofs.Agents.Holders.{finds}
-use Rattle.sbp_world.proofs.Agents.Management.Holding.{good_of, known_id, same_id}
+use Rattle.sbp_world.proofs.Agents.Management.Holding.{good_of}
 use Rattle.sbp_world.proofs.Formed.{IsNoRun}
 use Rattle.sbp_world.proofs.Agents.Management.Still.{hist}
-use Rattle.sbp_world.proofs.Wire.Found.{node_found}
 use Rattle.turn_laws.specs.Decisions.{DecidesWhereDue}
 use Rattle.turn_laws.proofs.Calls.{Brings, Cases, calls, injects, loses, refuses, refuses_action, resets, sets_key}
 use Rattle.turn_laws.proofs.Effects.{step_same}
@@ -77,6 +74,8 @@ use Rattle.turn_laws.proofs.Handed.{handed, note_of, notes_told}
 use Rattle.turn_laws.proofs.KindNotes.{IsToldKind, kind_handed, own_handed}
 use Rattle.turn_laws.proofs.ManagedSides.{decision_side, delivery_manages, found_side, lapse_manages, managed, managed_of, reply_side, second_manages, sight_manages}
 use Rattle.turn_laws.proofs.Places.{Place}
+use Rattle.turn_laws.proofs.Operators.{IsOperator, bus_names, laws_name, operator_is}
+use Rattle.sbp_world.proofs.Agents.Management.Delivery.{marked_generations}
 
 -- ---- among the notes: those of the decisions that are told, as the target knows the nodes
 decision_kind : IsToldKind is_decision_note
@@ -238,27 +237,10 @@ module _ (units ready : ℕ) (has : 0 < units) (start : List Disk) where
       abbrev i : ℕ
       i = (here.held.operation source e).0
 
-      bus_names : bus.initiator_of w.generations source ≡ i
-      bus_names =
-          let of = (here.held.operation source e).1 in
-          let small = of.small in
-          let next : i + 1 ≡ suc i = omega arith in
-          let there : suc i ≤ length w.initiators = omega (arith, small) in
-          let known = sym (known_id w here.holds.sound.stands (suc i) there) ∙ ap (λ n. id_for wire 0 n) (sym next) ∙ of.node_is in
-          ap initiator_by (node_found w here.holds.sound.stands 0 (omega arith) source (record { node = suc i; there = there; id_is = known })) ∙ (let z : suc i - 1 ≡ i = omega arith in z)
-
-      laws_name : initiator_with wire source ≡ i
-      laws_name =
-          let of = (here.held.operation source e).1 in
-          let small = of.small in
-          let few = here.holds.sound.stands.is.few in
-          finds 4 0 i wire source (λ m f. let z = same_id w here.holds.sound.stands (m + 1) (i + 1) (f ∙ sym of.node_is) in omega (arith, z)) of.node_is (omega arith) (omega (arith, few, small))
+      abbrev of : IsOperator units ready has start past s here i source
+      of = (here.held.operation source e).1
 
     -- ---- a reply
-    operator_is : (operation : Option Operation) (source : ℕ) → source_in operation ≡ Some source → operator wire operation ≡ initiator_with wire source
-    operator_is None source e = absurd (let no : None ≡ Some source = e in cc)
-    operator_is (Some own) source e = ap (initiator_with wire) (let z : own.source ≡ source = cc in z)
-
     decided_due : (i j : ℕ) (decided : Option Decision) → i ≡ j → decision_notes w.generations (decision_side 0 None) ≡ [] → (source : ℕ) → bus.initiator_of w.generations source ≡ i → decision_notes w.generations (decision_side source decided) ≡ decided_note j decided
     decided_due i j None e none source f = refl
     decided_due i j (Some d) e none source f =
@@ -271,8 +253,9 @@ module _ (units ready : ℕ) (has : 0 < units) (start : List Disk) where
     reply_due answer (Some source) e =
         let r = reply_step node.manager node.logins node.keys answer in
         let operator_same : initiator_with wire source ≡ operator wire T.manager.operation =
-        sym (operator_is node.manager.operation source e) ∙ ap (λ (m : Machine). operator wire m.operation) (sym (agrees units ready has start w here.holds).manager) in
-        decided_due (i source e) (operator wire T.manager.operation) r.0.decided (sym (laws_name source e) ∙ operator_same) refl source (bus_names source e)
+        sym (operator_is wire node.manager.operation source e) ∙ ap (λ (m : Machine). operator wire m.operation) (sym (agrees units ready has start w here.holds).manager) in
+        decided_due (i source e) (operator wire T.manager.operation) r.0.decided (sym (laws_name units ready has start past s here (i source e) source (of source e)) ∙ operator_same) refl source
+        (bus_names units ready has start past s here (i source e) source (of source e))
         ∙ sym (ap (λ (x : ManagerStep × (Machine × Table)). decided_note (operator wire T.manager.operation) x.0.decided) (step_same T node (agrees units ready has start w here.holds) answer))
 
     -- ---- a packet comes to the target
@@ -334,20 +317,12 @@ module _ (units ready : ℕ) (has : 0 < units) (start : List Disk) where
   end_decides ms true = refl
   end_decides ms false = refl
 
-  -- the bus knows the nodes as before the call
-  pub marked_same : (serial : ℕ) (again : Bool) (v : WorldState) → (marked serial again v).generations ≡ v.generations
-  marked_same serial again v = by (again || not (is_flying serial v.store.kept))
-    where
-      by : (b : Bool) → (cond b v (record v { store = deliver_step v.store serial })).generations ≡ v.generations
-      by true = refl
-      by false = refl
-
   pub decision_cases : Cases units ready start (DecidesWhereDue start)
   decision_cases = record {
     heard = λ past s serial again run one found zero_to may others here behind judged.
         let x = received run one.generation one.bytes (whole_of s.world.target s.media) in
         let after = with_target x.1.node s.world in
-        target_noted x.1.outbox (with_note (judged_note serial x.0) (marked serial again after)) others ∙ ap (λ known. decision_notes known (managed x.1.outbox.sides)) (marked_same serial again after)
+        target_noted x.1.outbox (with_note (judged_note serial x.0) (marked serial again after)) others ∙ ap (λ known. decision_notes known (managed x.1.outbox.sides)) (marked_generations serial again after)
         ∙ target_due past s here serial run one found zero_to judged;
     heard_own = λ past s serial again one j found to_is inside own here behind judged.
         own_handed is_decision_note decision_kind no_own (suc j) 0 _ _ own ∙ sym (own_due past s here serial None one found j to_is _);

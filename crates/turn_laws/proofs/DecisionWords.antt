@@ -39,6 +39,7 @@ use Rattle.turn_laws.specs.Decisions.{DecidesWhereDue}
 use Rattle.turn_laws.specs.Logins.{LoginsWhereDue}
 use Rattle.turn_laws.proofs.DecisionEffects.{Fits, FitsBy, IsAt, IsIdle, OnUnit, good_by, reply_fits}
 use Rattle.turn_laws.proofs.Subjects.{NamedStep, Names, reply_named}
+use Rattle.sbp_world.proofs.Common.{itself}
 
 -- ---- the login with an ID stands in one place
 pub record Standing (places : List (Option Login)) (place id : ℕ) : Type 0 where
@@ -55,16 +56,13 @@ module _ (places : List (Option Login)) (sound : IsSound places) (id : ℕ) wher
   found_as place None e f = absurd (let no : false ≡ true = f in cc)
   found_as place (Some login) e f = record { login = login; stands = e; id_is = (let z : nat_eq login.login id ≡ true = f in grind (arith, nat_tests)) }
 
-  nat_self : (n : ℕ) → nat_eq n n ≡ true
-  nat_self n = grind (arith, nat_tests)
-
   same_place : (a b : ℕ) → Standing places a id → Standing places b id → a ≡ b
   same_place a b x y = by (nat_eq a b) refl
     where
       by : (c : Bool) → nat_eq a b ≡ c → a ≡ b
       by true e = grind (arith, nat_tests)
       by false e =
-          let other : a ≢ b = λ f. absurd (let no : true ≡ false = sym (nat_self a) ∙ ap (nat_eq a) f ∙ e in cc) in
+          let other : a ≢ b = λ f. absurd (let no : true ≡ false = sym (itself a) ∙ ap (nat_eq a) f ∙ e in cc) in
           absurd ((sound.apart a b x.login y.login other x.stands y.stands).ids (x.id_is ∙ sym y.id_is))
 
   has_it : (place : ℕ) → Standing places place id → has_id id (place_at places place) ≡ true

@@ -73,9 +73,6 @@ answers m = (tt, (tt, (refl, refl)))
 data_reads : (m : Machine) (wanted : ℕ) → Steps (data_step m wanted)
 data_reads m wanted = (tt, (tt, refl))
 
-told : (outcome : Outcome) (s : AgentStep × Machine) → Steps s → Steps (with_outcome outcome s)
-told outcome s h = h
-
 run_shaped : (m : Machine) (run : Told) → Steps (run_step m run)
 run_shaped m run = by run.outcome (record m { answer = run.answer; written = 0 })
   where

@@ -1,8 +1,7 @@
 -- In each turn that answers the request of the management operation the answer is one to what the phase of the operation asked for.
-use Rattle.std.proofs.Common.{◌≡◌, ◌∙◌, refl, sym, ap, subst, ℕ, ◌+◌, ◌<◌, Bool, true, false, cond, List, [], ◌∷◌, Option, Some, None}
+use Rattle.std.proofs.Common.{◌≡◌, ◌∙◌, refl, sym, ap, subst, ℕ, ◌<◌, Bool, true, false, cond, List, Option, Some, None}
 use Rattle.bus_transactions.specs.Packets.{SerialsCount}
 use Rattle.bus_transactions.proofs.Reaches.{goes_on}
-use Rattle.command_agent.specs.declared.step.Which.TheVariants.{Ahead, Main}
 use Rattle.mgmt_agent.specs.Machine.{Machine, read_size}
 use Rattle.orb_layout.specs.Replies.{Answer, Expired}
 use Rattle.rbc_disk.specs.Disk.{Disk}
@@ -18,7 +17,7 @@ use Rattle.sbp_journal.specs.declared.note.Note.TheVariants as notes
 use Rattle.sbp_laws.specs.Deaths.{access_by}
 use Rattle.sbp_laws.specs.Management.{Call, answer_to, answers, call_by, got_call, no_call, start_in, start_of, starts}
 use Rattle.sbp_laws.specs.Packets.{access_in, access_in_bytes, answer_in, answered_as, answered_at, answered_in, closed_by, packet_at, packet_in, receiver_in, sender_in}
-use Rattle.sbp_laws.specs.Targets.{Agent, Purpose, Target, for_agent, for_manager, for_nobody, is_serial, over, purpose_among, purpose_of, target_at}
+use Rattle.sbp_laws.specs.Targets.{Purpose, Target, for_agent, for_manager, for_nobody, is_serial, over, purpose_among, purpose_of, target_at}
 use Rattle.sbp_laws.specs.Turns.{turn}
 use Rattle.sbp_world.specs.Agents.Management.Offices.{Office}
 use Rattle.sbp_world.specs.Lists.Contents.{AreAsked, WasAsked}
@@ -33,6 +32,7 @@ use Rattle.sbp_world.proofs.Wire.Starts.{laws_of}
 use Rattle.turn_laws.proofs.FailingKinds.{answer_by, bytes_kind, may, phase_asks}
 use Rattle.turn_laws.proofs.FailingRows.{IsAnswered, MayAnswer}
 use Rattle.turn_laws.proofs.Places.{Place}
+use Rattle.sbp_world.proofs.Lists.ManagedGots.{among_not}
 
 -- ---- no answer
 abbrev pub No : Call → Type 0
@@ -63,21 +63,12 @@ pub record Answers (T : Target) (r : ℕ) (told answer : Answer) : Type 0 where
   pub manages : T.manages ≡ Some r
   pub is : told ≡ answer
 
-among_if : (b c : Bool) (place : ℕ) (rest : Purpose) → (rest ≡ for_manager → ⊥) → cond b (for_agent place Main) (cond c (for_agent place Ahead) rest) ≡ for_manager → ⊥
-among_if true c place rest h f = cc
-among_if false true place rest h f = cc
-among_if false false place rest h f = h f
-
-among_no : (place : ℕ) (agents : List Agent) (r : ℕ) → purpose_among place agents r ≡ for_manager → ⊥
-among_no place [] r e = cc
-among_no place (a ∷ agents) r e = among_if (is_serial a.main r) (is_serial a.ahead r) place (purpose_among (place + 1) agents r) (among_no (place + 1) agents r) e
-
 of_manager : (T : Target) (r : ℕ) → purpose_of T r ≡ for_manager → T.manages ≡ Some r
 of_manager T r e = is_its_serial T.manages r (by (is_serial T.manages r) e)
   where
     by : (b : Bool) → cond b for_manager (purpose_among 0 T.agents r) ≡ for_manager → b ≡ true
     by true f = refl
-    by false f = absurd (among_no 0 T.agents r f)
+    by false f = absurd (among_not 0 T.agents r f)
 
 answers_same : (told answer : Answer) → answers told ≡ answers answer → told ≡ answer
 answers_same told answer e = cc

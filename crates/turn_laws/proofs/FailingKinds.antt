@@ -1,5 +1,6 @@
 -- An answer that the management operation gets is one to what it asked for: a response is of the kind of its request, and the request is that of the phase.
 use Rattle.std.proofs.Common.{◌≡◌, ◌∙◌, refl, sym, ap, subst, ℕ, ◌==◌, not, Bool, true, false, cond, List, length, Option, Some, None, Result, Ok, Err}
+use Rattle.std.proofs.lemmas.Option.{same_Some}
 use Rattle.async_packet.specs.declared.fault.PacketFault.{PacketFault}
 use Rattle.async_packet.specs.Packet.{Packet, lock, lock_response, read_block, read_block_response, read_quadlet, read_quadlet_response, write_block, write_quadlet, write_response}
 use Rattle.async_packet.specs.Reading.{reading}
@@ -14,6 +15,8 @@ use Rattle.sbp_journal.specs.Transactions.{Kind, is_same_kind, locking, no_packe
 use Rattle.sbp_laws.specs.Packets.{access_in, access_in_bytes, answer_in, answer_of, spelled_by}
 use Rattle.sbp_world.specs.Lists.Contents.{AccessOf}
 use Rattle.turn_laws.proofs.FailingRows.{MayAnswer}
+use Rattle.sbp_world.proofs.Lists.WriteAnswers.{request_kind}
+use Rattle.sbp_world.proofs.Lists.SentOwnedParts.{answers_none}
 
 untrue : {A : Type 0} → true ≡ false → A
 untrue e = absurd (let no : true ≡ false = e in cc)
@@ -74,28 +77,19 @@ KindOf reading_quadlet a = a.is_write ≡ false
 KindOf reading_block a = a.is_write ≡ false
 KindOf locking a = (a.is_lock ≡ true) × (a.is_write ≡ false)
 
-request_kind : (a b : ℕ) (k l : Kind) → request a k ≡ request b l → k ≡ l
-request_kind a b k l e = cc
-
-same_access : (a b : Access) → Some a ≡ Some b → a ≡ b
-same_access a b e = cc
-
-not_request : {A : Type 0} (a b : ℕ) (k l : Kind) → response a k ≡ request b l → A
-not_request a b k l e = absurd (let no : response a k ≡ request b l = e in cc)
-
 kind_of : (k kind : Kind) (a b : Access) → k ≡ kind → a ≡ b → KindOf k a → KindOf kind b
 kind_of k kind a b e f h = subst (λ x. KindOf x b) e (subst (λ (y : Access). KindOf k y) f h)
 
 access_kind : (p : Packet) (label : ℕ) (kind : Kind) (a : Access) → part_in p ≡ request label kind → access_of p ≡ Some a → KindOf kind a
-access_kind (write_quadlet header offset value) label kind a e f = kind_of writing kind _ a (request_kind _ label writing kind e) (same_access _ a f) refl
-access_kind (write_block header offset payload) label kind a e f = kind_of writing kind _ a (request_kind _ label writing kind e) (same_access _ a f) refl
-access_kind (read_quadlet header offset) label kind a e f = kind_of reading_quadlet kind _ a (request_kind _ label reading_quadlet kind e) (same_access _ a f) refl
-access_kind (read_block header offset asked) label kind a e f = kind_of reading_block kind _ a (request_kind _ label reading_block kind e) (same_access _ a f) refl
-access_kind (lock header offset extended payload) label kind a e f = kind_of locking kind _ a (request_kind _ label locking kind e) (same_access _ a f) (refl, refl)
-access_kind (write_response header rcode) label kind a e f = not_request _ label _ kind e
-access_kind (read_quadlet_response header rcode value) label kind a e f = not_request _ label _ kind e
-access_kind (read_block_response header rcode payload) label kind a e f = not_request _ label _ kind e
-access_kind (lock_response header rcode extended payload) label kind a e f = not_request _ label _ kind e
+access_kind (write_quadlet header offset value) label kind a e f = kind_of writing kind _ a (request_kind _ label writing kind e) (same_Some _ a f) refl
+access_kind (write_block header offset payload) label kind a e f = kind_of writing kind _ a (request_kind _ label writing kind e) (same_Some _ a f) refl
+access_kind (read_quadlet header offset) label kind a e f = kind_of reading_quadlet kind _ a (request_kind _ label reading_quadlet kind e) (same_Some _ a f) refl
+access_kind (read_block header offset asked) label kind a e f = kind_of reading_block kind _ a (request_kind _ label reading_block kind e) (same_Some _ a f) refl
+access_kind (lock header offset extended payload) label kind a e f = kind_of locking kind _ a (request_kind _ label locking kind e) (same_Some _ a f) (refl, refl)
+access_kind (write_response header rcode) label kind a e f = answers_none _ label _ kind e
+access_kind (read_quadlet_response header rcode value) label kind a e f = answers_none _ label _ kind e
+access_kind (read_block_response header rcode payload) label kind a e f = answers_none _ label _ kind e
+access_kind (lock_response header rcode extended payload) label kind a e f = answers_none _ label _ kind e
 
 pub bytes_kind : (bytes : List ℕ) (label : ℕ) (kind : Kind) (a : Access) → part_of bytes ≡ request label kind → access_in_bytes bytes ≡ Some a → KindOf kind a
 bytes_kind bytes label kind a e f = by (reading bytes) refl f

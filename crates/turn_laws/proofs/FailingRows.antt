@@ -29,6 +29,8 @@ use Rattle.sbp_laws.specs.NoteKinds.{is_failure_note, of_kind}
 use Rattle.sbp_laws.specs.Packets.{finds_label}
 use Rattle.sbp_laws.specs.Targets.{Target, manager_step}
 use Rattle.sbp_laws.specs.Turns.{Turn}
+use Rattle.mgmt_agent.proofs.Whole.{either_goes_on, either_read}
+use Rattle.sbp_world.proofs.Common.{none_is}
 
 -- ---- why a reply fails an operation, by what its phase waits for
 abbrev err_in : Result (List ℕ) FailCause → Option FailCause
@@ -39,17 +41,9 @@ abbrev pub fails_by : Option ℕ → Answer → Option FailCause
 fails_by None answer = write_failure answer
 fails_by (Some size) answer = err_in (payload_of answer size)
 
-failed_if : (b : Bool) (x y : ManagerStep × Machine) → x.0.failed ≡ None → y.0.failed ≡ None → (cond b x y).0.failed ≡ None
-failed_if true x y p q = p
-failed_if false x y p q = q
-
-step_if : (b : Bool) (x y : ManagerStep × (Machine × Table)) → x.0.failed ≡ None → y.0.failed ≡ None → (cond b x y).0.failed ≡ None
-step_if true x y p q = p
-step_if false x y p q = q
-
 module _ (m : Machine) (own : Operation) (table : Table) (keys : List (List ℕ)) where
   responds : (now : Machine) (orb : ManagementOrb) (status : Status) → (respond_step now own orb status).0.failed ≡ None
-  responds now orb status = failed_if (length now.outgoing == 0) (status_step now own orb.fifo status) (quiet (asks.Write orb.second (length now.outgoing)), in_phase now own (phases.Response orb.fifo)) refl refl
+  responds now orb status = either_goes_on (length now.outgoing == 0) (status_step now own orb.fifo status) (quiet (asks.Write orb.second (length now.outgoing)), in_phase now own (phases.Response orb.fifo)) refl refl
 
   as_decided : (r : Outcome × Table) (orb : ManagementOrb) → (decided_as r m own orb).0.failed ≡ None
   as_decided (outcome, now) orb = responds (record m { outgoing = cut_response orb outcome now }) orb outcome.status
@@ -62,7 +56,7 @@ module _ (m : Machine) (own : Operation) (table : Table) (keys : List (List ℕ)
   orb_fails (Err cause) = refl
   orb_fails (Ok bytes) =
       let orb = management_orb bytes in
-      step_if (reads_eui orb) (beside table (eui_step m own (phases.HighEui orb) high_eui_at)) (decide_step m own orb 0 table keys) refl (decides orb 0)
+      either_read (reads_eui orb) (beside table (eui_step m own (phases.HighEui orb) high_eui_at)) (decide_step m own orb 0 table keys) refl (decides orb 0)
 
   high_fails : (read : Result (List ℕ) FailCause) (orb : ManagementOrb) → (high_got read m own orb).0.failed ≡ err_in read
   high_fails (Err cause) orb = refl
@@ -103,9 +97,6 @@ MayAnswer None Expired access = Unit {0}
 abbrev pub IsAnswered : Target → Turn → Type 0
 IsAnswered T t = (answer : Answer) → call_of T t ≡ answers answer → (own : Operation) → T.manager.operation ≡ Some own → MayAnswer (read_size own.phase) answer (access_by (wire_before t) T.manages)
 
-none_some : {A : Type 0} (x : FailCause) → None ≡ Some x → A
-none_some x e = absurd (let no : None ≡ Some x = e in cc)
-
 module _ (T : Target) (t : Turn) where
   abbrev i : ℕ
   i = operator_of T t
@@ -134,7 +125,7 @@ module _ (T : Target) (t : Turn) where
     payload_row bytes n e fair other = ap (λ a. is_other_length a access) called ∙ ap (λ a. is_other_length (Some a) access) e ∙ fair ∙ ap not other
 
     by_length : (bytes : List ℕ) (n : ℕ) (cause : FailCause) → answer ≡ Payload bytes → is_other_length (Some (Payload bytes)) access ≡ not (length bytes == n) → (b : Bool) → (length bytes == n) ≡ b → err_in (cond b (Ok bytes) (Err causes.Grammar)) ≡ Some cause → failure_row cause T t ≡ true
-    by_length bytes n cause e fair true other f = none_some cause f
+    by_length bytes n cause e fair true other f = none_is cause f
     by_length bytes n cause e fair false other f = same_cause causes.Grammar cause f (payload_row bytes n e fair other)
 
     rows_by : (size : Option ℕ) (a : Answer) → answer ≡ a → MayAnswer size a access → (cause : FailCause) → fails_by size a ≡ Some cause → failure_row cause T t ≡ true
@@ -144,12 +135,12 @@ module _ (T : Target) (t : Turn) where
     rows_by (Some n) (Refused rcode) e fair cause f = same_cause causes.Refused cause f (refused_row rcode e)
     rows_by (Some n) Expired e fair cause f = same_cause causes.Timeout cause f (expired_row e)
     rows_by None (Payload bytes) e fair cause f = absurd fair
-    rows_by None Done e fair cause f = none_some cause f
+    rows_by None Done e fair cause f = none_is cause f
     rows_by None (Refused rcode) e fair cause f = same_cause causes.Refused cause f (refused_row rcode e)
     rows_by None Expired e fair cause f = same_cause causes.Timeout cause f (expired_row e)
 
     operation_rows : (operation : Option Operation) → ((own : Operation) → operation ≡ Some own → MayAnswer (read_size own.phase) answer access) → (cause : FailCause) → (reply_to operation T.manager T.table T.keys answer).0.failed ≡ Some cause → failure_row cause T t ≡ true
-    operation_rows None fair cause f = none_some cause f
+    operation_rows None fair cause f = none_is cause f
     operation_rows (Some own) fair cause f = rows_by (read_size own.phase) answer refl (fair own refl) cause (sym (phase_fails T.manager own T.table T.keys own.phase answer) ∙ f)
 
     answer_rows : ((own : Operation) → T.manager.operation ≡ Some own → MayAnswer (read_size own.phase) answer access) → (cause : FailCause) → (manager_step T answer).0.failed ≡ Some cause → failure_row cause T t ≡ true
@@ -174,7 +165,7 @@ module _ (T : Target) (t : Turn) where
 
   started_rows : (r : Result Ask Busy × Machine) → manager_turn (call_of T t) T ≡ started r → Rows (failed_in i finds (started r))
   started_rows (Err busy, machine) e = tt
-  started_rows (Ok ask, machine) e = step_rows (quiet ask, machine) e (λ cause f. none_some cause f)
+  started_rows (Ok ask, machine) e = step_rows (quiet ask, machine) e (λ cause f. none_is cause f)
 
   pub rows_due : IsAnswered T t → Rows (failures_due T t)
   rows_due fair = by (call_of T t) refl

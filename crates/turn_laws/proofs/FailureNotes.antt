@@ -73,7 +73,7 @@ use Rattle.sbp_world.proofs.Lists.Extends.{marked_fresh}
 use Rattle.sbp_world.proofs.Wire.Holding.{KnownTo}
 use Rattle.turn_laws.specs.Failures.{FailsWhereDue, FailuresLaw}
 use Rattle.turn_laws.proofs.Calls.{Brings, Cases, calls, injects, loses, refuses, refuses_action, resets, sets_key}
-use Rattle.turn_laws.proofs.DecisionNotes.{marked_same, same_known}
+use Rattle.turn_laws.proofs.DecisionNotes.{same_known}
 use Rattle.turn_laws.proofs.FailureDue.{DueBy, IsFound, all_fit, demand_due, failure_notes, late_body, reply_due}
 use Rattle.turn_laws.proofs.FailureEffects.{failing, failing_of}
 use Rattle.turn_laws.proofs.FailureSides.{StepFits, asked_for, delivery_fails, found_fails, lapse_fails, late_fails, second_fails, sight_fails, step_body}
@@ -84,6 +84,7 @@ use Rattle.turn_laws.proofs.OperationFinds.{finds_request, finds_response}
 use Rattle.turn_laws.proofs.Operators.{bus_names, laws_name, sender_is, source_is}
 use Rattle.turn_laws.proofs.Pass.{of_every_run}
 use Rattle.turn_laws.proofs.Places.{Place}
+use Rattle.sbp_world.proofs.Agents.Management.Delivery.{marked_generations}
 
 -- ---- among the notes: those of the failures that are told
 failure_kind : IsToldKind is_failure_note
@@ -334,7 +335,7 @@ module _ (units ready : ℕ) (has : 0 < units) (start : List Disk) where
         let x = received run one.generation one.bytes (whole_of s.world.target s.media) in
         let after = with_target x.1.node s.world in
         let v = with_note (judged_note serial x.0) (marked serial again after) in
-        target_noted x.1.outbox v others ∙ ap (λ known. failure_notes known (failing x.1.outbox.sides)) (marked_same units ready has start serial again after)
+        target_noted x.1.outbox v others ∙ ap (λ known. failure_notes known (failing x.1.outbox.sides)) (marked_generations serial again after)
         ∙ target_due past s here serial run one found zero_to x.1.outbox v behind.holds.sound.stands (ap (λ ns. judged_note serial x.0 ∷ ns) (marked_fresh serial again after)) judged;
     heard_own = λ past s serial again one j found to_is inside own here behind judged.
         own_handed is_failure_note failure_kind no_own (suc j) 0 _ _ own ∙ sym (own_due past s here serial None one found j to_is _);

@@ -50,9 +50,10 @@ use Rattle.sbp_target.specs.Serving.{accessed_by, answered, asked_in, enabled, i
 use Rattle.sbp_target.specs.Telling.{orb_of, tell_dead, tell_ended, tell_ran, tell_step}
 use Rattle.sbp_target.specs.Units.{announce_at, announce_from, announce_in, announce_to, hears, is_pending, unsolicited_by}
 use Rattle.sbp_world.specs.Delivering.{whole_of}
-use Rattle.sbp_world.proofs.Lists.StatusPackets.{EndSide, one_end, or_before, told_end}
+use Rattle.sbp_world.proofs.Lists.StatusPackets.{one_end, told_end}
 use Rattle.sbp_world.proofs.Lists.StatusRests.{Resting, manages, sees, starts, ticks}
 use Rattle.turn_laws.proofs.FaultSteps.{Deadly, IsSound, lost_sound, reply_sound}
+use Rattle.sbp_world.proofs.Lists.EndTells.{both_none}
 
 -- ---- each fault directly behind the death of its place
 -- whose agent died in a side
@@ -104,11 +105,6 @@ dead_end place orb (kinds.Management meaning) = tt
 paired_two : (died : Option ℕ) (told : List Side) (place orb : ℕ) (cause : FailCause) (status : StatusKind) → Paired died told → Paired died ((told ++ sides.Dead place cause ∷ []) ++ sides.Ended place orb status ∷ [])
 paired_two died [] place orb cause status h = (tt, (dead_end place orb status, tt))
 paired_two died (first ∷ told) place orb cause status h = (h.0, paired_two (died_in first) told place orb cause status h.1)
-
--- no end at all
-both_none : (x y : Option EndSide) → or_before x y ≡ None → (x ≡ None) × (y ≡ None)
-both_none None y e = (refl, e)
-both_none (Some x) y e = absurd (let no : Some x ≡ None = e in cc)
 
 endless_free : (side : Side) → one_end side ≡ None → IsFree side
 endless_free (sides.Ended place orb status) e = absurd (let no : Some (record { place = place; orb = orb; kind = status }) ≡ None = e in cc)

@@ -73,9 +73,6 @@ module _ (node peer : ℕ) (body : Body) where
       ∙ (ap (λ h. found (record b { held = h; last = a.last })) s.held
       ∙ ap (λ l. found (record b { last = l })) s.last)))
 
-all_same : (t : Terms) → SameLabels t t
-all_same t = record { generation = refl; ids = refl; held = refl; last = refl }
-
 -- a packet is got in a line that repeats as in one that does not
 abbrev repeating : Terms → Terms
 repeating t = record t { repeats = true }

@@ -28,6 +28,7 @@ use Rattle.bus_transactions.proofs.PacketParts.{PartOf, asks, part_case, part_re
 use Rattle.bus_transactions.proofs.Places.{Places}
 use Rattle.bus_transactions.proofs.Stands.{Stands as Holds}
 use Rattle.sbp_world.proofs.Wire.Bus.{holds}
+use Rattle.sbp_world.proofs.Wire.Kept.{and_false}
 
 -- ---- the facts of the judgement law and those of the bus have one row: where the packet is of another generation, no other fact is read
 abbrev facts : (c n r a e : Bool) → Facts
@@ -57,14 +58,10 @@ module _ (t : Terms) (q : Sending) where
   awaited_same (response label kind) = closes_same _ kind
   awaited_same no_packet = refl
 
-  none_last : (b : Bool) → (b && false) ≡ false
-  none_last true = refl
-  none_last false = refl
-
   repeated_same : (part : Part) → (is_write q.bytes && is_last (seen_by t (asked_as part q)) q.bytes) ≡ bus.is_repeated t part q
   repeated_same (request label kind) = refl
-  repeated_same (response label kind) = none_last (is_write q.bytes)
-  repeated_same no_packet = none_last (is_write q.bytes)
+  repeated_same (response label kind) = and_false (is_write q.bytes)
+  repeated_same no_packet = and_false (is_write q.bytes)
 
   row_at : (current : Bool) → (q.generation == t.generation q.to) ≡ current → row_of (facts_of t q) ≡ row_of (bus.facts_of t q)
   unfolding asked_by

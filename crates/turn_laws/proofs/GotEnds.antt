@@ -1,5 +1,5 @@
 -- The deaths and ends of a response that the target got, whatever its transaction was for and whatever ran.
-use Rattle.std.proofs.Common.{◌≡◌, ◌∙◌, refl, sym, ap, subst, ℕ, ◌<◌, ◌&&◌, is_some, Bool, true, false, cond, List, [], ◌∷◌, Option, Some, None, Ok}
+use Rattle.std.proofs.Common.{◌≡◌, ◌∙◌, refl, sym, ap, subst, ℕ, ◌<◌, ◌&&◌, is_some, Bool, true, cond, List, [], ◌∷◌, Option, Some, None, Ok}
 use Rattle.std.specs.Prelude.{is_none}
 use Rattle.async_packet.specs.Labels.{LabelParts}
 use Rattle.async_packet.specs.Packet.{Packet, header_in}
@@ -59,10 +59,7 @@ use Rattle.turn_laws.proofs.OrderManaged.{manages}
 use Rattle.turn_laws.proofs.Places.{Place}
 use Rattle.turn_laws.proofs.ReplyEnds.{agent_ends, site, still_holder}
 use Rattle.turn_laws.proofs.RestRuns.{plain_handed, plain_untold, run_told, run_untold}
-
-if_same : (b x : Bool) → cond b x x ≡ x
-if_same true x = refl
-if_same false x = refl
+use Rattle.turn_laws.proofs.LateEnds.{if_same}
 
 some_same : {A : Type 0} {a b : A} → Some a ≡ Some b → a ≡ b
 some_same e = cc

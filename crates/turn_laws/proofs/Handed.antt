@@ -1,6 +1,5 @@
 -- What a call of a node hands out, as the notes of its turn in the order of time: those of what it told, then those of its packets. None of them begins a turn.
 use Rattle.std.proofs.Common.{◌≡◌, ◌∙◌, refl, sym, ap, ℕ, ◌+◌, false, List, [], ◌∷◌, ◌++◌, Option, Some, None}
-use Rattle.async_packet.specs.Labels.{LabelParts}
 use Rattle.sbp_bus.specs.Generations.{node_of, topology_at}
 use Rattle.sbp_bus.specs.Telling.{cut_note, dead_note, ended_note, managed_note, ran_note}
 use Rattle.sbp_journal.specs.Outgoings.{OutboxState}
@@ -11,10 +10,11 @@ use Rattle.sbp_journal.specs.declared.side.Side.{Side}
 use Rattle.sbp_journal.specs.declared.side.Side.TheVariants as sides
 use Rattle.sbp_world.specs.Handing.{handed_out}
 use Rattle.sbp_world.specs.Hosts.Handing.{AreOthers, IsOther}
-use Rattle.sbp_world.specs.Sending.{asked, posted, sent, sent_all, sent_to}
+use Rattle.sbp_world.specs.Sending.{posted, sent, sent_all, sent_to}
 use Rattle.sbp_world.specs.Telling.{holder, initiator_of, ticket_at, told, told_all}
 use Rattle.sbp_world.specs.Worlds.{WorldState}
 use Rattle.sbp_world.proofs.Formed.{AreOwn, IsNoRun}
+use Rattle.sbp_world.proofs.Wire.Gains.{asked_fresh}
 
 -- ---- notes in the order of time, put behind those that there are, of which the latest stands first
 abbrev pub onto : List Note → List Note → List Note
@@ -81,10 +81,6 @@ packet_note (Some to) from packet w = notes.Sent (w.store.last + 1) (topology_at
 abbrev pub notes_sent : (from : ℕ) → List Outgoing → WorldState → List Note
 notes_sent from [] w = []
 notes_sent from (packet ∷ later) w = packet_note (node_of w.generations from packet.to) from packet w ++ notes_sent from later (sent from packet w)
-
-asked_fresh : (serial to node peer : ℕ) (label : Option LabelParts) (w : WorldState) → (asked serial to node peer label w).fresh ≡ w.fresh
-asked_fresh serial to node peer None w = refl
-asked_fresh serial to node peer (Some label) w = refl
 
 posted_fresh : (from to : ℕ) (bytes : List ℕ) (w : WorldState) → (posted from to false bytes w).fresh ≡ notes.Sent (w.store.last + 1) (topology_at w.generations from).generation from to bytes ∷ w.fresh
 unfolding posted

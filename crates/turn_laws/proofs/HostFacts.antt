@@ -1,6 +1,7 @@
 -- How the judgement law judges a request to an initiator, by the terms of its history, is how the initiator does by its state. Their facts differ where a FIFO is closed, and there the row is that of the closed one.
 use Rattle.std.proofs.Common.{arith, ◌≡◌, ◌∙◌, refl, sym, ap, subst, ℕ, ◌+◌, ◌*◌, ◌-◌, ◌^◌, ◌%◌, ◌<◌, ◌≤◌, ◌==◌, ◌&&◌, ◌||◌, not, nat_le, nat_lt, is_some, Bool, true, false, cond, List, length, Option, Some, None, Result, Ok, Err}
 use Rattle.std.proofs.lemmas.Bool.Decides.{nat_tests}
+use Rattle.std.proofs.lemmas.Bool.{false≢true, or_parts}
 use Rattle.async_packet.specs.Packet.{Packet, lock, lock_response, read_block_response, read_quadlet, read_quadlet_response, write_block, write_quadlet, write_response}
 use Rattle.async_packet.specs.Packet.{read_block as reads_block}
 use Rattle.bus_memory.specs.Windows.{is_fifo, slot_of, start, within}
@@ -45,9 +46,7 @@ use Rattle.sbp_world.specs.Hosts.Fits.{AreRows, IfLast, IfList, IsOf, LastFits, 
 use Rattle.sbp_world.specs.Hosts.Rows.{name_in, present_in}
 use Rattle.sbp_world.proofs.Hosts.Answering.{asks_block, asks_quadlet, locks, none_is, writes_block}
 use Rattle.sbp_world.proofs.Hosts.Statuses.Blocks.{IsManaged, command_is, is_read_by, managed_kind, place_slot}
-
-differ : false ≡ true → ⊥
-differ e = cc
+use Rattle.sbp_world.proofs.Lists.StatusKnown.{all_three}
 
 -- ---- the FIFO at an address: of one that is closed, the law's test for an open one fails
 abbrev pub AtFifo : Option Fifo → (at_fifo of_login is_open : Bool) → Type 0
@@ -127,21 +126,21 @@ own_facts lk wr bl rom tgt fifo unsolicited read awaited = record {
 module _ (bl rom tgt unsolicited read awaited : Bool) where
   written : (fifo : Option Fifo) (f l o : Bool) → AtFifo fifo f l o → judging_of (law_facts false true bl rom tgt f l o unsolicited read awaited) ≡ judging_of (own_facts false true bl rom tgt fifo unsolicited read awaited)
   written None false false o (e, g) = refl
-  written None true l o (e, g) = absurd (differ (sym e))
-  written None false true o (e, g) = absurd (differ (sym g))
+  written None true l o (e, g) = absurd (false≢true (sym e))
+  written None false true o (e, g) = absurd (false≢true (sym g))
   written (Some fifos.Closed) f true false (e, g) = refl
-  written (Some fifos.Closed) f false o (e, g) = absurd (differ e)
-  written (Some fifos.Closed) f true true (e, g) = absurd (differ (sym g))
+  written (Some fifos.Closed) f false o (e, g) = absurd (false≢true e)
+  written (Some fifos.Closed) f true true (e, g) = absurd (false≢true (sym g))
   written (Some fifos.Login) true true true (e, g, h) = refl
-  written (Some fifos.Login) false l o (e, g, h) = absurd (differ e)
-  written (Some fifos.Login) true false o (e, g, h) = absurd (differ g)
-  written (Some fifos.Login) true true false (e, g, h) = absurd (differ h)
+  written (Some fifos.Login) false l o (e, g, h) = absurd (false≢true e)
+  written (Some fifos.Login) true false o (e, g, h) = absurd (false≢true g)
+  written (Some fifos.Login) true true false (e, g, h) = absurd (false≢true h)
   written (Some fifos.Place) true false o (e, g) = refl
-  written (Some fifos.Place) false l o (e, g) = absurd (differ e)
-  written (Some fifos.Place) true true o (e, g) = absurd (differ (sym g))
+  written (Some fifos.Place) false l o (e, g) = absurd (false≢true e)
+  written (Some fifos.Place) true true o (e, g) = absurd (false≢true (sym g))
 
   rows_same : (lk wr : Bool) → (lk && wr) ≡ false → (fifo : Option Fifo) (f l o : Bool) → AtFifo fifo f l o → judging_of (law_facts lk wr bl rom tgt f l o unsolicited read awaited) ≡ judging_of (own_facts lk wr bl rom tgt fifo unsolicited read awaited)
-  rows_same true true one fifo f l o at = absurd (differ (sym one))
+  rows_same true true one fifo f l o at = absurd (false≢true (sym one))
   rows_same true false one fifo f l o at = refl
   rows_same false false one fifo f l o at = refl
   rows_same false true one fifo f l o at = written fifo f l o at
@@ -162,15 +161,9 @@ one_kind (read_block_response header rcode payload) access e = absurd (none_is e
 one_kind (lock_response header rcode extended payload) access e = absurd (none_is e)
 
 -- ---- an ORB waits by the terms where the slot that it was prepared in waits
-three : (a b c : Bool) → (a && b && c) ≡ true → (a ≡ true) × (b ≡ true) × (c ≡ true)
-three true true true e = (refl, refl, refl)
-three false b c e = absurd (differ e)
-three true false c e = absurd (differ e)
-three true true false e = absurd (differ e)
-
 none_taken : (x : Option TakenStatus) → is_none_taken x ≡ true → x ≡ None
 none_taken None e = refl
-none_taken (Some taken) e = absurd (differ e)
+none_taken (Some taken) e = absurd (false≢true e)
 
 waits_last : (state : SlotState) (last : Option TicketParts) (ticket : TicketParts) → table.waits_in state last ≡ Some ticket → last ≡ Some ticket
 waits_last states.Waiting last ticket e = e
@@ -196,7 +189,7 @@ module _ (ms : List Moment) (i : ℕ) (slots : SlotTable) (rows : AreRows ms i s
       ∙ (ap (λ b. true && b && is_none_taken (taken_at ms i t.list t.number)) here ∙ ap (λ x. true && true && is_none_taken x) none)
 
   in_list : (n k : ℕ) (present : Option PresentList) → slots.present ≡ present → is_list (present_in present) n ≡ true → k < appends ms i n → taken_at ms i n k ≡ None → Waits slots.slots n k
-  in_list n k None e is below none = absurd (differ is)
+  in_list n k None e is below none = absurd (false≢true is)
   in_list n k (Some list) e is below none =
       let fits : ListFits (terms_at ms i) slots.slots slots.lists list = subst (IfList (terms_at ms i) slots.slots slots.lists) e rows.fits.list in
       let test : (list.tail.list == n) ≡ true = is in
@@ -206,7 +199,7 @@ module _ (ms : List Moment) (i : ℕ) (slots : SlotTable) (rows : AreRows ms i s
   -- the slot of an ORB that waits is the one that it was prepared in
   waits_here : (k : ℕ) (t : TicketParts) → k < 32 → LastFits slots.lists (appends ms i) (terms_at ms i).place k t → waits_in ms i t.list t.number ≡ true → is_some (waiting (slot_in slots.slots k)) ≡ true
   waits_here k t small last e =
-      let parts = three (is_list (present_list ms i) t.list) (nat_lt t.number (appends ms i t.list)) (is_none_taken (taken_at ms i t.list t.number)) e in
+      let parts = all_three (is_list (present_list ms i) t.list) (nat_lt t.number (appends ms i t.list)) (is_none_taken (taken_at ms i t.list t.number)) e in
       let below : t.number < appends ms i t.list = (let b = parts.1 in grind (arith, nat_tests)) in
       let w = in_list t.list t.number slots.present refl (sym (ap (λ p. is_list p t.list) rows.fits.present) ∙ parts.0) below (none_taken _ parts.2) in
       let slot = slot_in slots.slots w.ticket.slot in
@@ -220,7 +213,7 @@ module _ (ms : List Moment) (i : ℕ) (slots : SlotTable) (rows : AreRows ms i s
     where
       by : (b : Bool) → waits_in ms i t.list t.number ≡ b → b ≡ false
       by false f = refl
-      by true f = absurd (differ (sym e ∙ waits_here k t small last f))
+      by true f = absurd (false≢true (sym e ∙ waits_here k t small last f))
 
   by_slot : (k : ℕ) → k < 32 → (state : SlotState) (last : Option TicketParts) → States state last → Last k last → (table.waits_in state last ≡ waiting (slot_in slots.slots k)) → waits_for ms i (name_in last) ≡ is_some (table.waits_in state last)
   by_slot k small states.Free None fits at e = refl
@@ -246,11 +239,6 @@ abbrev pub place_by : Option Work → Option ℕ
 place_by None = None
 place_by (Some work) = work.place
 
-none_of : (a b : Bool) → (a || b) ≡ false → (a ≡ false) × (b ≡ false)
-none_of false false e = (refl, refl)
-none_of true b e = absurd (differ (sym e))
-none_of false true e = absurd (differ (sym e))
-
 module _ (block : StatusBlock) where
   by_place : (b : Bool) (place : ℕ) (m : Option ℕ) → cond b (Some place) None ≡ placed m → (b && (block.orb == start (windows.Management place))) ≡ is_orb_of m block.orb
   by_place true place None e = absurd (let no : Some place ≡ None = e in cc)
@@ -270,10 +258,10 @@ module _ (block : StatusBlock) where
   none_there (Some running) e = by_managed running.managed
     where
       in_place : (m : ℕ) (b : Bool) → (m % 2 == 0) ≡ b → (block.orb == start (windows.Management (m % 2))) ≡ false
-      in_place m true f = let zero : m % 2 ≡ 0 = grind (arith, nat_tests) in ap (λ n. block.orb == start (windows.Management n)) zero ∙ (none_of _ _ e).0
+      in_place m true f = let zero : m % 2 ≡ 0 = grind (arith, nat_tests) in ap (λ n. block.orb == start (windows.Management n)) zero ∙ (or_parts _ _ e).0
       in_place m false f =
           let some : 0 < m % 2 = grind (arith, nat_tests) in
-          let one : m % 2 ≡ 1 = omega (arith, some) in ap (λ n. block.orb == start (windows.Management n)) one ∙ (none_of _ _ e).1
+          let one : m % 2 ≡ 1 = omega (arith, some) in ap (λ n. block.orb == start (windows.Management n)) one ∙ (or_parts _ _ e).1
 
       by_managed : (m : Option ℕ) → is_orb_of m block.orb ≡ false
       by_managed None = refl
@@ -303,7 +291,7 @@ module _ (ms : List Moment) (i : ℕ) (s : InitiatorState) (rows : AreRows ms i 
           ∙ (or_none (waits_for ms i (named_in ms i (slot_of block.orb))) ∙ named_waits ms i s.lists.slots rows block.orb (slot_of block.orb) refl)
 
       by : (k : StatusKind) → is_management_kind k ≡ false → (waits_for ms i (named_in ms i (slot_of block.orb)) || is_managed host.operation block) ≡ own.is_awaited_by k block.orb s
-      by (kinds.Management code) e = absurd (differ (sym e))
+      by (kinds.Management code) e = absurd (false≢true (sym e))
       by kinds.Good e = waits
       by (kinds.Check sense) e = waits
       by kinds.Dummy e = waits

@@ -61,11 +61,8 @@ use Rattle.turn_laws.proofs.OrderManaged.{manages}
 use Rattle.turn_laws.proofs.Places.{Place}
 use Rattle.turn_laws.proofs.RestRuns.{plain_handed, plain_untold}
 
-some_same : {A : Type 0} {a b : A} → Some a ≡ Some b → a ≡ b
-some_same e = cc
-
 -- one of two that are the same
-if_same : (b x : Bool) → cond b x x ≡ x
+pub if_same : (b x : Bool) → cond b x x ≡ x
 if_same true x = refl
 if_same false x = refl
 

@@ -36,6 +36,7 @@ use Rattle.turn_laws.proofs.EachTurns.{brought_law}
 use Rattle.turn_laws.proofs.Ends.{ends_law}
 use Rattle.turn_laws.proofs.EndShapes.{reply_shaped}
 use Rattle.turn_laws.proofs.EndTries.{Brought, IsShaped, brings, brought, brought_notes, brought_unsent, dead_in, found_by, notes_tried}
+use Rattle.sbp_world.proofs.Wire.Kept.{and_false}
 
 -- ---- deaths are ends
 abbrev deaths : List Note → ℕ
@@ -154,10 +155,6 @@ dead_or phases.Dead m e = inr (ap state_in e)
 -- ---- one turn
 abbrev IsFine : ℕ → Bool → Type 0
 IsFine n dead = (nat_lt 1 n || (nat_lt 0 n && dead)) ≡ false
-
-and_false : (b : Bool) → (b && false) ≡ false
-and_false true = refl
-and_false false = refl
 
 fine_few : (n : ℕ) (dead : Bool) → nat_lt 1 n ≡ false → dead ≡ false → IsFine n dead
 fine_few n dead e f = ap (λ b. b || (nat_lt 0 n && dead)) e ∙ (ap (λ x. nat_lt 0 n && x) f ∙ and_false (nat_lt 0 n))

@@ -1,13 +1,11 @@
 -- What a reply makes of the management operation: a step that asks for something is of the same node, one that fails asks for nothing, and what it asks for is a request that the laws
 -- read so (NCITS 325-1998, management agent).
-use Rattle.std.proofs.Common.{arith, ◌≡◌, refl, sym, ap, subst, ℕ, ◌≤◌, ◌==◌, nat_le, is_some, Bool, true, false, cond, List, [], ◌∷◌, length, Option, Some, None}
+use Rattle.std.proofs.Common.{arith, ◌≡◌, refl, sym, ap, subst, ℕ, ◌≤◌, ◌==◌, nat_le, is_some, Bool, true, false, cond, List, length, Option, Some, None}
 use Rattle.std.proofs.lemmas.Bool.Decides.{nat_tests}
 use Rattle.async_packet.specs.Fields.{largest}
 use Rattle.label_table.specs.Bodies.{block_read, block_write, quadlet_read}
-use Rattle.login_table.specs.Laws.{Call, all_after}
 use Rattle.login_table.specs.Sound.{IsTable}
 use Rattle.login_table.specs.Table.{Table}
-use Rattle.login_table.proofs.Kept.{after_kept}
 use Rattle.mgmt_agent.specs.Decisions.{decide}
 use Rattle.mgmt_agent.specs.declared.decision.ManagerStep.{ManagerStep}
 use Rattle.mgmt_agent.specs.declared.operation.Operation.{Operation}
@@ -25,12 +23,9 @@ use Rattle.sbp_target.proofs.Histories.Managing.{IsOf, Stays, reply_stays}
 use Rattle.sbp_target.proofs.Histories.Stepped.{Carries}
 use Rattle.sbp_world.proofs.Agents.Management.Managing.{fails_clean}
 use Rattle.turn_laws.proofs.FailureSides.{StepFits}
+use Rattle.mgmt_agent.proofs.Places.{calls_kept}
 
 -- ---- the table stays small
-calls_kept : (calls : List Call) (table : Table) → IsTable table → IsTable (all_after calls table)
-calls_kept [] table t = t
-calls_kept (call ∷ calls) table t = after_kept call (all_after calls table) (calls_kept calls table t)
-
 eight : (table : Table) → IsTable table → length table.places ≤ 8
 eight table t = let z = t.sound.size in omega (arith, z)
 

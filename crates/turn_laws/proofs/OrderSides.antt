@@ -57,6 +57,7 @@ use Rattle.turn_laws.proofs.ManagedSides.{begins, from_self}
 use Rattle.turn_laws.proofs.OrderHanded.{InRanks, side_rank}
 use Rattle.turn_laws.proofs.OrderManaged.{Manages, manages, starts}
 use Rattle.turn_laws.proofs.OrderRanks.{rises_above, rises_below, rises_both, same_rank}
+use Rattle.turn_laws.proofs.PushSides.{quiet_before}
 
 -- ---- cuts, and what opens a list
 cut_ranks : (state : AgentState) (cause : CutCause) (place : ℕ) → InRanks 0 (cut_in state cause place) 0
@@ -135,10 +136,6 @@ ends_ranks [] p q r = same_rank 6
 ends_ranks (side ∷ later) p q r = subst (λ n. (6 ≤ n) × InRanks n later 6) (sym (end_rank side p.0 q.0 r.0)) (same_rank 6, ends_ranks later p.1 q.1 r.1)
 
 -- ---- parts of what was told
-quiet_front : (a b : List Side) → AreQuiet (a ++ b) → AreQuiet a
-quiet_front [] b h = tt
-quiet_front (side ∷ a) b h = (h.0, quiet_front a b h.1)
-
 quiet_back : (a b : List Side) → AreQuiet (a ++ b) → AreQuiet b
 quiet_back [] b h = h
 quiet_back (side ∷ a) b h = quiet_back a b h.1
@@ -211,7 +208,7 @@ module _ (None_ran : Type 0) (Ran : (place orb : ℕ) → (cdb payload : List �
   last_ranks : (pushes told : List Side) → InRanks 7 pushes 7 → AreLast pushes told → AreQuiet told → TellsRun None_ran Ran told → InRanks 0 told 7
   last_ranks pushes told h f q t =
       subst (λ told. InRanks 0 told 7) (sym f.told_is)
-      (rises_both side_rank f.before pushes 0 7 7 (run_ranks f.before pushes told f.plain (quiet_front f.before pushes (subst AreQuiet f.told_is q)) f.told_is t) h)
+      (rises_both side_rank f.before pushes 0 7 7 (run_ranks f.before pushes told f.plain (quiet_before f.before pushes (subst AreQuiet f.told_is q)) f.told_is t) h)
 
 silent : (told : List Side) → told ≡ [] → InRanks 0 told 7
 silent told e = subst (λ told. InRanks 0 told 7) (sym e) (let low : 0 ≤ 7 = omega arith in low)

@@ -2,6 +2,7 @@
 -- call begins.
 use Rattle.std.proofs.Common.{[], ◌==◌, Bool, List, None, Option, Some, ap, cond, false, length, map, nat_lt, refl, subst, suc, sym, true, zero, ℕ, ◌++◌, ◌+◌, ◌∙◌, ◌∷◌, ◌≡◌}
 use Rattle.std.proofs.lemmas.List.Elements.{filter-append}
+use Rattle.std.proofs.lemmas.Bool.{true≢false}
 use Rattle.async_packet.specs.Packet.{Packet}
 use Rattle.command_agent.specs.declared.step.AgentState.{AgentState}
 use Rattle.command_agent.specs.declared.step.AgentState.TheVariants as states
@@ -71,13 +72,10 @@ abbrev pub NoPushes : List Side → Type 0
 NoPushes [] = Unit {0}
 NoPushes (side ∷ later) = IsNoPush side × NoPushes later
 
-no : true ≡ false → ⊥
-no e = cc
-
 pub plain_none : (later : List Side) → ArePlain later → NoPushes later
 plain_none [] p = tt
-plain_none (sides.Unsolicited place ∷ later) p = absurd (no p.0)
-plain_none (sides.Unsent place ∷ later) p = absurd (no p.0)
+plain_none (sides.Unsolicited place ∷ later) p = absurd (true≢false p.0)
+plain_none (sides.Unsent place ∷ later) p = absurd (true≢false p.0)
 plain_none (side ∷ later) p = (tt, plain_none later p.1)
 
 one_none : (side : Side) → IsSilent side → IsNoPush side
@@ -278,7 +276,7 @@ pushes_noted H weight (side ∷ later) w same h = absurd h.0
 one_still : (weight : ℕ) (side : Side) (w : WorldState) (p : ℕ) → IsQuiet side → is_change side ≡ false → holder (told_one weight side w) p ≡ holder w p
 unfolding told_one
 one_still weight (sides.Own note) w p q e = absurd q
-one_still weight (sides.Opened place orb) w p q e = absurd (no e)
+one_still weight (sides.Opened place orb) w p q e = absurd (true≢false e)
 one_still weight (sides.Ran place orb cdb payload outcome) w p q e = refl
 one_still weight (sides.Ended place orb status) w p q e = refl
 one_still weight (sides.Dead place cause) w p q e = refl

@@ -29,7 +29,7 @@ use Rattle.sbp_journal.specs.declared.side.Side.{Side}
 use Rattle.sbp_laws.specs.Agents.{AgentTurn, agent_turn, list_taken, listed_at, told_among, untold_among}
 use Rattle.sbp_laws.specs.NoteKinds.{is_end_note, of_kind}
 use Rattle.sbp_laws.specs.Packets.{finds_label}
-use Rattle.sbp_laws.specs.Targets.{Agent, Reply, Target, agent_at, initiator_at, over, target_at}
+use Rattle.sbp_laws.specs.Targets.{Agent, Target, agent_at, initiator_at, over, target_at}
 use Rattle.sbp_laws.specs.Turns.{Turn, turn}
 use Rattle.sbp_target.specs.declared.desk.Desk.{Desk}
 use Rattle.sbp_target.specs.declared.purpose.Purpose.{Purpose}
@@ -128,10 +128,6 @@ module _ (units ready : ℕ) (has : 0 < units) (start : List Disk) (past : List 
         subst (λ x. Tells q new login own.0 own.1 [] (By x (which_in d (header_in p).source label))) (sym served)
         (subst (λ k. Tells q new login own.0 own.1 [] (By (Some login) k)) (sym is_which)
         (advance_tells q b left (good units ready has start past s here).mid.size run login which answer empty_outbox s.media.disks))
-
-    -- by the terms
-    abbrev reply : Reply
-    reply = record { place = q; which = which; answer = answer }
 
     abbrev A : Agent
     A = agent_at T q

@@ -1,5 +1,5 @@
 -- What a request of a register is for an agent, by what the target is asked for: what the laws make of the one they make of the other.
-use Rattle.std.proofs.Common.{◌≡◌, ◌∙◌, refl, sym, ap, ℕ, ◌-◌, ◌≤◌, ◌==◌, ◌&&◌, not, Bool, true, false, cond, Some, None}
+use Rattle.std.proofs.Common.{◌≡◌, ◌∙◌, refl, sym, ap, ℕ, ◌-◌, ◌≤◌, ◌==◌, ◌&&◌, not, Bool, true, false, cond, Some}
 use Rattle.async_packet.specs.Packet.{Packet}
 use Rattle.orb_layout.specs.Pointers.{offset_at, pointer_at}
 use Rattle.orb_layout.specs.declared.pointer.OrbPointer.{OrbPointer}
@@ -12,14 +12,12 @@ use Rattle.target_base.specs.declared.address.Access.TheVariants as accesses
 use Rattle.target_base.specs.declared.address.Demand.{Demand}
 use Rattle.target_base.specs.declared.address.Demand.TheVariants as demands
 use Rattle.sbp_target.proofs.Histories.Asked.{Rows, demand_is, serves_is}
+use Rattle.sbp_world.proofs.Agents.Demands.{none_some}
 
-quadlet_writes : (l w b : Bool) → (not l && w && not b) ≡ true → w ≡ true
+pub quadlet_writes : (l w b : Bool) → (not l && w && not b) ≡ true → w ≡ true
 quadlet_writes true w b e = absurd (let no : false ≡ true = e in cc)
 quadlet_writes false true b e = refl
 quadlet_writes false false b e = absurd (let no : false ≡ true = e in cc)
-
-none_some : (d : Demand) → Some d ≡ None → ⊥
-none_some d e = cc
 
 -- the laws make nothing of any register but those that take an agent on
 pub record Takes {B : Type 0} (F : Event → B) (z : B) (P : ℕ → OrbPointer → B) (R : ℕ → B) : Type 0 where

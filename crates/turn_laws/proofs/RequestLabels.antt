@@ -1,6 +1,6 @@
 -- A request of a node finds a label exactly where the history says so: at any wire that stands and owes no answer, so also between two moves of a turn, and for any layer of the node whatever
 -- its transactions are for.
-use Rattle.std.proofs.Common.{arith, ◌≡◌, refl, sym, ◌∙◌, ap, subst, ℕ, zero, suc, ◌+◌, ◌<◌, ◌≤◌, is_some, Bool, false, cond, List, Option, Some, None, length}
+use Rattle.std.proofs.Common.{arith, ◌≡◌, refl, sym, ◌∙◌, ap, subst, ℕ, ◌≤◌, is_some, List, Option, Some, None, length}
 use Rattle.async_packet.specs.Canon.{IsValid, canon}
 use Rattle.async_packet.proofs.RoundTrip.{canon_spells}
 use Rattle.bus_transactions.specs.Bare.{bare, bare_after, same}
@@ -21,27 +21,13 @@ use Rattle.label_table.proofs.Requests.{least_spelled}
 use Rattle.label_table.proofs.Rewritten.{writes_labels}
 use Rattle.sbp_journal.specs.Run.{Moment}
 use Rattle.sbp_journal.specs.Wire.{Terms, terms}
-use Rattle.sbp_laws.specs.Packets.{finds_label, label_for, lowest_from, request_bytes, serves}
+use Rattle.sbp_laws.specs.Packets.{finds_label, label_for, request_bytes, serves}
 use Rattle.sbp_world.specs.Hosts.Labels.{label_in}
 use Rattle.sbp_world.specs.Wire.Wires.{StandsAt}
 use Rattle.sbp_world.specs.Worlds.{WorldState}
 use Rattle.sbp_world.proofs.Agents.Management.Still.{hist}
-use Rattle.sbp_world.proofs.Hosts.Labels.{first_found, serves_same}
+use Rattle.sbp_world.proofs.Hosts.Labels.{first_found, serves_same, none_found, found_by, some_label}
 use Rattle.sbp_world.proofs.Wire.Bus.{holds}
-
-none_found : (tries label : ℕ) (test : ℕ → Bool) → ((m : ℕ) → m < label + tries → test m ≡ false) → lowest_from tries test label ≡ None
-unfolding lowest_from
-none_found zero label test h = refl
-none_found (suc tries) label test h =
-    ap (λ b. cond b (Some label) (lowest_from tries test (label + 1))) (h label (omega arith)) ∙ none_found tries (label + 1) test (λ m l. h m (omega arith))
-
-found_by : (t : Terms) (node peer : ℕ) (body : Body) (o : Option ℕ) → label_for t node peer (request_bytes t node peer body) ≡ o → finds_label t node peer body ≡ is_some o
-found_by t node peer body None e = rw e refl
-found_by t node peer body (Some label) e = rw e refl
-
-some_label : (o : Option Asked) → is_some (label_in o) ≡ is_some o
-some_label None = refl
-some_label (Some asked) = refl
 
 module _ {P : Type 0} {past : List Moment} {layers : ℕ → Node} (w : WorldState) (stands : StandsAt past layers None w) (node peer : ℕ) (node_there : node ≤ length w.initiators) (peer_there : peer ≤ length w.initiators) (layer : Layer P) (own_is : layers node ≡ bare layer) (id : ℕ) (id_is : id_for stands.wire node peer ≡ id) (body : Body) (valid : IsValid (request_with (header_to layer.node id 0) body)) where
   abbrev wire : Wire

@@ -28,6 +28,7 @@ use Rattle.orb_layout.specs.declared.management.ManagementOrb.{ManagementOrb}
 use Rattle.orb_layout.specs.ManagementOrbs.{management_orb}
 use Rattle.orb_layout.specs.Replies.{Answer, payload_of, write_failure}
 use Rattle.sbp_base.specs.Quadlets.{quad}
+use Rattle.sbp_world.proofs.Sessions.Decisions.{of_id}
 
 -- the login in the place of an effect has this ID
 abbrev pub Names : List (Option Login) → (subject : ℕ) → Effect → Type 0
@@ -47,14 +48,6 @@ held_id id login e = by (is_live login) (nat_eq login.login id) refl e
     by true b f e = absurd (let no : false ≡ true = e in cc)
     by false true f e = grind (arith, nat_tests)
     by false false f e = absurd (let no : false ≡ true = e in cc)
-
-live_id : (id node : ℕ) (login : Login) → is_live_of id node login ≡ true → login.login ≡ id
-live_id id node login e = by (is_live login) (nat_eq login.login id) (nat_eq login.node node) refl e
-  where
-    by : (a b c : Bool) → nat_eq login.login id ≡ b → (a && b && c) ≡ true → login.login ≡ id
-    by false b c f e = absurd (let no : false ≡ true = e in cc)
-    by true true c f e = grind (arith, nat_tests)
-    by true false c f e = absurd (let no : false ≡ true = e in cc)
 
 module _ (t : Table) (id : ℕ) where
   abbrev Back : Result ℕ LoginRefusal × Table → Type 0
@@ -82,7 +75,7 @@ module _ (t : Table) (id : ℕ) where
 
   left_found : (node : ℕ) (k : Option ℕ) → find (is_live_of id node) t.places ≡ k → Leaves (leave_at k t)
   left_found node None e = tt
-  left_found node (Some place) e = let f = found (is_live_of id node) t.places place e in ap id_of f.stands ∙ ap Some (live_id id node f.login f.passes)
+  left_found node (Some place) e = let f = found (is_live_of id node) t.places place e in ap id_of f.stands ∙ ap Some (of_id id node f.login f.passes)
 
   left_subject : (node : ℕ) → Leaves (leave_step t id node)
   unfolding leave_step

@@ -6,7 +6,6 @@ use Rattle.async_packet.specs.Reading.{reading}
 use Rattle.bus_transactions.specs.Judging.{AreJudged}
 use Rattle.label_table.specs.Layer.{Finding, Layer, judging_step, of_again, of_generation, of_grammar, of_label, of_request, of_response}
 use Rattle.label_table.specs.Requests.{reply_kind}
-use Rattle.login_table.specs.declared.login.Login.{Login}
 use Rattle.packet_store.specs.declared.sent.Sent.{Sent}
 use Rattle.packet_store.specs.Kept.{found_sent, is_flying}
 use Rattle.packet_store.specs.Stored.{deliver_step}
@@ -20,7 +19,6 @@ use Rattle.sbp_journal.specs.declared.cause.Cause.TheVariants as causes
 use Rattle.sbp_journal.specs.declared.cause.Judged.{Judged}
 use Rattle.sbp_journal.specs.declared.cause.Judged.TheVariants as judgements
 use Rattle.sbp_journal.specs.declared.note.Note.TheVariants as notes
-use Rattle.sbp_journal.specs.declared.side.Side.TheVariants as sides
 use Rattle.sbp_laws.specs.Turns.{turn}
 use Rattle.sbp_target.specs.declared.purpose.Purpose.{Purpose}
 use Rattle.sbp_target.specs.declared.purpose.Purpose.TheVariants as purposes
@@ -43,9 +41,6 @@ use Rattle.turn_laws.proofs.Handed.{handed}
 use Rattle.turn_laws.proofs.Places.{Place}
 use Rattle.turn_laws.proofs.ReplyEnds.{still_holder, still_ticket}
 use Rattle.turn_laws.proofs.RequestEnds.{answered_sides, request_ends}
-
-differ : (p q : Packet) (label : LabelParts) (purpose : Option Purpose) → ◌≡◌ {A = Finding Purpose} (of_request p) (of_response q label purpose) → ⊥
-differ p q label purpose e = cc
 
 none_told : NoEnds []
 none_told = tt

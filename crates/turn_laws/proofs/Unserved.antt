@@ -1,5 +1,6 @@
 -- Of a chunk of an answer that its medium did not tell there are bytes, as many, whose write finds no label where the turn tells that it found none: those that the target had.
 use Rattle.std.proofs.Common.{◌≡◌, ◌∙◌, refl, sym, ap, subst, ℕ, suc, ◌&&◌, not, Bool, true, false, List, ◌∷◌, Option, Some, None}
+use Rattle.std.proofs.lemmas.Bool.{and_parts}
 use Rattle.label_table.specs.Bodies.{Body}
 use Rattle.label_table.specs.Layer.{Layer}
 use Rattle.login_table.specs.declared.login.Login.{Login}
@@ -31,11 +32,6 @@ use Rattle.turn_laws.proofs.EndSizes.{IsSizedBy}
 use Rattle.turn_laws.proofs.EndTries.{IsShaped, found_by}
 use Rattle.turn_laws.proofs.Ends.{tells_law}
 use Rattle.turn_laws.proofs.StepLabels.{finds_in}
-
-both : (x y : Bool) → (x && y) ≡ true → (x ≡ true) × (y ≡ true)
-both true true e = (refl, refl)
-both true false e = absurd (let no : false ≡ true = e in cc)
-both false y e = absurd (let no : false ≡ true = e in cc)
 
 -- an ORB that ends writes its status
 ends_no_chunk : (kind : StatusKind) (dead : Option FailCause) (phase : Phase) → IsShaped (Some kind) dead phase → is_answering phase ≡ true → ⊥
@@ -91,8 +87,8 @@ module _ (start : List Disk) (T : Target) (t : Turn) (a : AgentTurn) (step : Age
   unserved_by : (b : Bool) → (is_untold_chunk a && lacks_label_told t) ≡ b → Where b (UnservedBody wire (suc i) (body_of a.step.ask a.machine a.step.ended 0))
   unserved_by false e = tt
   unserved_by true e =
-      let two = both (is_untold_chunk a) (lacks_label_told t) e in
-      unserved_body (ap is_answering (sym h.alike.phase) ∙ (both a.untold (is_answering a.machine.phase) two.0).1) two.1
+      let two = and_parts (is_untold_chunk a) (lacks_label_told t) e in
+      unserved_body (ap is_answering (sym h.alike.phase) ∙ (and_parts a.untold (is_answering a.machine.phase) two.0).1) two.1
 
 -- one that does nothing writes nothing
 resting : (wire : Terms) (node : ℕ) (a : AgentTurn) (step : AgentStep) → UnservedBody wire node (body_of step.ask a.machine step.ended 0) → a.step ≡ step → UnservedBody wire node (body_of a.step.ask a.machine a.step.ended 0)

@@ -55,7 +55,7 @@ use Rattle.sbp_world.proofs.Wire.Kept.{and_true}
 
 -- ---- the lowest label
 
-none_found : (tries label : ℕ) (test : ℕ → Bool) → ((m : ℕ) → m < label + tries → test m ≡ false) → lowest_from tries test label ≡ None
+pub none_found : (tries label : ℕ) (test : ℕ → Bool) → ((m : ℕ) → m < label + tries → test m ≡ false) → lowest_from tries test label ≡ None
 unfolding lowest_from
 none_found zero label test h = refl
 none_found (suc tries) label test h =
@@ -86,7 +86,7 @@ same_found zero label test other h = refl
 same_found (suc tries) label test other h =
     ap (λ b. cond b (Some label) (lowest_from tries test (label + 1))) (h label) ∙ ap (λ x. cond (other label) (Some label) x) (same_found tries (label + 1) test other h)
 
-found_by : (t : Terms) (node peer : ℕ) (body : Body) (o : Option ℕ) → label_for t node peer (request_bytes t node peer body) ≡ o → finds_label t node peer body ≡ is_some o
+pub found_by : (t : Terms) (node peer : ℕ) (body : Body) (o : Option ℕ) → label_for t node peer (request_bytes t node peer body) ≡ o → finds_label t node peer body ≡ is_some o
 found_by t node peer body None e = rw e refl
 found_by t node peer body (Some label) e = rw e refl
 
@@ -203,7 +203,7 @@ module _ {past : List Moment} {lines : ℕ} (w : WorldState) (sound : Sound past
       ∙ label_by (asking_step (wire.layer (suc i)) (id_for wire (suc i) 0) body tt) (asks (wire.layer (suc i)) (id_for wire (suc i) 0) body (wire_holds.nodes (suc i)).places) none_serves
       ∙ ap (λ ms. label_for (terms ms) (suc i) 0 (request_bytes (terms ms) (suc i) 0 body)) sound.stands.is.past_is
 
-some_label : (o : Option Asked) → is_some (label_in o) ≡ is_some o
+pub some_label : (o : Option Asked) → is_some (label_in o) ≡ is_some o
 some_label None = refl
 some_label (Some asked) = refl
 

@@ -1,18 +1,15 @@
 -- What the target tells in a call of the ends of ORBs: of those but with the status failed none; or, as it goes on by the answer to a transaction of an agent, one, that of
 -- the agent's present ORB, behind the run and the death of this agent alone.
-use Rattle.std.proofs.Common.{arith, ◌≡◌, ◌∙◌, refl, sym, ap, subst, ℕ, zero, suc, ◌+◌, ◌<◌, nat_lt, is_some, Bool, true, false, cond, List, [], ◌∷◌, ◌++◌, length, Option, Some, None, Result, Ok, Err}
+use Rattle.std.proofs.Common.{arith, ◌≡◌, ◌∙◌, refl, sym, ap, subst, ℕ, ◌+◌, ◌<◌, Bool, true, false, cond, List, [], ◌∷◌, ◌++◌, length, Option, Some, None, Result, Ok, Err}
 use Rattle.std.specs.Prelude.{slice_set}
 use Rattle.std.proofs.lemmas.List.{get_or-set_same}
 use Rattle.async_packet.specs.Labels.{LabelParts}
 use Rattle.async_packet.specs.Packet.{Packet, header_in}
-use Rattle.label_table.specs.declared.judgement.Asked.{Asked}
 use Rattle.label_table.specs.declared.reply.Stale.{Stale}
-use Rattle.label_table.specs.Bodies.{Body, block_write}
-use Rattle.label_table.specs.Layer.{Finding, Layer, answering_step, asking_step, expiring_step, free_labels, judging_step, of_again, of_generation, of_grammar, of_label, of_request, of_response}
+use Rattle.label_table.specs.Layer.{Finding, Layer, answering_step, expiring_step, judging_step, of_again, of_generation, of_grammar, of_label, of_request, of_response}
 use Rattle.login_table.specs.declared.login.Login.{Login}
 use Rattle.login_table.specs.Sound.{IsSound}
 use Rattle.login_table.proofs.Searching.{within}
-use Rattle.media_bay.specs.Unsolicited.{block}
 use Rattle.orb_layout.specs.declared.ask.Ask.{Ask}
 use Rattle.orb_layout.specs.declared.ask.FailCause.{FailCause}
 use Rattle.orb_layout.specs.declared.ask.FailCause.TheVariants as causes
@@ -31,7 +28,7 @@ use Rattle.command_agent.specs.declared.step.AgentStep.{AgentStep}
 use Rattle.command_agent.specs.declared.step.PointRefusal.{PointRefusal}
 use Rattle.command_agent.specs.declared.step.Which.{Which}
 use Rattle.command_agent.specs.declared.step.Which.TheVariants.{Ahead, Main}
-use Rattle.command_agent.specs.Machine.{Machine, is_ahead, is_under_way, state_in}
+use Rattle.command_agent.specs.Machine.{Machine, is_ahead, state_in}
 use Rattle.command_agent.specs.Steps.{ahead_lost, asks, doorbell_step, is_reset, lost_step, main_lost, quiet, reply_step}
 use Rattle.sbp_journal.specs.declared.cause.CutCause.{CutCause}
 use Rattle.sbp_journal.specs.declared.cause.CutCause.TheVariants as cuts
@@ -48,16 +45,16 @@ use Rattle.target_base.specs.Addresses.{demand_of}
 use Rattle.sbp_target.specs.declared.desk.Desk.{Desk}
 use Rattle.sbp_target.specs.declared.purpose.Purpose.{Purpose}
 use Rattle.sbp_target.specs.declared.purpose.Purpose.TheVariants as purposes
-use Rattle.sbp_target.specs.Agents.{after_ahead, after_loss, after_main, agent_body, ahead_asked, ahead_sent, ask_main, cut, follow, lose, lose_main, lost_by, main_asked, main_sent, noted, send_ahead, told_cut}
+use Rattle.sbp_target.specs.Agents.{cut, follow, noted, told_cut}
 use Rattle.sbp_target.specs.Desks.{expired_desk, new_desk, point_desk, taken, which_in}
 use Rattle.sbp_target.specs.Management.{manage}
 use Rattle.sbp_target.specs.Nodes.{NodeState, Scene, desk_at, login_at, scene, with_agent, with_desk}
 use Rattle.sbp_target.specs.Receiving.{answer_in, concluded, expire_agent, expired, expired_by, expired_in, expired_with, judged_scene, received, received_as, timed_out, with_layer}
 use Rattle.sbp_target.specs.Replies.{Whole, advance, advanced_with, announced_by, came, changed_by, follow_all, plain_in, replied as step_replied, replied_by, replied_to, replied_with, served_login, stage, whole}
-use Rattle.sbp_target.specs.Sending.{answer_step, answered_by, request_step, sent_by, with_side}
+use Rattle.sbp_target.specs.Sending.{answer_step, answered_by, with_side}
 use Rattle.sbp_target.specs.Serving.{accessed_by, answered, asked_in, enabled, is_barred, point, pointed_by, request_step as served_step, ring, rung_by, serve, served_as, start}
 use Rattle.sbp_target.specs.Telling.{orb_of, tell_dead, tell_ended, tell_ran, tell_step}
-use Rattle.sbp_target.specs.Units.{announce_at, announce_from, announce_in, announce_to, hears, is_pending, unsolicited_by}
+use Rattle.sbp_target.proofs.Histories.Followed.{Loses, TellsDiscs, announces_by, follows as follows_behind}
 use Rattle.sbp_world.specs.Delivering.{whole_of}
 use Rattle.sbp_world.proofs.Lists.OrbSteps.{ends_read}
 use Rattle.sbp_world.proofs.Lists.RunTells.{served_there}
@@ -151,10 +148,6 @@ module _ (End : (place orb : ℕ) → StatusKind → Type 0) where
   abbrev At : Scene → Type 0
   At s = P s.outbox.sides
 
-  pick : (b : Bool) (x y : Scene) → At x → At y → At (cond b x y)
-  pick true x y h i = h
-  pick false x y h i = i
-
   -- ---- a step is told
   ran_tells : (place : ℕ) (m : Machine) (x : Option Outcome) (o : OutboxState) → P o.sides → P (tell_ran place m x o).sides
   ran_tells place m None o h = h
@@ -203,15 +196,7 @@ module _ (End : (place orb : ℕ) → StatusKind → Type 0) where
       let a = tell_ran place m step.ran empty_outbox in
       ended_first place m step.ended (tell_dead place step.dead a) f (dead_light place step.dead a (ran_light place m step.ran))
 
-  -- ---- what is asked and answered tells nothing
-  sends : (peer : ℕ) (r : Option Asked × Layer Purpose) (o : OutboxState) → P o.sides → P (sent_by r o peer).1.1.sides
-  sends peer (Some asked, layer) o h = h
-  sends peer (None, layer) o h = h
-
-  requests : (layer : Layer Purpose) (o : OutboxState) (peer : ℕ) (body : Body) (purpose : Purpose) → P o.sides → P (request_step layer o peer body purpose).1.1.sides
-  unfolding request_step
-  requests layer o peer body purpose h = sends peer (asking_step layer peer body purpose) o h
-
+  -- ---- what is answered tells nothing
   answers_by : (r : List ℕ × Layer Purpose) (o : OutboxState) (source : ℕ) → P o.sides → P (answered_by r o source).1.sides
   answers_by (bytes, layer) o source h = h
 
@@ -220,99 +205,20 @@ module _ (End : (place orb : ℕ) → StatusKind → Type 0) where
   answers request bytes rcode given s h = answers_by (answering_step s.node.layer request bytes rcode given) s.outbox (header_in request).source h
 
   -- ---- what follows a step of an agent
-  main_leaves : (place peer : ℕ) (node : NodeState) (r : Option LabelParts × (Layer Purpose × OutboxState)) → P r.1.1.sides → At (main_sent place peer node r).1
-  main_leaves place peer node (Some label, (layer, outbox)) h = h
-  main_leaves place peer node (None, (layer, outbox)) h = h
-
-  main_asks : (body : Option Body) (place : ℕ) (login : Login) (s : Scene) → At s → At (main_asked body place login s).1
-  main_asks None place login s h = h
-  main_asks (Some body) place login s h =
-      main_leaves place login.node s.node (request_step s.node.layer s.outbox login.node body (purposes.Agent place)) (requests s.node.layer s.outbox login.node body (purposes.Agent place) h)
-
-  asks_main : (place : ℕ) (login : Login) (step : AgentStep) (s : Scene) → At s → At (ask_main place login step s).1
-  unfolding ask_main
-  asks_main place login step s h = main_asks (agent_body step.ask (is_some step.ended) login.fifo (desk_at s.node place).agent.outgoing) place login s h
-
-  loses_if : (b : Bool) (place : ℕ) (login : Login) (which : Which) (s : Scene) → At s → At (lost_by b place login which s).1
-  loses_if false place login which s h = h
-  loses_if true place login which s h =
-      let x = lost_step (desk_at s.node place).agent which causes.Label in
-      let t = scene (with_agent s.node place x.1) s.outbox in
-      asks_main place login x.0 (noted place x.0 t) (mild_tells place x.0 t (lost_mild (desk_at s.node place).agent which causes.Label) h)
-
-  loses : (place : ℕ) (login : Login) (which : Which) (s : Scene) → At s → At (lose place login which s).1
-  unfolding lose
-  loses place login which s h = loses_if (is_under_way which (desk_at s.node place).agent) place login which s h
-
-  ahead_leaves : (place peer : ℕ) (node : NodeState) (r : Option LabelParts × (Layer Purpose × OutboxState)) → P r.1.1.sides → At (ahead_sent place peer node r).1
-  ahead_leaves place peer node (Some label, (layer, outbox)) h = h
-  ahead_leaves place peer node (None, (layer, outbox)) h = h
-
-  ahead_if : (b : Bool) (body : Body) (place : ℕ) (login : Login) (s : Scene) → At s → At (cond b (false, s) (ahead_sent place login.node s.node (request_step s.node.layer s.outbox login.node body (purposes.Agent place)))).1
-  ahead_if true body place login s h = h
-  ahead_if false body place login s h =
-      ahead_leaves place login.node s.node (request_step s.node.layer s.outbox login.node body (purposes.Agent place)) (requests s.node.layer s.outbox login.node body (purposes.Agent place) h)
-
-  ahead_asks : (body : Option Body) (place : ℕ) (login : Login) (s : Scene) → At s → At (ahead_asked body place login s).1
-  ahead_asks None place login s h = h
-  ahead_asks (Some body) place login s h = ahead_if (nat_lt (free_labels s.node.layer login.node) 16) body place login s h
-
-  sends_ahead : (place : ℕ) (login : Login) (ask : Ask) (s : Scene) → At s → At (send_ahead place login ask s).1
-  unfolding send_ahead
-  sends_ahead place login ask s h = ahead_asks (agent_body ask false login.fifo (desk_at s.node place).agent.outgoing) place login s h
-
-  behind_ahead : (place : ℕ) (login : Login) (r : Bool × Scene) → At r.1 → At (after_ahead place login r)
-  behind_ahead place login (true, s) h = h
-  behind_ahead place login (false, s) h = loses place login Ahead s h
-
-  behind_loss : (place : ℕ) (login : Login) (r : Bool × Scene) → At r.1 → At (after_loss place login r)
-  behind_loss place login (true, s) h = h
-  behind_loss place login (false, s) h = loses place login Main s h
-
-  loses_main : (place : ℕ) (login : Login) (s : Scene) → At s → At (lose_main place login s)
-  unfolding lose_main
-  loses_main place login s h = behind_loss place login (lose place login Main s) (loses place login Main s h)
-
-  behind_main : (place : ℕ) (login : Login) (step : AgentStep) (r : Bool × Scene) → At r.1 → At (after_main place login step r)
-  behind_main place login step (true, s) h = behind_ahead place login (send_ahead place login step.ahead s) (sends_ahead place login step.ahead s h)
-  behind_main place login step (false, s) h = loses_main place login s h
+  lost_tells : Loses P
+  lost_tells place which s h =
+      let m = (desk_at s.node place).agent in
+      let x = lost_step m which causes.Label in
+      mild_tells place x.0 (scene (with_agent s.node place x.1) s.outbox) (lost_mild m which causes.Label) h
 
   follows : (place : ℕ) (login : Login) (step : AgentStep) (s : Scene) → At (noted place step s) → At (follow place login step s)
-  unfolding follow
-  follows place login step s h =
-      let t = noted place step s in
-      behind_main place login step (ask_main place login step t) (asks_main place login step t h)
+  follows place login step s h = follows_behind P lost_tells place login step s h
 
-  -- ---- unsolicited statuses
-  announced : (place peer : ℕ) (node : NodeState) (r : Option LabelParts × (Layer Purpose × OutboxState)) → P r.1.1.sides → At (unsolicited_by place peer node r)
-  announced place peer node (Some label, (layer, outbox)) h = tells outbox.sides (sides.Unsolicited place) tt h
-  announced place peer node (None, (layer, outbox)) h = tells outbox.sides (sides.Unsent place) tt h
+  discs : TellsDiscs P
+  discs = record { pushed = λ told place h. tells told (sides.Unsolicited place) tt h; unsent = λ told place h. tells told (sides.Unsent place) tt h }
 
-  announces_to : (place : ℕ) (login : Login) (s : Scene) → At s → At (announce_to place login s)
-  unfolding announce_to
-  announces_to place login s h =
-      let r = request_step s.node.layer s.outbox login.node (block_write login.fifo block) purposes.Unsolicited in
-      pick (is_pending login.node s.node.pending) (scene s.node (with_side s.outbox (sides.Unsent place))) (unsolicited_by place login.node s.node r)
-      (tells s.outbox.sides (sides.Unsent place) tt h)
-      (announced place login.node s.node r (requests s.node.layer s.outbox login.node (block_write login.fifo block) purposes.Unsolicited h))
-
-  announces_in : (unit from place : ℕ) (login : Option Login) (s : Scene) → At s → At (announce_in unit from place login s)
-  announces_in unit from place None s h = h
-  announces_in unit from place (Some login) s h =
-      pick (hears unit from place (desk_at s.node place) login) (announce_to place login s) s (announces_to place login s h) h
-
-  announces_at : (unit from place : ℕ) (s : Scene) → At s → At (announce_at unit from place s)
-  unfolding announce_at
-  announces_at unit from place s h = announces_in unit from place (login_at s.node place) s h
-
-  announces_from : (left place unit from : ℕ) (s : Scene) → At s → At (announce_from left place unit from s)
-  unfolding announce_from
-  announces_from zero place unit from s h = h
-  announces_from (suc left) place unit from s h = announces_from left (place + 1) unit from (announce_at unit from place s) (announces_at unit from place s h)
-
-  announces_by : (b : Bool) (unit place : ℕ) (s : Scene) → At s → At (announced_by b unit place s)
-  announces_by false unit place s h = h
-  announces_by true unit place s h = announces_from 8 0 unit place s h
+  announces : (b : Bool) (unit place : ℕ) (s : Scene) → At s → At (announced_by b unit place s)
+  announces b unit place s h = announces_by P discs b unit place s h
 
   -- ---- requests
   asked_tells : (place : ℕ) (ask : Ask) (login : Option Login) (s : Scene) → At s → At (asked_in place ask login s)
@@ -440,7 +346,7 @@ module _ (End : (place orb : ℕ) → StatusKind → Type 0) where
         let n = changed b d p in
         let s = scene n empty_outbox in
         let told = subst (λ (x : Desk). P (tell_step place x.agent step empty_outbox).sides) (sym (desk_left b d p)) h in
-        announces_by b unit place (follow place login step s) (follows place login step s (noted_first step n told))
+        announces b unit place (follow place login step s) (follows place login step s (noted_first step n told))
 
     abbrev loaded : PlainDisk → Bool
     loaded p = came (disk_at disks unit) (disk_at (slice_set disks unit p.medium) unit)

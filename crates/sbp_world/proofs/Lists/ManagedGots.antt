@@ -62,7 +62,7 @@ use Rattle.sbp_world.proofs.Lists.OrbsRead.{access_there}
 use Rattle.sbp_world.proofs.Lists.WriteAnswers.{no_bytes}
 
 -- ---- a request of the operation
-among_not : (k : ℕ) (agents : List Agent) (serial : ℕ) → purpose_among k agents serial ≡ for_manager → ⊥
+pub among_not : (k : ℕ) (agents : List Agent) (serial : ℕ) → purpose_among k agents serial ≡ for_manager → ⊥
 among_not k [] serial e = (let no : for_nobody ≡ for_manager = e in cc)
 among_not k (a ∷ agents) serial e = by (is_serial a.main serial) (is_serial a.ahead serial) (among_not (k + 1) agents serial) e
   where

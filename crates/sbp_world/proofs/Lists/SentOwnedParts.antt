@@ -18,7 +18,7 @@ use Rattle.sbp_world.proofs.Hosts.Mild.{quad_tcode}
 own_label : (m n : ℕ) (k kind : Kind) → request m k ≡ request n kind → m ≡ n
 own_label m n k kind e = cc
 
-answers_none : {A : Type 0} (m n : ℕ) (k kind : Kind) → response m k ≡ request n kind → A
+pub answers_none : {A : Type 0} (m n : ℕ) (k kind : Kind) → response m k ≡ request n kind → A
 answers_none m n k kind e = absurd (let no : response m k ≡ request n kind = e in cc)
 
 module _ (bytes : List ℕ) (n : ℕ) (kind : Kind) where

@@ -51,7 +51,7 @@ empty_bytes bytes label e = empty_by (reading bytes) label e
 
 -- ---- kinds
 
-request_kind : (l m : ℕ) (kind other : Kind) → request l kind ≡ request m other → kind ≡ other
+pub request_kind : (l m : ℕ) (kind other : Kind) → request l kind ≡ request m other → kind ≡ other
 request_kind l m kind other e = cc
 
 closes_kind : (kind other : Kind) (s own : ℕ) → closed_by (waits kind s) other ≡ Some own → is_same_kind kind other ≡ true

@@ -64,7 +64,7 @@ all_told weight (side ∷ later) w e =
     gains_then w.fresh (told weight side w).fresh (told_all weight later (told weight side w)).fresh (one_told weight side w e.0) (all_told weight later (told weight side w) e.1)
 
 -- ---- what is sent
-asked_fresh : (serial to node peer : ℕ) (label : Option LabelParts) (w : WorldState) → (asked serial to node peer label w).fresh ≡ w.fresh
+pub asked_fresh : (serial to node peer : ℕ) (label : Option LabelParts) (w : WorldState) → (asked serial to node peer label w).fresh ≡ w.fresh
 asked_fresh serial to node peer None w = refl
 asked_fresh serial to node peer (Some label) w = refl
 
