@@ -401,7 +401,11 @@ module _ (units ready : ℕ) (has : 0 < units) (start : List Disk) (past : List 
             (run_came stepped.1.orb.cdb stepped.1.payload (check_in outcome) (slice_index_or node.units login.unit new_unit) (disk_at disks login.unit))
             (moves_out disks node login.unit stepped.1.orb.cdb (check_in outcome))
 
-      still_came : (login : Login) (which : Option Which) → served_login node place ≡ Some login → which_in (desk_at node place) (header_in p).source label ≡ which → ran_for node run disks place p (Some login) which ≡ None → came (disk_at disks login.unit) (disk_at (replied_by run place (answer_in p) (Some login) which its).disks login.unit) ≡ false
+      abbrev Comes : Login → Option Which → Bool
+      Comes login which = came (disk_at disks login.unit) (disk_at (replied_by run place (answer_in p) (Some login) which its).disks login.unit)
+
+      still_came : (login : Login) (which : Option Which) → served_login node place ≡ Some login → which_in (desk_at node place) (header_in p).source label ≡ which
+          → ran_for node run disks place p (Some login) which ≡ None → Comes login which ≡ false
       still_came login None e f n = came_not (disk_at disks login.unit)
       still_came login (Some which) e f n = none_came login which n
 
@@ -525,7 +529,13 @@ module _ (units ready : ℕ) (has : 0 < units) (start : List Disk) (past : List 
       agent_quiet p label place layer lives from =
           (calm.replies lives (record node { layer = layer }) run place (header_in p).source label (answer_in p) (with_layer layer all) (begins node good layer lives from)).quiet
 
-      response_due : (p : Packet) (label : LabelParts) (purpose : Option Purpose) (layer : Layer Purpose) → Finds (of_response p label purpose) layer → is_some (reply_kind p) ≡ true → (let o = (Given (of_response p label purpose) layer).1.outbox in AreOthers o.sides → (first : List (wire_calls.Call Purpose)) → reply_tells purpose (answer_in p) node first disks (Given (of_response p label purpose) layer).1.disks o → Runs o.sides → Due judgements.Got o)
+      -- what is handed out tells what it may, and is due
+      abbrev IsDue : Finding Purpose → Judged → Whole → Type 0
+      IsDue f judged left =
+          AreOthers left.outbox.sides → (first : List (wire_calls.Call Purpose)) → delivery_tells f node first disks left.disks left.outbox → Runs left.outbox.sides → Due judged left.outbox
+
+      response_due : (p : Packet) (label : LabelParts) (purpose : Option Purpose) (layer : Layer Purpose) → Finds (of_response p label purpose) layer → is_some (reply_kind p) ≡ true
+          → IsDue (of_response p label purpose) judgements.Got (Given (of_response p label purpose) layer).1
       response_due p label None layer e kind o first tells runs = no_sides judgements.Got (Given (of_response p label None) layer).1.outbox o tells
       response_due p label (Some purposes.Unsolicited) layer e kind o first tells runs = no_sides judgements.Got (Given (of_response p label (Some purposes.Unsolicited)) layer).1.outbox o tells
       response_due p label (Some purposes.Management) layer e kind o first tells runs =
@@ -535,7 +545,7 @@ module _ (units ready : ℕ) (has : 0 < units) (start : List Disk) (past : List 
           let lives = live_on (wire_calls.closed (header_in p).source label c.kind (Some (purposes.Agent place))) good.lives in
           agent_due p label place layer e (served_login node place) refl o (agent_quiet p label place layer lives (from_self node good layer lives c.known)) first tells runs
 
-      by_finding : (f : Finding Purpose) (layer : Layer Purpose) → Finds f layer → IsFound f node.layer layer one.bytes → (let x = Given f layer in AreOthers x.1.outbox.sides → (first : List (wire_calls.Call Purpose)) → delivery_tells f node first disks x.1.disks x.1.outbox → Runs x.1.outbox.sides → Due x.0 x.1.outbox)
+      by_finding : (f : Finding Purpose) (layer : Layer Purpose) → Finds f layer → IsFound f node.layer layer one.bytes → IsDue f (Given f layer).0 (Given f layer).1
       by_finding of_generation layer e f o first tells runs = no_sides (judgements.Ignored causes.Generation) (Given of_generation layer).1.outbox o tells
       by_finding of_grammar layer e f o first tells runs = no_sides (judgements.Ignored causes.Grammar) (Given of_grammar layer).1.outbox o tells
       by_finding of_label layer e f o first tells runs = no_sides (judgements.Ignored causes.Label) (Given of_label layer).1.outbox o tells

@@ -435,7 +435,11 @@ module _ (units ready : ℕ) (has : 0 < units) (start : List Disk) (past : List 
       abbrev Given : Finding Purpose → Layer Purpose → Option Told → Judged × Whole
       Given f layer run = received_as run one.bytes f (with_layer layer (whole_of node s.media))
 
-      by_finding : (run : Option Told) (f : Finding Purpose) (layer : Layer Purpose) (outbox : OutboxState) → judging_step node.layer one.generation one.bytes ≡ (f, layer) → IsFound f node.layer layer one.bytes → AreJudged (said (judged_note serial (Given f layer run).0) ∷ ms) → (first : List (wire_calls.Call Purpose)) (disks left : List Disk) → delivery_tells f node first disks left outbox → Fits (Given f layer run).0 outbox.sides
+      abbrev IsCut : Finding Purpose → Judged → OutboxState → Type 0
+      IsCut f judged outbox = (first : List (wire_calls.Call Purpose)) (disks left : List Disk) → delivery_tells f node first disks left outbox → Fits judged outbox.sides
+
+      by_finding : (run : Option Told) (f : Finding Purpose) (layer : Layer Purpose) (outbox : OutboxState) → judging_step node.layer one.generation one.bytes ≡ (f, layer) → IsFound f node.layer layer one.bytes
+          → AreJudged (said (judged_note serial (Given f layer run).0) ∷ ms) → IsCut f (Given f layer run).0 outbox
       unfolding request_step is_barred
       by_finding run of_generation layer outbox e f j first disks left tells = ap (cuts_in H) tells
       by_finding run of_grammar layer outbox e f j first disks left tells = ap (cuts_in H) tells

@@ -90,11 +90,14 @@ module _ (wire after : Terms) (T : Target) where
   abbrev pub DueBy : Call → List Note
   DueBy call = failed_in (operator_for call wire T) (finds_label after 0 (suc (operator_for call wire T))) (manager_turn call T)
 
-  idle_by : (i : ℕ) (finds : Body → Bool) (m : Machine) (table : Table) (keys : List (List ℕ)) (answer : Answer) (operation : Option Operation) → source_in operation ≡ None → (let r = reply_to operation m table keys answer in failed_note i (failure_of r.0.failed (fails_unsent finds (body_for r.0.ask r.1.0))) ≡ [])
+  abbrev Note_of : (i : ℕ) → (Body → Bool) → ManagerStep × (Machine × Table) → List Note
+  Note_of i finds r = failed_note i (failure_of r.0.failed (fails_unsent finds (body_for r.0.ask r.1.0)))
+
+  idle_by : (i : ℕ) (finds : Body → Bool) (m : Machine) (table : Table) (keys : List (List ℕ)) (answer : Answer) (operation : Option Operation) → source_in operation ≡ None → Note_of i finds (reply_to operation m table keys answer) ≡ []
   idle_by i finds m table keys answer None e = refl
   idle_by i finds m table keys answer (Some own) e = absurd (let no : Some own.source ≡ None = e in cc)
 
-  idle_due : (i : ℕ) (finds : Body → Bool) (m : Machine) (table : Table) (keys : List (List ℕ)) (answer : Answer) → source_in m.operation ≡ None → (let r = reply_step m table keys answer in failed_note i (failure_of r.0.failed (fails_unsent finds (body_for r.0.ask r.1.0))) ≡ [])
+  idle_due : (i : ℕ) (finds : Body → Bool) (m : Machine) (table : Table) (keys : List (List ℕ)) (answer : Answer) → source_in m.operation ≡ None → Note_of i finds (reply_step m table keys answer) ≡ []
   unfolding reply_step
   idle_due i finds m table keys answer e = idle_by i finds m table keys answer m.operation e
 
@@ -108,12 +111,17 @@ module _ (wire after : Terms) (T : Target) where
     abbrev pub Step : Answer → ManagerStep × (Machine × Table)
     Step answer = reply_step node.manager node.logins node.keys answer
 
-    abbrev Note_of : (i : ℕ) → (Body → Bool) → ManagerStep × (Machine × Table) → List Note
-    Note_of i finds r = failed_note i (failure_of r.0.failed (fails_unsent finds (body_for r.0.ask r.1.0)))
+    -- the bus and the laws name an initiator alike
+    abbrev Names : ℕ → Type 0
+    Names source = bus.initiator_of known source ≡ initiator_with wire source
+
+    -- a body finds a label, or none, as the laws say of this initiator
+    abbrev FindsAlike : Layer Purpose → (source : ℕ) → Body → Type 0
+    FindsAlike layer source body = IsFound layer source (finds_label after 0 (suc (initiator_with wire source))) body
 
     -- an operation of this initiator is replied to
     pub reply_due : (layer : Layer Purpose) (answer : Answer) (source : Option ℕ) → source_in node.manager.operation ≡ source
-        → ((n : ℕ) → source ≡ Some n → (bus.initiator_of known n ≡ initiator_with wire n) × ((body : Body) → step_body (Step answer) ≡ Some body → IsFound layer n (finds_label after 0 (suc (initiator_with wire n))) body))
+        → ((n : ℕ) → source ≡ Some n → Names n × ((body : Body) → step_body (Step answer) ≡ Some body → FindsAlike layer n body))
         → failure_notes known (reply_fails node all_fit layer source answer) ≡ DueBy (answers answer)
     reply_due layer answer None e h =
         let i = operator wire T.manager.operation in
@@ -133,17 +141,22 @@ module _ (wire after : Terms) (T : Target) where
 
     -- ---- an operation is started
     abbrev pub Finds : (source orb : ℕ) → Type 0
-    Finds source orb = IsFound node.layer source (finds_label after 0 (suc (initiator_with wire source))) (block_read orb 32)
+    Finds source orb = FindsAlike node.layer source (block_read orb 32)
 
-    with_due : (operation : Option Operation) (source orb : ℕ) → bus.initiator_of known source ≡ initiator_with wire source → Finds source orb
-        → failure_notes known (start_fails node all_fit (start_with operation node.manager source orb) source) ≡ failed_in (initiator_with wire source) (finds_label after 0 (suc (initiator_with wire source))) (started (start_with operation node.manager source orb))
+    -- what fails as an operation is started, as the bus tells it and as the laws have it
+    abbrev Started : Option Operation → (source orb : ℕ) → Type 0
+    Started operation source orb =
+        let r = start_with operation node.manager source orb in
+        failure_notes known (start_fails node all_fit r source) ≡ failed_in (initiator_with wire source) (finds_label after 0 (suc (initiator_with wire source))) (started r)
+
+    with_due : (operation : Option Operation) (source orb : ℕ) → Names source → Finds source orb → Started operation source orb
     with_due None source orb names finds =
         let i = initiator_with wire source in
         side_noted known source i (lost_cause node.layer source (Some (block_read orb 32))) names
         ∙ ap (failed_note i) (lost_is node.layer source (finds_label after 0 (suc i)) (Some (block_read orb 32)) (λ one e. subst (IsFound node.layer source (finds_label after 0 (suc i))) (let z : block_read orb 32 ≡ one = cc in z) finds))
     with_due (Some own) source orb names finds = refl
 
-    start_due : (source orb : ℕ) → bus.initiator_of known source ≡ initiator_with wire source → Finds source orb → failure_notes known (start_fails node all_fit (start_step node.manager source orb) source) ≡ DueBy (starts source orb)
+    start_due : (source orb : ℕ) → Names source → Finds source orb → failure_notes known (start_fails node all_fit (start_step node.manager source orb) source) ≡ DueBy (starts source orb)
     unfolding start_step
     start_due source orb names finds =
         with_due node.manager.operation source orb names finds
@@ -160,7 +173,14 @@ module _ (wire after : Terms) (T : Target) where
     not_started (demands.Manage orb) source e = absurd (let no : asks.Read orb 32 ≡ asks.Nothing = ap (λ (o : Office). o.asks) e in cc)
     not_started (demands.Agent place access) source e = refl
 
-    by_start : (start : Start) (access : Access) (demand : Demand) (source : ℕ) → Some demand ≡ asked_at start access → start_serves start access ≡ true → bus.initiator_of known source ≡ initiator_with wire source → ((orb : ℕ) → demand ≡ demands.Manage orb → Finds source orb) → failure_notes known (demand_fails node all_fit demand source) ≡ DueBy (start_of start source access)
+    abbrev Manages : Demand → ℕ → Type 0
+    Manages demand source = (orb : ℕ) → demand ≡ demands.Manage orb → Finds source orb
+
+    abbrev Fails : Demand → ℕ → List Note
+    Fails demand source = failure_notes known (demand_fails node all_fit demand source)
+
+    by_start : (start : Start) (access : Access) (demand : Demand) (source : ℕ) → Some demand ≡ asked_at start access → start_serves start access ≡ true → Names source → Manages demand source
+        → Fails demand source ≡ DueBy (start_of start source access)
     by_start management_agent access demand source e serves names finds =
         let is : demand ≡ demands.Manage (offset_at access.payload 0) = cc in
         ap (λ d. failure_notes known (demand_fails node all_fit d source)) is ∙ start_due source (offset_at access.payload 0) names (finds (offset_at access.payload 0) is)
@@ -176,10 +196,11 @@ module _ (wire after : Terms) (T : Target) where
     not_served rom_start access source e = refl
     not_served no_start access source e = refl
 
-    pub demand_due : (p : Packet) (access : Access) (source : ℕ) → access_of p ≡ Some access → length node.rom ≤ 1024 → bus.initiator_of known source ≡ initiator_with wire source → ((orb : ℕ) → demand_of (length node.rom) p ≡ demands.Manage orb → Finds source orb) → failure_notes known (demand_fails node all_fit (demand_of (length node.rom) p) source) ≡ DueBy (start_in (Some access) source)
+    pub demand_due : (p : Packet) (access : Access) (source : ℕ) → access_of p ≡ Some access → length node.rom ≤ 1024 → Names source → Manages (demand_of (length node.rom) p) source
+        → Fails (demand_of (length node.rom) p) source ≡ DueBy (start_in (Some access) source)
     demand_due p access source is small names finds = by (start_serves (start_at access.offset) access) refl
       where
-        by : (b : Bool) → start_serves (start_at access.offset) access ≡ b → failure_notes known (demand_fails node all_fit (demand_of (length node.rom) p) source) ≡ DueBy (start_in (Some access) source)
+        by : (b : Bool) → start_serves (start_at access.offset) access ≡ b → Fails (demand_of (length node.rom) p) source ≡ DueBy (start_in (Some access) source)
         by true e = by_start (start_at access.offset) access (demand_of (length node.rom) p) source (serves_is p access is (length node.rom) small e) e names finds
         by false e =
             not_started (demand_of (length node.rom) p) source

@@ -225,7 +225,15 @@ module _ (node : NodeState) (fits : (source : ℕ) (answer : Answer) → managem
     found_fails (of_request p) layer = asked_for (is_barred node p) p
     found_fails finding layer = []
 
-    concludes : (run : Option Told) (p : Packet) (peer : ℕ) (label : LabelParts) (disks : List Disk) (layer : Layer Purpose) (lives : Lives) → From lives layer → (purpose : Option Purpose) → failing (scene_of (concluded run purpose peer label (answer_in p) (whole (scene (record node { layer = layer }) empty_outbox) disks))).outbox.sides ≡ found_fails (of_response p label purpose) layer
+    -- the target with this layer, at the beginning of a call
+    abbrev begun_with : Layer Purpose → List Disk → Whole
+    begun_with layer disks = whole (scene (record node { layer = layer }) empty_outbox) disks
+
+    abbrev failing_of : Whole → List Side
+    failing_of w = failing (scene_of w).outbox.sides
+
+    concludes : (run : Option Told) (p : Packet) (peer : ℕ) (label : LabelParts) (disks : List Disk) (layer : Layer Purpose) (lives : Lives) → From lives layer → (purpose : Option Purpose)
+        → failing_of (concluded run purpose peer label (answer_in p) (begun_with layer disks)) ≡ found_fails (of_response p label purpose) layer
     unfolding concluded
     concludes run p peer label disks layer lives f None = refl
     concludes run p peer label disks layer lives f (Some (purposes.Agent place)) =
@@ -244,7 +252,8 @@ module _ (node : NodeState) (fits : (source : ℕ) (answer : Answer) → managem
     requests_fail : (p : Packet) (bytes : List ℕ) (layer : Layer Purpose) → layer ≡ node.layer → failing (request_step p bytes (scene (record node { layer = layer }) empty_outbox)).1.outbox.sides ≡ asked_for (is_barred node p) p
     requests_fail p bytes layer e = subst (λ (l : Layer Purpose). failing (request_step p bytes (scene (record node { layer = l }) empty_outbox)).1.outbox.sides ≡ asked_for (is_barred node p) p) (sym e) (request_fails p bytes)
 
-    finds : (run : Option Told) (disks : List Disk) (generation : ℕ) (bytes : List ℕ) (f : Finding Purpose) (layer : Layer Purpose) → judging_step node.layer generation bytes ≡ (f, layer) → IsFound f node.layer layer bytes → failing (scene_of (received_as run bytes f (with_layer layer (whole (scene node empty_outbox) disks))).1).outbox.sides ≡ found_fails f layer
+    finds : (run : Option Told) (disks : List Disk) (generation : ℕ) (bytes : List ℕ) (f : Finding Purpose) (layer : Layer Purpose) → judging_step node.layer generation bytes ≡ (f, layer) → IsFound f node.layer layer bytes
+        → failing_of (received_as run bytes f (with_layer layer (whole (scene node empty_outbox) disks))).1 ≡ found_fails f layer
     finds run disks generation bytes of_generation layer e f = refl
     finds run disks generation bytes of_grammar layer e f = refl
     finds run disks generation bytes of_label layer e f = refl

@@ -42,7 +42,8 @@ use Rattle.sbp_world.proofs.Wire.Kept.{and_false}
 abbrev deaths : List Note → ℕ
 deaths rest = length (filter is_death_note rest)
 
-either_note : (kind : Bool) (note : Note) (rest : List Note) → (is_death_note note ≡ true → kind ≡ true) → cond (is_death_note note) (note ∷ filter is_death_note (of_kind is_end_note rest)) (filter is_death_note (of_kind is_end_note rest)) ≡ filter is_death_note (cond kind (note ∷ of_kind is_end_note rest) (of_kind is_end_note rest))
+either_note : (kind : Bool) (note : Note) (rest : List Note) → (is_death_note note ≡ true → kind ≡ true)
+    → (let ends = of_kind is_end_note rest in cond (is_death_note note) (note ∷ filter is_death_note ends) (filter is_death_note ends) ≡ filter is_death_note (cond kind (note ∷ ends) ends))
 either_note true note rest h = refl
 either_note false note rest h = by (is_death_note note) refl
   where

@@ -425,7 +425,9 @@ module _ (L : List Disk → Turn → Type 0) (cases : (units ready : ℕ) (start
   more_calls (Some count) = refl
   more_calls None = refl
 
-  pub turns_between : (entries : List Entry) → length entries + 2 < 2 ^ 32 → AreEntries (beginning run) entries → AreLines run entries → (next : ℕ) (most : Option ℕ) (told : List (Option Told)) → (let s = begun (after (beginning run) entries) in MayAll told s → EachTurn (L disks) (map said (after_all told s).world.fresh ++ asked next (more_deliveries most) ∷ moments_behind line run entries))
+  pub turns_between : (entries : List Entry) → length entries + 2 < 2 ^ 32 → AreEntries (beginning run) entries → AreLines run entries → (next : ℕ) (most : Option ℕ) (told : List (Option Told))
+      → (let s = begun (after (beginning run) entries) in
+         MayAll told s → EachTurn (L disks) (map said (after_all told s).world.fresh ++ asked next (more_deliveries most) ∷ moments_behind line run entries))
   turns_between entries short every fit next most told may =
       let b = all_behind entries short every fit in
       let s = after (beginning run) entries in

@@ -73,7 +73,11 @@ module _ (start : List Disk) (T : Target) (t : Turn) (a : AgentTurn) (step : Age
     law_size : IsSizedBy step.ended step.ask a.machine.outgoing
     law_size = subst (λ (s : AgentStep). IsSizedBy s.ended s.ask a.machine.outgoing) h.step_is h.law_sized
 
-    by_ask : (ended : Option StatusKind) (ask : Ask) → IsShaped ended step.dead m.phase → IsSizedBy ended ask a.machine.outgoing → IsSizedBy ended ask m.outgoing → found_by finds (body_of ask m ended fifo) ≡ found_by told_so (body_of ask a.machine ended fifo) → UnservedBody wire (suc i) (body_of ask a.machine ended 0)
+    abbrev FindsAsTold : Option StatusKind → Ask → Type 0
+    FindsAsTold ended ask = found_by finds (body_of ask m ended fifo) ≡ found_by told_so (body_of ask a.machine ended fifo)
+
+    by_ask : (ended : Option StatusKind) (ask : Ask) → IsShaped ended step.dead m.phase → IsSizedBy ended ask a.machine.outgoing → IsSizedBy ended ask m.outgoing → FindsAsTold ended ask
+        → UnservedBody wire (suc i) (body_of ask a.machine ended 0)
     by_ask ended Nothing shaped law own search = tt
     by_ask ended (Read offset len) shaped law own search = tt
     by_ask (Some kind) (Write offset len) shaped law own search = absurd (ends_no_chunk kind step.dead m.phase shaped chunk)
