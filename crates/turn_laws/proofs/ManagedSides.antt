@@ -172,11 +172,11 @@ module _ (node : NodeState) (g : Good node) where
   abbrev begun_with : Layer Purpose → List Disk → Whole
   begun_with layer disks = whole (scene (record node { layer = layer }) empty_outbox) disks
 
-  abbrev managed_of : Whole → List Side
-  managed_of w = managed (scene_of w).outbox.sides
+  abbrev managed_left : Whole → List Side
+  managed_left w = managed (scene_of w).outbox.sides
 
   concludes : (run : Option Told) (p : Packet) (peer : ℕ) (label : LabelParts) (disks : List Disk) (layer : Layer Purpose) (lives : Lives) → From lives layer → (purpose : Option Purpose)
-      → managed_of (concluded run purpose peer label (answer_in p) (begun_with layer disks)) ≡ found_side (of_response p label purpose)
+      → managed_left (concluded run purpose peer label (answer_in p) (begun_with layer disks)) ≡ found_side (of_response p label purpose)
   unfolding concluded
   concludes run p peer label disks layer lives f None = refl
   concludes run p peer label disks layer lives f (Some (purposes.Agent place)) =
@@ -224,7 +224,7 @@ module _ (node : NodeState) (g : Good node) where
   as_judged (judged, s) w e = e
 
   finds : (run : Option Told) (disks : List Disk) (generation : ℕ) (bytes : List ℕ) (f : Finding Purpose) (layer : Layer Purpose) → judging_step node.layer generation bytes ≡ (f, layer) → IsFound f node.layer layer bytes
-      → managed_of (received_as run bytes f (with_layer layer (whole (scene node empty_outbox) disks))).1 ≡ found_side f
+      → managed_left (received_as run bytes f (with_layer layer (whole (scene node empty_outbox) disks))).1 ≡ found_side f
   finds run disks generation bytes of_generation layer e f = refl
   finds run disks generation bytes of_grammar layer e f = refl
   finds run disks generation bytes of_label layer e f = refl
