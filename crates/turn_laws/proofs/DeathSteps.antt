@@ -114,7 +114,7 @@ ahead_keeps None pointers.Null s = refl
 ahead_keeps (Some cause) next s = refl
 
 -- ---- the bytes of a read
-read_bytes : (answer : Answer) (size : ℕ) (bytes : List ℕ) → payload_of answer size ≡ Ok bytes → (answer ≡ Payload bytes) × ((length bytes == size) ≡ true)
+pub read_bytes : (answer : Answer) (size : ℕ) (bytes : List ℕ) → payload_of answer size ≡ Ok bytes → (answer ≡ Payload bytes) × ((length bytes == size) ≡ true)
 read_bytes (Payload other) size bytes e = by (length other == size) refl e
   where
     by : (b : Bool) → (length other == size) ≡ b → cond b (Ok other) (Err causes.Grammar) ≡ Ok bytes → (Payload other ≡ Payload bytes) × ((length bytes == size) ≡ true)
@@ -124,6 +124,9 @@ read_bytes Done size bytes e = absurd (let no : Err causes.Grammar ≡ Ok bytes 
 read_bytes (Refused rcode) size bytes e = absurd (let no : Err causes.Refused ≡ Ok bytes = e in cc)
 read_bytes Expired size bytes e = absurd (let no : Err causes.Timeout ≡ Ok bytes = e in cc)
 read_bytes NoLabel size bytes e = absurd (let no : Err causes.Label ≡ Ok bytes = e in cc)
+
+pub kept_idle : {A : Type 0} (ahead : ReadAhead) (orb : CommandOrb) → ahead ≡ aheads.Idle → ahead ≡ aheads.Kept orb → A
+kept_idle ahead orb e f = absurd (let no : aheads.Idle ≡ aheads.Kept orb = sym e ∙ f in cc)
 
 -- an answer to what was asked for
 abbrev pub FairFor : Ask → Answer → Option Access → Type 0
@@ -258,9 +261,6 @@ module _ (m : Machine) (answer : Answer) (access : Option Access) where
   status_moves None e fair =
       follow_moves phases.WritingStatus m m.orb.next
       (λ orb f. checks_by phases.WritingStatus orb false (λ meaning g. illegal_row phases.WritingStatus (illegal_meaning orb) meaning (ap (meaning_at m phases.WritingStatus) (done_of answer e) ∙ ap (λ (x : ReadAhead). meaning_at (record m { ahead = x }) phases.WritingStatus Done) f) g))
-
-  kept_idle : {A : Type 0} (ahead : ReadAhead) (orb : CommandOrb) → ahead ≡ aheads.Idle → ahead ≡ aheads.Kept orb → A
-  kept_idle ahead orb e f = absurd (let no : aheads.Idle ≡ aheads.Kept orb = sym e ∙ f in cc)
 
   next_moves : (r : Result (List ℕ) FailCause) → payload_of answer 8 ≡ r → MayAnswer (Some 8) answer access → m.ahead ≡ aheads.Idle → Moves phases.ReadingNext (next_read m r)
   next_moves (Err cause) e fair idle = read_by phases.ReadingNext 8 answer refl fair cause e

@@ -70,6 +70,8 @@ pub mod DeathSteps
 pub mod DeathRows
 pub mod DeathAnswers
 pub mod Deaths
+pub mod CodeSteps
+pub mod Codes
 pub mod DecisionEffects
 pub mod DecisionWords
 pub mod DecisionRuns

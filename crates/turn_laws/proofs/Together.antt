@@ -2,6 +2,7 @@
 use Rattle.turn_laws.specs.Together.{TurnsLaw}
 use Rattle.turn_laws.proofs.Announcing.{announced_law}
 use Rattle.turn_laws.proofs.Cleared.{cleared_law}
+use Rattle.turn_laws.proofs.Codes.{codes_law}
 use Rattle.turn_laws.proofs.Cuts.{cuts_law}
 use Rattle.turn_laws.proofs.Deaths.{deaths_law}
 use Rattle.turn_laws.proofs.DecisionRuns.{decided_law}
@@ -28,6 +29,7 @@ turns_law = record {
     ends = ends_law.after_lines line run is some most size;
     once = once_law.after_lines line run is some most size;
     deaths = deaths_law.after_lines line run is some most size;
+    codes = codes_law.after_lines line run is some most size;
     unserved = unserved_law.after_lines line run is some most size;
     faults = faults_law.after_lines line run is some most size;
     decided = decided_law.after_lines line run is some most size;
@@ -45,6 +47,7 @@ turns_law = record {
     ends = ends_law.between line run is some most size next deliveries told may;
     once = once_law.between line run is some most size next deliveries told may;
     deaths = deaths_law.between line run is some most size next deliveries told may;
+    codes = codes_law.between line run is some most size next deliveries told may;
     unserved = unserved_law.between line run is some most size next deliveries told may;
     faults = faults_law.between line run is some most size next deliveries told may;
     decided = decided_law.between line run is some most size next deliveries told may;

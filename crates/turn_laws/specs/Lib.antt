@@ -6,6 +6,7 @@ pub mod Faults
 pub mod Ends
 pub mod Once
 pub mod Deaths
+pub mod Codes
 pub mod Unserved
 pub mod Ordered
 pub mod Logins

@@ -10,6 +10,7 @@ use Rattle.sbp_laws.specs.SentPackets.{SentAt}
 use Rattle.sbp_laws.specs.Turns.{EachMoment, EachTurn}
 use Rattle.turn_laws.specs.Announced.{AnnouncesWhereDue}
 use Rattle.turn_laws.specs.Cleared.{ClearsWhereDue}
+use Rattle.turn_laws.specs.Codes.{EndsWithCodes}
 use Rattle.turn_laws.specs.Cuts.{CutsWhereDue}
 use Rattle.turn_laws.specs.Deaths.{DiesByRows}
 use Rattle.turn_laws.specs.Failing.{FailsByRows}
@@ -30,6 +31,7 @@ pub record LawfulInTurns (start : List Disk) (past : List Moment) : Type 0 where
   pub ends : EachTurn (EndsWhereDue start) past
   pub once : EachTurn (DiesOnce start) past
   pub deaths : EachTurn (DiesByRows start) past
+  pub codes : EachTurn (EndsWithCodes start) past
   pub unserved : EachTurn (UnservedWhereTold start) past
   pub faults : EachTurn DiesBeforeFaults past
   pub decided : EachTurn (DecisionStands start) past

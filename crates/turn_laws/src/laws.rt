@@ -1,6 +1,7 @@
 //! The laws of turns, each of every run of the machine of up to four initiators with one to four units.
 ghost use Rattle.turn_laws.specs.Announced.{AnnouncedLaw};
 ghost use Rattle.turn_laws.specs.Cleared.{ClearedLaw};
+ghost use Rattle.turn_laws.specs.Codes.{CodesLaw};
 ghost use Rattle.turn_laws.specs.Cuts.{CutsLaw};
 ghost use Rattle.turn_laws.specs.Deaths.{DeathsLaw};
 ghost use Rattle.turn_laws.specs.Decided.{DecidedLaw};
@@ -79,6 +80,14 @@ pub fn agents_die_once()
 #[tactic(auto, using(crate::proofs::Deaths::deaths_law))]
 pub fn deaths_have_rows()
     ensures { DeathsLaw }
+{}
+
+/// In each turn of every run an ORB that ends as illegal does so with the code of what is illegal, whatever anybody
+/// injected: of the first field that is, where the ORB comes to be checked, as it is read or as its turn comes that
+/// was read ahead; or of the page table that its read brings: `codes` of the cause law.
+#[tactic(auto, using(crate::proofs::Codes::codes_law))]
+pub fn illegal_orbs_have_codes()
+    ensures { CodesLaw }
 {}
 
 /// In every run, whatever anybody injected, there are bytes with which the write of a chunk of an answer finds no
