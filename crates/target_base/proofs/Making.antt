@@ -5,7 +5,7 @@ use Rattle.std.proofs.lemmas.Grind.{common_steps}
 use Rattle.orb_layout.specs.Pointers.{quad_bytes}
 use Rattle.config_rom.specs.Make.{made, unit_numbers, root_quads, units_headed}
 
-numbers_size : (first units : ℕ) → length (unit_numbers first units) ≡ units
+pub numbers_size : (first units : ℕ) → length (unit_numbers first units) ≡ units
 numbers_size first zero = refl
 numbers_size first (suc units) = let rest = numbers_size (suc first) units in omega arith
 
@@ -24,7 +24,7 @@ made_size eui units h =
     let rest = headed_size units in
     grind (arith, common_steps)
 
-bytes_size : (quads : List ℕ) → length (quad_bytes quads) ≡ 4 * length quads
+pub bytes_size : (quads : List ℕ) → length (quad_bytes quads) ≡ 4 * length quads
 bytes_size [] = refl
 bytes_size (quad ∷ quads) = let rest = bytes_size quads in grind (arith, common_steps)
 

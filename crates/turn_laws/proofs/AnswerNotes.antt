@@ -1,5 +1,5 @@
 -- A node that judges a packet and hands out nothing but one answer brings one note, that of the packet which the judgement law has.
-use Rattle.std.proofs.Common.{◌≡◌, ◌∙◌, refl, sym, ap, ℕ, ◌+◌, ◌≤◌, ◌||◌, not, Bool, true, false, List, [], ◌∷◌, ◌++◌, length, Option, Some, Ok}
+use Rattle.std.proofs.Common.{◌≡◌, ◌∙◌, refl, sym, ap, ℕ, ◌+◌, ◌≤◌, ◌||◌, not, Bool, true, false, List, [], ◌∷◌, ◌++◌, length, Some, Ok}
 use Rattle.async_packet.specs.Canon.{canon}
 use Rattle.async_packet.specs.Packet.{Packet, header_in}
 use Rattle.async_packet.specs.Reading.{reading}
@@ -82,22 +82,19 @@ module _ {past : List Moment} (w : WorldState) (h : Stands past w) (serial : ℕ
             ∙ (ap (λ g. t.ids g one.from) (generation_is ∙ sym now) ∙ sym ((is_of w h serial one found).source p read)));
       })
 
-  module _ (v : WorldState) (same : SameBus w v) (rcode own : ℕ) (own_is : own ≡ (layers_of w one.to).node) where
+  module _ (v : WorldState) (same : SameBus w v) (rcode own : ℕ) (given : List ℕ) (own_is : own ≡ (layers_of w one.to).node) where
     abbrev response_as : (last generation node : ℕ) → List Note
-    response_as last generation node = notes.Sent (last + 1) generation one.to one.from (canon (response_to node p rcode [])) ∷ []
+    response_as last generation node = notes.Sent (last + 1) generation one.to one.from (canon (response_to node p rcode given)) ∷ []
 
-    abbrev note_to : Option ℕ → WorldState → List Note
-    note_to to x = packet_note to one.to (answer own p rcode []) x ++ []
-
-    one_note : one.generation ≡ t.generation one.to → note_to (node_of v.generations one.to (header_in p).source) v ≡ answer_packet t (as_sending one) rcode [] (Some p)
-    one_note now =
-        ap (λ to. note_to to v) (ap (λ (g : GenerationsState). node_of g one.to (header_in p).source) same.generations ∙ source_there now)
+    pub one_noted : one.generation ≡ t.generation one.to → packet_note (node_of v.generations one.to (header_in p).source) one.to (answer own p rcode given) v ≡ answer_packet t (as_sending one) rcode given (Some p)
+    one_noted now =
+        ap (λ to. packet_note to one.to (answer own p rcode given) v) (ap (λ (g : GenerationsState). node_of g one.to (header_in p).source) same.generations ∙ source_there now)
         ∙ (ap (λ n. response_as n (topology_at v.generations one.to).generation own) (same.last ∙ counted)
         ∙ (ap (λ n. response_as t.count n own) (ap (λ (g : GenerationsState). (topology_at g one.to).generation) same.generations ∙ generation_is)
         ∙ ap (λ n. response_as t.count (t.generation one.to) n) (own_is ∙ id_is)))
 
-    pub one_handed : one.generation ≡ t.generation one.to → (o : OutboxState) → o.sides ≡ [] → o.packets ≡ answer own p rcode [] ∷ [] → handed one.to 0 o v ≡ answer_packet t (as_sending one) rcode [] (Some p)
+    pub one_handed : one.generation ≡ t.generation one.to → (o : OutboxState) → o.sides ≡ [] → o.packets ≡ answer own p rcode given ∷ [] → handed one.to 0 o v ≡ answer_packet t (as_sending one) rcode given (Some p)
     unfolding told_all
     one_handed now o sides_are packets_are =
         ap (λ ps. notes_told 0 o.sides v ++ notes_sent one.to ps (told_all 0 o.sides v)) packets_are
-        ∙ (ap (λ xs. notes_told 0 xs v ++ notes_sent one.to (answer own p rcode [] ∷ []) (told_all 0 xs v)) sides_are ∙ one_note now)
+        ∙ (ap (λ xs. notes_told 0 xs v ++ notes_sent one.to (answer own p rcode given ∷ []) (told_all 0 xs v)) sides_are ∙ ap (λ ns. ns ++ []) (one_noted now))

@@ -70,7 +70,7 @@ module _ (units ready : ℕ) (start : List Disk) (past : List Moment) (s : Scene
   one_answer : (p : Packet) (rcode own : ℕ) → reading one.bytes ≡ Ok p → one.generation ≡ t.generation one.to → own ≡ old.layer.node → (o : OutboxState) → o.sides ≡ [] → o.packets ≡ answer own p rcode [] ∷ [] → handed (suc i) 0 o v ≡ answer_packet t q rcode [] (Some p)
   one_answer p rcode own read now own_is o sides_are packets_are =
       ap (λ n. handed n 0 o v) (sym to_is)
-      ∙ one_handed s.world stands serial one found there p read v bus rcode own (own_is ∙ ap (λ n. (layers_of s.world n).node) (sym to_is)) now o sides_are packets_are
+      ∙ one_handed s.world stands serial one found there p read v bus rcode own [] (own_is ∙ ap (λ n. (layers_of s.world n).node) (sym to_is)) now o sides_are packets_are
 
   -- ---- the request is the target's by the terms where it is by the ID that the initiator has of it
   abbrev ids : ℕ → ℕ

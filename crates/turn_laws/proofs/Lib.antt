@@ -96,4 +96,11 @@ pub mod TargetJudges
 pub mod HostFacts
 pub mod HostJudges
 pub mod Judgements
+pub mod SentAnswers
+pub mod HostAnswers
+pub mod TargetReplies
+pub mod TargetAnswers
+pub mod AnswerRuns
+pub mod BehindTurns
+pub mod TargetWaits
 pub mod Together

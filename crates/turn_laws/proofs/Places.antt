@@ -16,6 +16,7 @@ use Rattle.sbp_world.specs.Agents.Units.{AreUnitsAt}
 use Rattle.sbp_world.specs.Histories.{history_of, moments_behind}
 use Rattle.sbp_world.specs.Hosts.Calling.{IsCalled}
 use Rattle.sbp_world.specs.Hosts.Core.{host_core, own_core}
+use Rattle.sbp_world.specs.Hosts.Reads.{IsReadBy}
 use Rattle.sbp_world.specs.Hosts.Runs.{IsRun, more_deliveries}
 use Rattle.sbp_world.specs.Hosts.Worlds.{IsHost}
 use Rattle.sbp_world.specs.Lists.Contents.{AreAsked}
@@ -23,6 +24,7 @@ use Rattle.sbp_world.specs.Lists.Taken.{AreTaken}
 use Rattle.sbp_world.specs.Making.{ready_logins}
 use Rattle.sbp_world.specs.Runs.{AreEntries, Entry, Run, after, beginning}
 use Rattle.sbp_world.specs.Sessions.Holding.{HoldsLogin}
+use Rattle.sbp_world.specs.Sessions.Placed.{ArePlaces}
 use Rattle.sbp_world.specs.Settling.{MayAll, after_all}
 use Rattle.sbp_world.specs.Wire.Lines.{AreLines}
 use Rattle.sbp_world.specs.Worlds.{Scene, WorldState, begun, initiator_at, without_notes}
@@ -36,10 +38,13 @@ use Rattle.sbp_world.proofs.Agents.Management.Still.{hist}
 use Rattle.sbp_world.proofs.Agents.Registering.{enabled_terms_between_law, enabled_terms_law}
 use Rattle.sbp_world.proofs.Agents.Seating.{opened as seats_opened}
 use Rattle.sbp_world.proofs.Agents.Units.{units_between_law, units_law}
+use Rattle.sbp_world.proofs.Hosts.ByteRuns.{bytes_carried, bytes_of_runs}
 use Rattle.sbp_world.proofs.Hosts.Calling.{IsOwn, own_carried, own_first}
 use Rattle.sbp_world.proofs.Hosts.Carried.{between_runs, of_runs}
+use Rattle.sbp_world.proofs.Hosts.Fair.{fair_of_runs}
 use Rattle.sbp_world.proofs.Hosts.Hosted.{host_law}
 use Rattle.sbp_world.proofs.Hosts.LoginCounts.{logins_few}
+use Rattle.sbp_world.proofs.Hosts.MemoryReads.{memory_law, memory_read}
 use Rattle.sbp_world.proofs.Hosts.OrbRuns.{Orbs, orbs_between, orbs_of_runs}
 use Rattle.sbp_world.proofs.Hosts.Runs.{count_after, count_between, run_law, are_told}
 use Rattle.sbp_world.proofs.Hosts.StepLaws.{step_law}
@@ -49,6 +54,7 @@ use Rattle.sbp_world.proofs.Lists.OpenProved.{taken_lists_law}
 use Rattle.sbp_world.proofs.Lists.JoinLaws.{moments_same, lines_same}
 use Rattle.turn_laws.proofs.OperationAsked.{asked_opens}
 use Rattle.sbp_world.proofs.Sessions.HoldingRuns.{holding_law}
+use Rattle.sbp_world.proofs.Sessions.PlaceRuns.{are_places, placed_law}
 
 -- an initiator is what a list of its calls makes of a new one
 pub record HasCalls (i : ℕ) (s : InitiatorState) : Type 0 where
@@ -58,6 +64,8 @@ pub record HasCalls (i : ℕ) (s : InitiatorState) : Type 0 where
 -- What is known at a place: its history goes on from `past` by the notes of the world.
 pub record Place (units ready : ℕ) (start : List Disk) (past : List Moment) (s : Scene) : Type 0 where
   pub lines : ℕ
+  -- a medium for each unit
+  pub size : length start ≡ units
   -- the wire, the nodes, and the management of the target
   pub holds : Holding units ready start past lines s.world
   -- each initiator is what its calls made of it
@@ -78,6 +86,9 @@ pub record Place (units ready : ℕ) (start : List Disk) (past : List Moment) (s
   pub logins : (i : ℕ) → i < length s.world.initiators → (initiator_at s.world i).counts.logins ≤ 2 ^ 32
   -- its login and its response buffers
   pub holding : (i : ℕ) → i < length s.world.initiators → HoldsLogin (hist past s.world) i (initiator_at s.world i)
+  -- what its memory gives and refuses, and the ORBs in its places of management
+  pub memory : (i : ℕ) → i < length s.world.initiators → IsReadBy (hist past s.world) i (initiator_at s.world i)
+  pub placed : (i : ℕ) → i < length s.world.initiators → ArePlaces (hist past s.world) i (initiator_at s.world i)
 
 -- an initiator uses one login number at most for each of its actions, and so one for each line
 few_logins : (ready : Bool) (past : List Moment) (i lines : ℕ) (s : InitiatorState) → Orbs ready past i s → s.counts.acts ≤ lines → lines + 1 ≤ 2 ^ 32 → s.counts.logins ≤ 2 ^ 32
@@ -125,6 +136,7 @@ module _ (line : ℕ) (run : Run) (few : run.initiators ≤ 4) (has : 0 < run.un
     pub ended_place : PlaceOf past here
     ended_place = record {
       lines = length entries;
+      size = size;
       holds = h;
       calls = λ i b. calls_of i (initiator_at here.world i) (of_runs Owned (own_carried run.ready) line front (λ before few short every fit j c. tt) (λ j c. own_first run.ready j) is_run i (inside i b));
       agents = subst (λ ms. AreAgentsAt start ms here.world) same (agents_run_law line front few has small size short every (lines_same run entries entries fit));
@@ -138,6 +150,8 @@ module _ (line : ℕ) (run : Run) (few : run.initiators ≤ 4) (has : 0 < run.un
       cores = λ i b. subst (λ ms. host_core (host_at ms i) ≡ own_core (initiator_at here.world i)) same (host_law.core line front is_run i (inside i b));
       logins = λ i b. few_logins run.ready (history_of line front) i (length entries) (initiator_at here.world i) (orbs_of_runs line front is_run i (inside i b)) (h.sound.nodes.own.counts i b) (omega (arith, short));
       holding = λ i b. subst (λ ms. HoldsLogin ms i (initiator_at here.world i)) same (holding_law.after_lines line front is_run i (inside i b));
+      memory = λ i b. subst (λ ms. IsReadBy ms i (initiator_at here.world i)) same (memory_law.reads line front is_run i (inside i b));
+      placed = λ i b. subst (λ ms. ArePlaces ms i (initiator_at here.world i)) same (placed_law.after_lines line front is_run i (inside i b));
     }
 
     -- between deliveries of a line that follows
@@ -174,6 +188,7 @@ module _ (line : ℕ) (run : Run) (few : run.initiators ≤ 4) (has : 0 < run.un
             let f = lines_same run entries entries fit in
             record {
               lines = length entries + 1;
+              size = size;
               holds = between_holds told m;
               calls = λ i b. calls_of i (initiator_at w i) (between_runs Owned (own_carried run.ready) line front (λ before few short every fit j c. tt) (λ j c. own_first run.ready j) is_run next most told m i (inside_there i b));
               agents = moved (λ ms. AreAgentsAt start ms w) (agents_between_law line front few has small size short every f next (more_deliveries most) d told m);
@@ -187,10 +202,18 @@ module _ (line : ℕ) (run : Run) (few : run.initiators ≤ 4) (has : 0 < run.un
               cores = λ i b. moved (λ ms. host_core (host_at ms i) ≡ own_core (initiator_at w i)) (host_law.between line front is_run next most told m i (inside_there i b));
               logins = λ i b. few_logins run.ready _ i (length entries + 1) (initiator_at w i) (orbs_between line front is_run next most told m i (inside_there i b)) ((between_holds told m).sound.nodes.own.counts i b) (omega (arith, short));
               holding = λ i b. moved (λ ms. HoldsLogin ms i (initiator_at w i)) (holding_law.between line front is_run next most told m i (inside_there i b));
+              memory = λ i b. moved (λ ms. IsReadBy ms i (initiator_at w i)) (memory_law.between line front is_run next most told m i (inside_there i b));
+              placed = λ i b. moved (λ ms. ArePlaces ms i (initiator_at w i)) (placed_law.between line front is_run next most told m i (inside_there i b));
             }
 
     -- as a line begins in which a node is called
     module _ (next : ℕ) (event : Event) (e : is_reset event ≡ false) where
+      begun_memory : (i : ℕ) → i < run.initiators → IsReadBy (asked next event ∷ history_of line front) i (initiator_at here.world i)
+      begun_memory i b =
+          memory_read run.ready (asked next event ∷ history_of line front) i (initiator_at here.world i)
+          ((bytes_carried run.ready).asked next event (history_of line front) i (initiator_at here.world i) (bytes_of_runs line front is_run i b))
+          (fair_of_runs line front is_run i b).none
+
       pub begun_place : PlaceOf (asked next event ∷ hist past here.world) (begun here)
       begun_place =
           let settling = between_place next None [] tt in
@@ -198,6 +221,7 @@ module _ (line : ℕ) (run : Run) (few : run.initiators ≤ 4) (has : 0 < run.un
           let p = ended_place in
           record {
             lines = length entries + 1;
+            size = size;
             holds = begins;
             calls = λ i b. p.calls i b;
             agents = record { requests = settling.agents.requests; are = settling.agents.are; known = settling.agents.known };
@@ -211,4 +235,6 @@ module _ (line : ℕ) (run : Run) (few : run.initiators ≤ 4) (has : 0 < run.un
             cores = λ i b. p.cores i b;
             logins = λ i b. p.logins i b;
             holding = λ i b. (let k = p.holding i b in record { login = k.login; responses = k.responses });
+            memory = λ i b. subst (λ ms. IsReadBy (asked next event ∷ ms) i (initiator_at here.world i)) same (begun_memory i (inside i b));
+            placed = λ i b. are_places (asked next event ∷ hist past here.world) i (initiator_at here.world i) (λ place c. (p.placed i b).holds place c);
           }

@@ -67,7 +67,7 @@ none_live_same : (o : Option Login) → is_none_live o ≡ is_none o
 none_live_same None = refl
 none_live_same (Some login) = refl
 
-judged_first : (x : Judged × TargetScene) (w : Whole) → (judged_scene x w).0 ≡ x.0
+pub judged_first : (x : Judged × TargetScene) (w : Whole) → (judged_scene x w).0 ≡ x.0
 judged_first (judged, s) w = refl
 
 -- the packets of an answer
@@ -98,7 +98,7 @@ module _ (units ready : ℕ) (has : 0 < units) (start : List Disk) (past : List 
   one_answer : (p : Packet) (rcode own : ℕ) → reading one.bytes ≡ Ok p → one.generation ≡ t.generation one.to → own ≡ node.layer.node → (o : OutboxState) → o.sides ≡ [] → o.packets ≡ response_of own p rcode [] ∷ [] → handed 0 0 o v ≡ answer_packet t q rcode [] (Some p)
   one_answer p rcode own read now own_is o sides_are packets_are =
       ap (λ n. handed n 0 o v) (sym zero_to)
-      ∙ one_handed s.world stands serial one found (subst (λ n. n ≤ length s.world.initiators) (sym zero_to) (omega arith)) p read v bus rcode own (own_is ∙ ap (λ n. (layers_of s.world n).node) (sym zero_to)) now o sides_are packets_are
+      ∙ one_handed s.world stands serial one found (subst (λ n. n ≤ length s.world.initiators) (sym zero_to) (omega arith)) p read v bus rcode own [] (own_is ∙ ap (λ n. (layers_of s.world n).node) (sym zero_to)) now o sides_are packets_are
 
   -- ---- the register of a request is of another login by the terms as it is by the target's own table
   same : Agrees (office_of target) node

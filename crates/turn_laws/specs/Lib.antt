@@ -18,4 +18,6 @@ pub mod Login
 pub mod Packets
 pub mod Operations
 pub mod Judgement
+pub mod Answers
+pub mod UnderWay
 pub mod Together

@@ -1,5 +1,6 @@
 //! The laws of turns, each of every run of the machine of up to four initiators with one to four units.
 ghost use Rattle.turn_laws.specs.Announced.{AnnouncedLaw};
+ghost use Rattle.turn_laws.specs.Answers.{AnsweredLaw};
 ghost use Rattle.turn_laws.specs.Cleared.{ClearedLaw};
 ghost use Rattle.turn_laws.specs.Codes.{CodesLaw};
 ghost use Rattle.turn_laws.specs.Cuts.{CutsLaw};
@@ -14,6 +15,7 @@ ghost use Rattle.turn_laws.specs.Login.{LoginRunLaw};
 ghost use Rattle.turn_laws.specs.Once.{OnceLaw};
 ghost use Rattle.turn_laws.specs.Ordered.{OrderedLaw};
 ghost use Rattle.turn_laws.specs.Packets.{PacketsLaw};
+ghost use Rattle.turn_laws.specs.UnderWay.{TargetWaitsLaw};
 ghost use Rattle.turn_laws.specs.Unserved.{UnservedLaw};
 ghost use Rattle.turn_laws.specs.Operations.{StatusEndsLaw};
 
@@ -114,6 +116,17 @@ pub fn packets_are_lawful()
     ensures { PacketsLaw }
 {}
 
+/// In every run, whatever anybody injected, the packets of a delivery in which a node gets a request begin with
+/// the response to it. It has the rcode of the tables: of the target's addresses, with conflict_error where an agent
+/// is active or dead or an operation is under way and data_error for a null pointer; and of the windows and FIFOs of
+/// an initiator. A read that is complete is given the bytes that stand there: of a ROM, of an agent's state and
+/// pointer, and of the ORBs, page tables, buffers and management ORBs in an initiator's memory: `answers` of the
+/// sent law.
+#[tactic(auto, using(crate::proofs::AnswerRuns::answered_law))]
+pub fn requests_are_answered_by_the_tables()
+    ensures { AnsweredLaw }
+{}
+
 /// The judgement law holds of every run, of every node, whatever anybody injected: each delivery begins with
 /// `got`, or with `ignored` and its cause, by the first row that holds on what the history says. Where it is
 /// ignored, no other note follows but the one answer that the row has, to the sender, with the row's rcode;
@@ -153,4 +166,13 @@ pub fn failures_have_rows()
 #[tactic(auto, using(crate::proofs::OwnCases::status_ends_law))]
 pub fn statuses_end_operations()
     ensures { StatusEndsLaw }
+{}
+
+/// Behind each turn of every run, whatever anybody injected, an agent that is ACTIVE has its main request under way,
+/// one that is SUSPENDED none, and an operation of the management its one request, each under the serial that the
+/// history has for it: what the sent law asks behind each turn of the operation (`management`), and of agents all
+/// but what one that rests has read (`agents`).
+#[tactic(auto, using(crate::proofs::TargetWaits::target_waits_law))]
+pub fn what_is_active_waits_for_a_request()
+    ensures { TargetWaitsLaw }
 {}

@@ -9,7 +9,7 @@ use Rattle.async_packet.specs.Packet.{Packet, header_in, write_quadlet, write_bl
 use Rattle.async_packet.specs.declared.fault.PacketFault.{PacketFault}
 use Rattle.async_packet.specs.Reading.{reading}
 use Rattle.bus_memory.specs.Access.{read_step, write_step}
-use Rattle.bus_memory.specs.Windows.{is_fifo, window_at, within}
+use Rattle.bus_memory.specs.Windows.{is_fifo, within}
 use Rattle.initiator_base.specs.Fifos.{fifo_at, is_login_fifo, is_open_login}
 use Rattle.initiator_base.specs.Places.{place_fifo}
 use Rattle.initiator_base.specs.declared.fifos.Fifo.{Fifo}
@@ -32,7 +32,7 @@ use Rattle.sbp_initiator.specs.declared.state.InitiatorState.{InitiatorState}
 use Rattle.sbp_initiator.specs.Effects.{Turn}
 use Rattle.sbp_initiator.specs.Receiving.{called, read_as, respond_step, serve_step, written_as}
 use Rattle.sbp_laws.specs.Served.{Reply, host_reply, is_fifo_write, window_facts}
-use Rattle.sbp_world.specs.Hosts.Reads.{IsReadBy, IsReadOf, IsSaid, IsWriteOf}
+use Rattle.sbp_world.specs.Hosts.Reads.{IsReadBy, IsReadOf, IsWriteOf}
 
 -- ---- the packet of an answer
 
@@ -59,7 +59,7 @@ same_response node (read_block_response header code payload) rcode given other h
 same_response node (lock header offset extended payload) rcode given other h = refl
 same_response node (lock_response header code extended payload) rcode given other h = refl
 
-same_answer : (node : ℕ) (p : Packet) (rcode code : ℕ) (given other : List ℕ) → rcode ≡ code → (rcode ≡ 0 → given ≡ other) → answer node p rcode given ≡ answer node p code other
+pub same_answer : (node : ℕ) (p : Packet) (rcode code : ℕ) (given other : List ℕ) → rcode ≡ code → (rcode ≡ 0 → given ≡ other) → answer node p rcode given ≡ answer node p code other
 same_answer node p rcode code given other e h =
     ap (λ (x : Packet). record { to = (header_in p).source; label = None; bytes = canon x }) (same_response node p rcode given other h)
     ∙ ap (λ n. answer node p n other) e
@@ -212,15 +212,19 @@ module _ (past : List Moment) (i : ℕ) (s : InitiatorState) (known : IsReadBy p
 
   -- what is said of the bytes of a read that is complete
   abbrev pub IsTold : Access → Type 0
-  IsTold access = access.is_write ≡ false → (reply access).rcode ≡ 0 → IsSaid past i access (window_at access.offset)
+  IsTold access =
+      (out : List ℕ) → IsReadOf access out → (read_step s.lists.memory access.offset out).0 ≡ 0 → (read_step s.lists.memory access.offset out).1 ≡ (reply access).given
+
+  pub read_code : (access : Access) (out : List ℕ) → IsReadOf access out → (read_step s.lists.memory access.offset out).0 ≡ (reply access).rcode
+  read_code access out r =
+      let none : is_fifo_write access ≡ false = ap (λ b. b && access.is_block && is_fifo access.offset) r.write in
+      known.read_rcode access out r ∙ sym (ap (λ b. cond b 0 (window_rcode (window_facts past i (rom_size (suc i) 0) access))) none)
 
   read_served : (p : Packet) (access : Access) (out : List ℕ) (bytes : List ℕ) → IsReadOf access out → IsTold access → Answered p access (read_as (read_step s.lists.memory access.offset out) p bytes empty_outbox s).1.0.packets
   read_served p access out bytes r told =
       let step = read_step s.lists.memory access.offset out in
-      let none : is_fifo_write access ≡ false = ap (λ b. b && access.is_block && is_fifo access.offset) r.write in
-      let code : step.0 ≡ (reply access).rcode = known.read_rcode access out r ∙ sym (ap (λ b. cond b 0 (window_rcode (window_facts past i (rom_size (suc i) 0) access))) none) in
       reads_as step p bytes empty_outbox s
-      ∙ ap (λ x. x ∷ []) (same_answer s.layer.node p step.0 (reply access).rcode step.1 (reply access).given code (λ z. known.gives access out r (told r.write (sym code ∙ z)) z))
+      ∙ ap (λ x. x ∷ []) (same_answer s.layer.node p step.0 (reply access).rcode step.1 (reply access).given (read_code access out r) (told out r))
 
   -- a write, whose response has no bytes
   write_served : (p : Packet) (access : Access) (payload bytes : List ℕ) → IsWriteOf access payload → is_fifo_write access ≡ false → ((rcode : ℕ) (given other : List ℕ) → response_to s.layer.node p rcode given ≡ response_to s.layer.node p rcode other) → Answered p access (written_as (write_lists s.lists access.offset payload) p bytes empty_outbox s).1.0.packets

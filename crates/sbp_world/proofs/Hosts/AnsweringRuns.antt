@@ -32,7 +32,7 @@ use Rattle.sbp_world.specs.Hosts.Reads.{IsReadBy}
 use Rattle.sbp_world.proofs.Hosts.AnsweringTold.{asks_part, none_on, notes_on, sends_last}
 use Rattle.sbp_world.proofs.Hosts.AnsweringSends as sends
 use Rattle.sbp_world.proofs.Hosts.AnsweringSends.{Gets}
-use Rattle.sbp_world.proofs.Hosts.Answering.{answer}
+use Rattle.sbp_world.proofs.Hosts.Answering.{answer, read_code}
 use Rattle.sbp_world.proofs.Hosts.AnsweringBlocks.{answers}
 
 -- ---- a delivery
@@ -63,7 +63,10 @@ module _ {past : List Moment} {lines : ℕ} (s : Scene) (sound : Sound past line
   gets = record { sent = g.sent; found = g.found; to_it = g.to_it; packet = g.packet; request = g.request; access = g.access; asks_for = g.asks_for; got = g.got }
 
   packets_are : r.1.0.packets ≡ answer old.layer.node p own_reply.rcode own_reply.given ∷ []
-  packets_are = answers H i old known g.sent.generation g.sent.bytes p g.access g.request g.asks_for g.is_said (λ e. few) g.got
+  packets_are =
+      answers H i old known g.sent.generation g.sent.bytes p g.access g.request g.asks_for
+      (λ out r z. known.gives g.access out r (g.is_said r.write (sym (read_code H i old known g.access out r) ∙ z)) z)
+      (λ e. few) g.got
 
   abbrev effects : List Note
   effects = notes_on r.1.0.sides []

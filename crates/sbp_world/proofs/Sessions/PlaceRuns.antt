@@ -272,7 +272,7 @@ first_places line i initiators ready m b = held_now ready i (new_state i ready) 
 first_placed : (line i initiators : ℕ) (ready : Bool) → i < initiators → Placed ready (said (notes.Begin initiators ready) ∷ asks line (events.Begin initiators ready) ∷ []) i (new_state i ready)
 first_placed line i initiators ready b = record { held = first_held line i initiators ready b; places = λ g. first_places line i initiators ready }
 
-are_places : (past : List Moment) (i : ℕ) (s : InitiatorState) → HoldsPlaces past i s → ArePlaces past i s
+pub are_places : (past : List Moment) (i : ℕ) (s : InitiatorState) → HoldsPlaces past i s → ArePlaces past i s
 are_places past i s h = record {
   holds = h;
   gives = λ access out place r e z.
