@@ -14,6 +14,7 @@ ghost use Rattle.turn_laws.specs.Login.{LoginRunLaw};
 ghost use Rattle.turn_laws.specs.Once.{OnceLaw};
 ghost use Rattle.turn_laws.specs.Ordered.{OrderedLaw};
 ghost use Rattle.turn_laws.specs.Packets.{PacketsLaw};
+ghost use Rattle.turn_laws.specs.Silent.{SilentLaw};
 ghost use Rattle.turn_laws.specs.Unserved.{UnservedLaw};
 ghost use Rattle.turn_laws.specs.Operations.{StatusEndsLaw};
 
@@ -88,6 +89,14 @@ pub fn deaths_have_rows()
 #[tactic(auto, using(crate::proofs::Codes::codes_law))]
 pub fn illegal_orbs_have_codes()
     ensures { CodesLaw }
+{}
+
+/// In each turn of every run, whatever anybody injected, an end of an ORB has its status write, or a death beside
+/// it: where the turn tells none, a label serves the write of that status to the FIFO of the login, with the
+/// address of the ORB's slot and the src of its next pointer: `silent` of the cause law.
+#[tactic(auto, using(crate::proofs::Silent::silent_law))]
+pub fn ends_are_heard()
+    ensures { SilentLaw }
 {}
 
 /// In every run, whatever anybody injected, there are bytes with which the write of a chunk of an answer finds no
