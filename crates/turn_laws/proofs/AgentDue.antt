@@ -1,6 +1,8 @@
 -- The deaths and ends of an agent's turn are due, where the turn's step at the target and at the terms is one: the notes name whom and what the laws name, and the first request finds a label by both.
 use Rattle.std.proofs.Common.{arith, ◌≡◌, ◌∙◌, refl, sym, ap, subst, ℕ, suc, is_some, Bool, true, false, cond, List, [], ◌∷◌, Option, Some, None}
 use Rattle.bus_transactions.specs.Fitting.{FitsRequest}
+use Rattle.bus_memory.specs.Windows.{start as slot_start}
+use Rattle.bus_memory.specs.declared.window.Window.TheVariants as windows
 use Rattle.label_table.specs.Bodies.{Body}
 use Rattle.label_table.specs.Layer.{Layer}
 use Rattle.login_table.specs.declared.login.Login.{Login}
@@ -14,7 +16,7 @@ use Rattle.rbc_disk.specs.Disk.{Disk}
 use Rattle.sbp_bus.specs.declared.places.Holder.{Holder}
 use Rattle.sbp_laws.specs.Agents.{AgentTurn, agent_event, agent_notes_for, agent_turn, body_of, fifo_in, finds_first, list_taken, nothing, target_before, wire_after, wire_before}
 use Rattle.sbp_laws.specs.Deaths.{ends_by, ends_due}
-use Rattle.sbp_laws.specs.Lists.{Orb, named}
+use Rattle.sbp_laws.specs.Lists.{Orb, named, orb as named_orb, slot_at}
 use Rattle.sbp_laws.specs.NoteKinds.{is_end_note, of_kind}
 use Rattle.sbp_laws.specs.Packets.{finds_label}
 use Rattle.sbp_laws.specs.Targets.{Target, initiator_at, login_at}
@@ -64,6 +66,8 @@ pub record IsTurnOf (start : List Disk) (T : Target) (t : Turn) (a : AgentTurn) 
   pub initiator : (holders a.place).initiator ≡ initiator_at T (wire_before t) a.place
   pub list : (holders a.place).list ≡ list_taken start (t.start ∷ t.past) a.place
   pub names : (orb : ℕ) → name_in (tickets a.place orb) ≡ named t.past (initiator_at T (wire_before t) a.place) orb
+  -- an ORB that has a name stands in the slot of that
+  pub stands : (address list number : ℕ) → (let i = initiator_at T (wire_before t) a.place in named t.past i address ≡ Some (named_orb list number) → slot_start (windows.Orb (slot_at t.past i list number)) ≡ address)
 
 module _ (start : List Disk) (T : Target) (t : Turn) (a : AgentTurn) (step : AgentStep) (m : Machine) (login : Login) (layer : Layer Purpose) (h : IsTurnOf start T t a step m login layer) where
   abbrev q : ℕ
@@ -97,7 +101,7 @@ module _ (start : List Disk) (T : Target) (t : Turn) (a : AgentTurn) (step : Age
   abbrev pub one : Option Orb
   one = name_in (h.tickets q (orb_of m))
 
-  named_alike : has_present m.phase ≡ true → named t.past i a.machine.present ≡ one
+  pub named_alike : has_present m.phase ≡ true → named t.past i a.machine.present ≡ one
   named_alike e =
       ap (named t.past i) (h.alike.present (listed m.phase e) ∙ sym (ap (λ b. or_zero (cond b (Some m.present) None)) e)) ∙ sym (h.names (orb_of m))
 

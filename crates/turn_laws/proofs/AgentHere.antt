@@ -1,5 +1,8 @@
 -- What is known at a place of an agent that is not in RESET: whose login it serves, by what names the notes and the laws have its initiator, its list and its ORBs, and that its requests fit packets.
-use Rattle.std.proofs.Common.{◌≡◌, ◌∙◌, refl, sym, ap, subst, ℕ, ◌<◌, ◌^◌, is_some, Bool, true, false, List, length, Option, Some}
+use Rattle.std.proofs.Common.{◌≡◌, ◌∙◌, refl, sym, ap, subst, ℕ, ◌<◌, ◌^◌, is_some, Bool, true, false, List, length, Option, Some, None}
+use Rattle.bus_memory.specs.Windows.{slot_of, start as slot_start}
+use Rattle.bus_memory.specs.declared.window.Window.TheVariants as windows
+use Rattle.bus_memory.proofs.Found.{slot_of_law}
 use Rattle.login_table.specs.Table.{Table, is_live, place_at}
 use Rattle.login_table.specs.declared.login.Login.{Login}
 use Rattle.orb_layout.specs.declared.ask.FailCause.{FailCause}
@@ -14,12 +17,15 @@ use Rattle.command_agent.specs.declared.phase.Phase.TheVariants as phases
 use Rattle.command_agent.specs.declared.step.AgentStep.{AgentStep}
 use Rattle.command_agent.specs.declared.step.Which.{Which}
 use Rattle.command_agent.specs.declared.step.Which.TheVariants.{Ahead, Main}
+use Rattle.orb_list.specs.Table.{SlotTable, slot_in}
+use Rattle.orb_list.specs.Tickets.{TicketParts}
 use Rattle.sbp_journal.specs.Run.{Moment}
 use Rattle.sbp_journal.specs.Wire.{Terms, terms}
 use Rattle.sbp_laws.specs.Agents.{fifo_in}
-use Rattle.sbp_laws.specs.Lists.{named}
+use Rattle.sbp_laws.specs.Lists.{Orb, named, named_in, orb as named_orb, slot_at}
 use Rattle.sbp_laws.specs.Targets.{Target, initiator_at, over, target_at}
 use Rattle.sbp_laws.specs.Targets as laws
+use Rattle.sbp_laws.specs.Terms.{appends}
 use Rattle.sbp_target.specs.declared.desk.Desk.{Desk}
 use Rattle.sbp_target.specs.declared.purpose.Sent.{Sent}
 use Rattle.sbp_target.specs.Agents.{agent_body}
@@ -31,6 +37,7 @@ use Rattle.sbp_world.specs.Agents.Management.Offices.{Agrees, Office, office_of}
 use Rattle.sbp_world.specs.Agents.Holders.{IsHeld}
 use Rattle.sbp_world.specs.Agents.Serials.{kept_as}
 use Rattle.sbp_world.specs.FitTarget.{BytesTold, FitsLogin}
+use Rattle.sbp_world.specs.Hosts.Fits.{AreRows, IfLast}
 use Rattle.sbp_world.specs.Hosts.Rows.{name_in}
 use Rattle.sbp_bus.specs.Places.{or_nobody}
 use Rattle.sbp_world.specs.Telling.{holder, ticket_at}
@@ -39,6 +46,7 @@ use Rattle.sbp_world.proofs.Agents.CrewFirsts.{agrees}
 use Rattle.sbp_world.proofs.Agents.Management.Holding.{good_of}
 use Rattle.sbp_world.proofs.Agents.Management.Offices.{over_keeps}
 use Rattle.sbp_world.proofs.Agents.Management.Still.{hist}
+use Rattle.sbp_world.proofs.Common.{none_is}
 use Rattle.sbp_world.proofs.FitTarget.Agents.{BytesIn, FitsStep, lost_fits, reply_fits}
 use Rattle.sbp_world.proofs.FitTarget.Nodes.{IfBody, agent_body_fits}
 use Rattle.sbp_world.proofs.Lists.DueRuns.{named_as}
@@ -75,6 +83,24 @@ module _ (d : Desk) (fits : Fits d) where
   lost_carries Main sent e cause = (main_loses d.agent cause (sym fits.main ∙ ap (λ (o : Option Sent). is_some o) e) fits.agent).behind.carried
   lost_carries Ahead sent e cause =
       quiet_carries (lost_step d.agent Ahead cause) (ahead_loses d.agent cause (sym fits.ahead ∙ ap (λ (o : Option Sent). is_some o) e) fits.agent).silent
+
+-- ---- an ORB that has a name stands in the slot of that
+module _ (past : List Moment) (i : ℕ) (table : SlotTable) (rows : AreRows past i table) (address list number : ℕ) where
+  last_is : (slot : ℕ) → (last : Option TicketParts) → IfLast table.lists (appends past i) (slot_at past i) slot last → name_in last ≡ Some (named_orb list number) → slot_at past i list number ≡ slot
+  last_is slot None h e = none_is (named_orb list number) e
+  last_is slot (Some ticket) h e =
+      let same : named_orb ticket.list ticket.number ≡ named_orb list number = cc in
+      ap (λ (x : Orb). slot_at past i x.list x.number) (sym same) ∙ h.at
+
+  by_slot : (slot : Option ℕ) → slot_of address ≡ slot → named_in past i slot ≡ Some (named_orb list number) → slot_start (windows.Orb (slot_at past i list number)) ≡ address
+  by_slot None e f = none_is (named_orb list number) f
+  by_slot (Some slot) e f =
+      let begins = slot_of_law.begins address slot e in
+      let last = (slot_in table.slots slot).last in
+      ap (λ k. slot_start (windows.Orb k)) (last_is slot last (rows.fits.last slot begins.0) (sym (rows.fits.prepared slot begins.0) ∙ f)) ∙ sym begins.1
+
+  slot_is : named past i address ≡ Some (named_orb list number) → slot_start (windows.Orb (slot_at past i list number)) ≡ address
+  slot_is e = by_slot (slot_of address) refl e
 
 module _ (units ready : ℕ) (has : 0 < units) (start : List Disk) (past : List Moment) (s : Scene) (here : Place units ready start past s) where
   abbrev w : WorldState
@@ -124,6 +150,12 @@ module _ (units ready : ℕ) (has : 0 < units) (start : List Disk) (past : List 
     names_are orb =
         let i = (holder w q).initiator in
         sym (ap (λ n. named ms n orb) initiator_is ∙ named_as ms w i within (here.hosts i within).rows orb)
+
+    -- and one that has a name stands in the slot of that
+    pub stands_are : (address list number : ℕ) → named ms (initiator_at T wire q) address ≡ Some (named_orb list number) → slot_start (windows.Orb (slot_at ms (initiator_at T wire q) list number)) ≡ address
+    stands_are address list number e =
+        let i = (holder w q).initiator in
+        ap (λ n. slot_start (windows.Orb (slot_at ms n list number))) initiator_is ∙ slot_is ms i _ (here.hosts i within).rows address list number (ap (λ n. named ms n address) (sym initiator_is) ∙ e)
 
     pub fifo_is : fifo_in (laws.login_at T q) ≡ login.fifo
     fifo_is = ap (λ (x : Table). fifo_in (place_at x.places q)) agreed.table ∙ ap fifo_in there

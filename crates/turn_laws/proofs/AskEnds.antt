@@ -47,7 +47,7 @@ use Rattle.sbp_world.proofs.Agents.Management.Still.{hist}
 use Rattle.sbp_world.proofs.FitTarget.Agents.{FitsAsk}
 use Rattle.turn_laws.proofs.AgentDue.{HasTurn, IsTurnOf, has_rest, has_steps}
 use Rattle.turn_laws.proofs.AgentEnds.{Tells, asked_tells, found_at}
-use Rattle.turn_laws.proofs.AgentHere.{fifo_is, good, holder_is, initiator_is, names_are}
+use Rattle.turn_laws.proofs.AgentHere.{fifo_is, good, holder_is, initiator_is, names_are, stands_are}
 use Rattle.bus_transactions.specs.Fitting.{FitsRequest}
 use Rattle.orb_layout.specs.declared.ask.Ask.TheVariants.{Nothing}
 use Rattle.orb_list.specs.Tickets.{TicketParts}
@@ -181,6 +181,7 @@ module _ (units ready : ℕ) (has : 0 < units) (start : List Disk) (past : List 
       initiator = initiator ∙ sym (initiator_is units ready has start past s here q login served.is served.live);
       list = list;
       names = λ orb. ap name_in (tickets orb) ∙ names_are units ready has start past s here q login served.is served.live orb;
+      stands = stands_are units ready has start past s here q login served.is served.live;
     }
 
     asks_due : HasTurn start T (t rest) (law_turn law_ask law_machine)

@@ -182,7 +182,8 @@ module _ (m : Machine) (answer : Answer) where
   main_moves phases.Suspended idle = tt
   main_moves phases.Dead idle = tt
 
-  pub main_coded : (place : ℕ) (plain : PlainDisk) (told : Option Told) → (has_read m.phase ≡ false → m.ahead ≡ aheads.Idle) → Coded (found_in m.phase) (reply_step m place plain told Main answer).0.ended
+  pub main_coded : (place : ℕ) (plain : PlainDisk) (told : Option Told) → (has_read m.phase ≡ false → m.ahead ≡ aheads.Idle)
+      → Coded (found_in m.phase) (reply_step m place plain told Main answer).0.ended
   unfolding reply_step
   main_coded place plain told idle = serves (found_in m.phase) place plain (told_or told) (advanced m.phase m answer) (main_moves m.phase idle)
 

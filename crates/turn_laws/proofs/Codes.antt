@@ -1,4 +1,5 @@
--- In each turn of every run an end as illegal has the code of what came to be checked: as the ends of each turn are those that its step brings, or of the loss of its request, which ends none as illegal.
+-- In each turn of every run an end as illegal has the code of what came to be checked: as the ends of each turn are those that its step brings, or the loss of its request,
+-- which ends none as illegal.
 use Rattle.std.proofs.Common.{sym, subst, ℕ, suc, Bool, true, false, List, [], ◌∷◌, ◌++◌, Option, Some, None, Result, Ok, Err}
 use Rattle.label_table.specs.Bodies.{Body}
 use Rattle.orb_layout.specs.declared.ask.Ask.{Ask}
@@ -107,7 +108,8 @@ module _ (start : List Disk) (t : Turn) where
   abbrev T : Target
   T = target_before start t
 
-  reply_coded : (q : ℕ) (which : Which) (answer : Answer) (plain : PlainDisk) (told : Option Told) → Coded (meaning_of T (record { place = q; which = which; answer = answer }) which) (reply_step (agent_at T q).machine q plain told which answer).0.ended
+  reply_coded : (q : ℕ) (which : Which) (answer : Answer) (plain : PlainDisk) (told : Option Told)
+      → Coded (meaning_of T (record { place = q; which = which; answer = answer }) which) (reply_step (agent_at T q).machine q plain told which answer).0.ended
   reply_coded q Main answer plain told = main_coded (agent_at T q).machine answer q plain told (idle_ahead start t.past q)
   reply_coded q Ahead answer plain told = ahead_coded None (agent_at T q).machine q plain told answer
 
@@ -119,7 +121,8 @@ module _ (start : List Disk) (t : Turn) where
       let plain = plain_for T reply in
       let told = told_among i t.rest plain in
       let s = reply_step m reply.place plain told reply.which reply.answer in
-      agent_codes (meaning_by T (replies reply)) start T t (record { place = reply.place; untold = untold_among i t.rest plain (agent_at T reply.place).untold; which = reply.which; step = s.0; machine = s.1 })
+      agent_codes (meaning_by T (replies reply)) start T t
+      (record { place = reply.place; untold = untold_among i t.rest plain (agent_at T reply.place).untold; which = reply.which; step = s.0; machine = s.1 })
       (reply_coded reply.place reply.which reply.answer plain told)
   event_codes (writes agent_state q given) = tt
   event_codes (writes agent_reset q given) = tt

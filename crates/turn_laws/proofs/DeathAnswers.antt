@@ -64,7 +64,7 @@ at_start management_agent access = nothing_no
 at_start rom_start access = nothing_no
 at_start no_start access = nothing_no
 
-write_no : (access : Option Access) → NoReply (write_in access)
+pub write_no : (access : Option Access) → NoReply (write_in access)
 write_no None = nothing_no
 write_no (Some access) = at_start (start_at access.offset) access
 
@@ -72,7 +72,7 @@ pub record Replies (T : Target) (serial : ℕ) (told : Answer) (reply : Reply) :
   pub purpose : purpose_of T serial ≡ for_agent reply.place reply.which
   pub is : told ≡ reply.answer
 
-same_reply : (a b : Reply) → replies a ≡ replies b → a ≡ b
+pub same_reply : (a b : Reply) → replies a ≡ replies b → a ≡ b
 same_reply a b e = cc
 
 purpose_replies : (T : Target) (serial : ℕ) (for : Purpose) → purpose_of T serial ≡ for → (told : Answer) (reply : Reply) → reply_to for told ≡ replies reply → Replies T serial told reply

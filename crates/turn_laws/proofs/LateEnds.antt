@@ -48,7 +48,7 @@ use Rattle.sbp_world.proofs.Lists.RunTells.{AreRunless, lapse_runless}
 use Rattle.sbp_world.proofs.Lists.Runless.{AllPlain}
 use Rattle.turn_laws.proofs.AgentDue.{IsTurnOf, TellsEnds, has_steps, none_tells, turn_in, turn_tells}
 use Rattle.turn_laws.proofs.AgentEnds.{Tells, expired_tells, found_at}
-use Rattle.turn_laws.proofs.AgentHere.{desk_fits, fifo_is, good, holder_is, initiator_is, lost_body, lost_carries, names_are, up_by}
+use Rattle.turn_laws.proofs.AgentHere.{desk_fits, fifo_is, good, holder_is, initiator_is, lost_body, lost_carries, names_are, stands_are, up_by}
 use Rattle.turn_laws.proofs.EndNotes.{NoEnds, beside_handed, ends_noted, low_ranks, none_handed}
 use Rattle.turn_laws.proofs.FollowEnds.{ends_in}
 use Rattle.turn_laws.proofs.EndShapes.{lost_shaped}
@@ -224,6 +224,7 @@ module _ (units ready : ℕ) (has : 0 < units) (start : List Disk) (past : List 
               initiator = sym (initiator_is units ready has start past s here q login there live);
               list = sym (here.taken q b (up_by units ready has start past s here q b its.which its.sent its.kept));
               names = names_are units ready has start past s here q login there live;
+              stands = stands_are units ready has start past s here q login there live;
             }
 
         agent_ends : TellsEnds start (t rest)

@@ -72,6 +72,14 @@ pub mod DeathAnswers
 pub mod Deaths
 pub mod CodeSteps
 pub mod Codes
+pub mod StatusSteps
+pub mod NextSteps
+pub mod AgentFolds
+pub mod AgentNotes
+pub mod Progresses
+pub mod PresentOrbs
+pub mod SilentTurns
+pub mod Silent
 pub mod DecisionEffects
 pub mod DecisionWords
 pub mod DecisionRuns

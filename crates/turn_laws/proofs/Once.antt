@@ -56,19 +56,19 @@ death_ends (notes.Dead i list cause) e = refl
 death_ends (notes.Ended i list number status) e = refl
 death_ends note e = absurd (let no : false ≡ true = e in cc)
 
-deaths_by_ends : (rest : List Note) → filter is_death_note rest ≡ filter is_death_note (of_kind is_end_note rest)
+pub deaths_by_ends : (rest : List Note) → filter is_death_note rest ≡ filter is_death_note (of_kind is_end_note rest)
 deaths_by_ends [] = refl
 deaths_by_ends (note ∷ rest) =
     ap (λ ns. cond (is_death_note note) (note ∷ ns) ns) (deaths_by_ends rest) ∙ either_note (is_end_note note) note rest (death_ends note)
 
 -- ---- how many a step brings
-abbrev counted : Option FailCause → Option FailCause → ℕ
+abbrev pub counted : Option FailCause → Option FailCause → ℕ
 counted None None = 0
 counted (Some cause) None = 1
 counted None (Some cause) = 1
 counted (Some cause) (Some other) = 2
 
-count_by : (i : ℕ) (list : Option ℕ) (one : Option Orb) (dead : Option FailCause) (ended : Option StatusKind) (behind : Option FailCause) → length (filter is_death_note (brought_notes i list one (brings dead ended behind))) ≡ counted dead behind
+pub count_by : (i : ℕ) (list : Option ℕ) (one : Option Orb) (dead : Option FailCause) (ended : Option StatusKind) (behind : Option FailCause) → length (filter is_death_note (brought_notes i list one (brings dead ended behind))) ≡ counted dead behind
 count_by i list one None None None = refl
 count_by i list one None None (Some cause) = refl
 count_by i list one None (Some kind) None = refl

@@ -51,7 +51,7 @@ use Rattle.sbp_world.proofs.FitTarget.Demands.{answer_small}
 use Rattle.sbp_world.proofs.Lists.DueRuns.{AtDelivery, alike, event_is, plain_is}
 use Rattle.turn_laws.proofs.AgentDue.{IsTurnOf, TellsEnds, has_steps, turn_in, turn_tells}
 use Rattle.turn_laws.proofs.AgentEnds.{Tells, advance_tells, found_at}
-use Rattle.turn_laws.proofs.AgentHere.{desk_fits, fifo_is, good, holder_is, initiator_is, names_are, reply_body, reply_carries, up_by}
+use Rattle.turn_laws.proofs.AgentHere.{desk_fits, fifo_is, good, holder_is, initiator_is, names_are, reply_body, reply_carries, stands_are, up_by}
 use Rattle.turn_laws.proofs.EndNotes.{beside_handed, ends_noted}
 use Rattle.turn_laws.proofs.EndShapes.{reply_shaped}
 use Rattle.turn_laws.proofs.EndSizes.{reply_sized}
@@ -193,6 +193,7 @@ module _ (units ready : ℕ) (has : 0 < units) (start : List Disk) (past : List 
           initiator = sym (initiator_is units ready has start past s here q login there live);
           list = sym (here.taken q b (up_by units ready has start past s here q b which kept kept_is)) ∙ list_same rest;
           names = names_are units ready has start past s here q login there live;
+          stands = stands_are units ready has start past s here q login there live;
         }
 
         pub agent_ends : TellsEnds start (t rest)

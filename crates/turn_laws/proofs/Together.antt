@@ -16,6 +16,7 @@ use Rattle.turn_laws.proofs.LoginRuns.{login_run_law}
 use Rattle.turn_laws.proofs.Once.{once_law}
 use Rattle.turn_laws.proofs.OrderRuns.{ordered_law}
 use Rattle.turn_laws.proofs.SentPackets.{packets_run_law}
+use Rattle.turn_laws.proofs.Silent.{silent_law}
 use Rattle.turn_laws.proofs.Unserved.{unserved_law}
 
 pub turns_law : TurnsLaw
@@ -32,6 +33,7 @@ turns_law = record {
     once = once_law.after_lines line run is some most size;
     deaths = deaths_law.after_lines line run is some most size;
     codes = codes_law.after_lines line run is some most size;
+    silent = silent_law.after_lines line run is some most size;
     unserved = unserved_law.after_lines line run is some most size;
     faults = faults_law.after_lines line run is some most size;
     decided = decided_law.after_lines line run is some most size;
@@ -51,6 +53,7 @@ turns_law = record {
     once = once_law.between line run is some most size next deliveries told may;
     deaths = deaths_law.between line run is some most size next deliveries told may;
     codes = codes_law.between line run is some most size next deliveries told may;
+    silent = silent_law.between line run is some most size next deliveries told may;
     unserved = unserved_law.between line run is some most size next deliveries told may;
     faults = faults_law.between line run is some most size next deliveries told may;
     decided = decided_law.between line run is some most size next deliveries told may;

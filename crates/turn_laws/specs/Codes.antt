@@ -1,5 +1,5 @@
--- The codes of illegal ORBs (NCITS 325-1998, command block ORB and page table): each end as illegal that a turn tells has the code of what comes to be checked in that turn, the ORB or the page table. It is `codes` of
--- the cause law.
+-- The codes of illegal ORBs (NCITS 325-1998, command block ORB and page table): each end as illegal that a turn tells has the code of what comes to be checked in that turn,
+-- the ORB or the page table. It is `codes` of the cause law.
 use Rattle.std.specs.Prelude.{List}
 use Rattle.rbc_disk.specs.Disk.{Disk}
 use Rattle.sbp_laws.specs.Deaths.{IllegalsHaveCodes, illegal_in}

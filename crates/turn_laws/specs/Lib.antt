@@ -7,6 +7,7 @@ pub mod Ends
 pub mod Once
 pub mod Deaths
 pub mod Codes
+pub mod Silent
 pub mod Unserved
 pub mod Ordered
 pub mod Logins

@@ -20,6 +20,7 @@ use Rattle.turn_laws.specs.Ends.{EndsWhereDue}
 use Rattle.turn_laws.specs.Faults.{DiesBeforeFaults}
 use Rattle.turn_laws.specs.Once.{DiesOnce}
 use Rattle.turn_laws.specs.Runs.{OfEveryRun}
+use Rattle.turn_laws.specs.Silent.{EndsHeard}
 use Rattle.turn_laws.specs.Unserved.{UnservedWhereTold}
 
 pub record LawfulInTurns (start : List Disk) (past : List Moment) : Type 0 where
@@ -34,6 +35,7 @@ pub record LawfulInTurns (start : List Disk) (past : List Moment) : Type 0 where
   pub once : EachTurn (DiesOnce start) past
   pub deaths : EachTurn (DiesByRows start) past
   pub codes : EachTurn (EndsWithCodes start) past
+  pub silent : EachTurn (EndsHeard start) past
   pub unserved : EachTurn (UnservedWhereTold start) past
   pub faults : EachTurn DiesBeforeFaults past
   pub decided : EachTurn (DecisionStands start) past

@@ -6,18 +6,19 @@ ghost use Rattle.turn_laws.specs.Codes.{CodesLaw};
 ghost use Rattle.turn_laws.specs.Cuts.{CutsLaw};
 ghost use Rattle.turn_laws.specs.Deaths.{DeathsLaw};
 ghost use Rattle.turn_laws.specs.Decided.{DecidedLaw};
+ghost use Rattle.turn_laws.specs.Ends.{EndsLaw};
 ghost use Rattle.turn_laws.specs.Failing.{FailingLaw};
 ghost use Rattle.turn_laws.specs.Failures.{FailuresLaw};
-ghost use Rattle.turn_laws.specs.Ends.{EndsLaw};
 ghost use Rattle.turn_laws.specs.Faults.{FaultsLaw};
 ghost use Rattle.turn_laws.specs.Judgement.{JudgementRunLaw};
 ghost use Rattle.turn_laws.specs.Login.{LoginRunLaw};
 ghost use Rattle.turn_laws.specs.Once.{OnceLaw};
+ghost use Rattle.turn_laws.specs.Operations.{StatusEndsLaw};
 ghost use Rattle.turn_laws.specs.Ordered.{OrderedLaw};
 ghost use Rattle.turn_laws.specs.Packets.{PacketsLaw};
+ghost use Rattle.turn_laws.specs.Silent.{SilentLaw};
 ghost use Rattle.turn_laws.specs.UnderWay.{TargetWaitsLaw};
 ghost use Rattle.turn_laws.specs.Unserved.{UnservedLaw};
-ghost use Rattle.turn_laws.specs.Operations.{StatusEndsLaw};
 
 /// In each turn of every run exactly the units are cleared that the decision of the turn resets, whatever
 /// anybody injected: `cleared` of the cause law.
@@ -90,6 +91,14 @@ pub fn deaths_have_rows()
 #[tactic(auto, using(crate::proofs::Codes::codes_law))]
 pub fn illegal_orbs_have_codes()
     ensures { CodesLaw }
+{}
+
+/// In each turn of every run, whatever anybody injected, an end of an ORB has its status write, or a death beside
+/// it: where the turn tells none, a label serves the write of that status to the FIFO of the login, with the
+/// address of the ORB's slot and the src of its next pointer: `silent` of the cause law.
+#[tactic(auto, using(crate::proofs::Silent::silent_law))]
+pub fn ends_are_heard()
+    ensures { SilentLaw }
 {}
 
 /// In every run, whatever anybody injected, there are bytes with which the write of a chunk of an answer finds no
