@@ -56,6 +56,7 @@ use Rattle.sbp_world.proofs.Hosts.Lives.{At, Called}
 use Rattle.sbp_world.proofs.Lists.LiveRefusing.{label_number}
 use Rattle.sbp_world.proofs.Pointers.Ending.{read_in}
 use Rattle.sbp_world.proofs.Pointers.Finds.{closes_at, expires_at}
+use Rattle.sbp_world.proofs.Wire.Starts.{laws_of}
 use Rattle.sbp_world.specs.Hosts.Core.{Core, work_in, work_of}
 use Rattle.sbp_world.specs.Hosts.Rows.{present_in}
 use Rattle.sbp_world.specs.Sessions.Holding.{AreBuffers}
@@ -79,12 +80,13 @@ use Rattle.turn_laws.proofs.OwnStates.{AreReset, sight_due}
 use Rattle.turn_laws.proofs.OwnTies.{GoesOn, IsEndOf, IsTied, ended_due, of_block, of_lock, of_read, of_write}
 use Rattle.turn_laws.specs.Operations.{ends_own, of_initiator}
 use Rattle.turn_laws.proofs.Places.{HasCalls, Place}
+use Rattle.turn_laws.proofs.ReadsCarried.{resets_of}
+use Rattle.turn_laws.proofs.ReadsUnderWay.{AreTimely}
 
--- What the transactions of an initiator, its operation and its reads are by the terms of a history. Of a transaction with any node, under its label: that it is tied to the request that waits there.
+-- What the transactions of an initiator are by the terms of a history. Of one with any node, under its label: that it is tied to the request that waits there.
 pub record AreTies (past : List Moment) (i : ℕ) (s : InitiatorState) : Type 0 where
   pub ends : (from number : ℕ) (purpose : Option Purpose) (kind : Kind) (serial : ℕ) → At s.layer ((terms past).ids ((terms past).generation (suc i)) from) number purpose → (terms past).held (transaction ((terms past).generation (suc i)) (suc i) from number) ≡ waits kind serial
       → IsTied (host_at past i) (present_list past i) (access_at (terms past) serial) serial s.operation s.seat s.quads s.lists.slots.present purpose kind
-  pub resets : AreReset (host_at past i).operation s.operation (host_at past i).reads s.states
   pub goes_on : (generation : ℕ) (bytes : List ℕ) (p : Packet) (label : LabelParts) (act : ℕ) → (judging_step s.layer generation bytes).0 ≡ of_response p label (Some (purposes.Rom act)) → GoesOn (record s { layer = (judging_step s.layer generation bytes).1 }) act
 
 -- the list that is dropped is the present one
@@ -324,17 +326,27 @@ module _ (units ready : ℕ) (start : List Disk) (past : List Moment) (s : Scene
   abbrev is_new : Bool
   is_new = not (nat_eq s.world.generations.latest.generation (wire.generation (suc i)))
 
-  sight_by : AreTies ms i old → (w : WorldState) (r : Bool × Layer Purpose) → r.0 ≡ is_new → Ops (handed (suc i) 0 (seen_as r (id_of s.world.generations.latest 0) empty_outbox old).0 w) ≡ seen_notes i is_new host present
-  sight_by ties w (false, l) e = own_are (suc i) 0 empty_outbox w [] refl ∙ ap (λ b. seen_notes i b host present) e
-  sight_by ties w (true, l) e =
-      own_are (suc i) 0 _ w (reset_ops old.number host.operation host.reads ++ drop_note old.number true present) (sight_due (id_of s.world.generations.latest 0) empty_outbox (record old { layer = l }) host present drops ties.resets)
+  abbrev SeesSo : Type 0
+  SeesSo = AreReset host.operation old.operation host.reads old.states
+
+  sight_by : SeesSo → (w : WorldState) (r : Bool × Layer Purpose) → r.0 ≡ is_new → Ops (handed (suc i) 0 (seen_as r (id_of s.world.generations.latest 0) empty_outbox old).0 w) ≡ seen_notes i is_new host present
+  sight_by resets w (false, l) e = own_are (suc i) 0 empty_outbox w [] refl ∙ ap (λ b. seen_notes i b host present) e
+  sight_by resets w (true, l) e =
+      own_are (suc i) 0 _ w (reset_ops old.number host.operation host.reads ++ drop_note old.number true present) (sight_due (id_of s.world.generations.latest 0) empty_outbox (record old { layer = l }) host present drops resets)
       ∙ sight_kept old.number host.operation host.reads present
       ∙ ap (λ n. reset_ops n host.operation host.reads ++ drop_note n true present) number_is
       ∙ ap (λ b. seen_notes i b host present) e
 
-  pub seen_due : AreTies ms i old → (w : WorldState) → (let g = s.world.generations.latest in Ops (handed (suc i) 0 (see_step g.generation (id_of g (suc i)) (id_of g 0) empty_outbox old).0 w) ≡ host_notes (said (notes.Seen (suc i) g.generation)) ms)
+  -- by the terms it has the same reads under way, where each time-out was timely
+  pub same_resets : AreTimely ms → SeesSo
+  same_resets timely =
+      let pairs = (here.reads i inside).paired in
+      let laws = laws_of past s.world stands in
+      resets_of ms i old work_is (pairs.pairs (record { serials = laws.serials; sent = laws.sent }) timely)
+
+  pub seen_due : SeesSo → (w : WorldState) → (let g = s.world.generations.latest in Ops (handed (suc i) 0 (see_step g.generation (id_of g (suc i)) (id_of g 0) empty_outbox old).0 w) ≡ host_notes (said (notes.Seen (suc i) g.generation)) ms)
   unfolding see_step
-  seen_due ties w = let g = s.world.generations.latest in sight_by ties w (seeing_step old.layer g.generation (id_of g (suc i))) (may_see s.world stands i inside_there)
+  seen_due resets w = let g = s.world.generations.latest in sight_by resets w (seeing_step old.layer g.generation (id_of g (suc i))) (may_see s.world stands i inside_there)
 
   -- ---- a time-out
   module _ (serial : ℕ) (request : Request) (found : find s.world.requests serial ≡ Some request) (node_is : request.node ≡ suc i) (w : WorldState) where
