@@ -176,7 +176,8 @@ part_reads (request label kind) event i list serial host n = other_reads event i
 part_reads (response label kind) event i list serial host n = refl
 part_reads no_packet event i list serial host n = refl
 
-pub sent_reads : (serial generation from to : ℕ) (bytes : List ℕ) (past : List Moment) (i : ℕ) → IsNoAct i (event_of past) → Reads (said (notes.Sent serial generation from to bytes) ∷ past) i ≡ Reads past i
+pub sent_reads : (serial generation from to : ℕ) (bytes : List ℕ) (past : List Moment) (i : ℕ) → IsNoAct i (event_of past)
+    → Reads (said (notes.Sent serial generation from to bytes) ∷ past) i ≡ Reads past i
 sent_reads serial generation from to bytes past i n =
     same_if ((nat_eq from (suc i)) && not ((known_host past i).wire.injected serial)) (sent_as (part_of bytes) (event_of past) i (present_list past i) serial (host_at past i)) (host_at past i)
     (part_reads (part_of bytes) (event_of past) i (present_list past i) serial (host_at past i) n)
@@ -212,11 +213,13 @@ abbrev pub is_gone : Option ℕ → ℕ → Bool
 is_gone None n = false
 is_gone (Some own) n = n == own
 
-got_by_reads : (own : Option ℕ) (wire : Terms) (serial : ℕ) (present : Option ℕ) (host : Host) → (got_by own wire serial present host).reads ≡ filter (λ (read : StateRead). not (is_gone own read.serial)) host.reads
+got_by_reads : (own : Option ℕ) (wire : Terms) (serial : ℕ) (present : Option ℕ) (host : Host)
+    → (got_by own wire serial present host).reads ≡ filter (λ (read : StateRead). not (is_gone own read.serial)) host.reads
 got_by_reads None wire serial present host = sym (all_kept host.reads)
 got_by_reads (Some own) wire serial present host = refl
 
-pub got_reads : (serial : ℕ) (packet : Sending) (past : List Moment) (i : ℕ) → (terms past).sent serial ≡ Some packet → packet.to ≡ suc i → Reads (said (notes.Got serial) ∷ past) i ≡ filter (λ (read : StateRead). not (is_gone (answered_at (terms past) serial) read.serial)) (Reads past i)
+pub got_reads : (serial : ℕ) (packet : Sending) (past : List Moment) (i : ℕ) → (terms past).sent serial ≡ Some packet → packet.to ≡ suc i
+    → Reads (said (notes.Got serial) ∷ past) i ≡ filter (λ (read : StateRead). not (is_gone (answered_at (terms past) serial) read.serial)) (Reads past i)
 got_reads serial packet past i sent to_is =
     let host = host_at past i in
     ap (λ (t : Terms). (cond (is_serial (receiver_in (t.sent serial)) (suc i)) (got_by (answered_at t serial) t serial (present_list past i) host) host).reads) (wire_is past i)
@@ -229,18 +232,22 @@ abbrev pub over_if : Bool → ℕ → Option ℕ
 over_if true serial = Some serial
 over_if false serial = None
 
-late_by : (b : Bool) (serial : ℕ) (host : Host) → (cond b (record host { reads = without_read serial host.reads }) host).reads ≡ filter (λ (read : StateRead). not (is_gone (over_if b serial) read.serial)) host.reads
+late_by : (b : Bool) (serial : ℕ) (host : Host)
+    → (cond b (record host { reads = without_read serial host.reads }) host).reads ≡ filter (λ (read : StateRead). not (is_gone (over_if b serial) read.serial)) host.reads
 late_by true serial host = refl
 late_by false serial host = sym (all_kept host.reads)
 
-pub late_reads : (serial : ℕ) (past : List Moment) (i : ℕ) → Reads (said (notes.TimedOut serial) ∷ past) i ≡ filter (λ (read : StateRead). not (is_gone (over_if (is_serial (sender_in ((terms past).sent serial)) (suc i)) serial) read.serial)) (Reads past i)
+pub late_reads : (serial : ℕ) (past : List Moment) (i : ℕ)
+    → Reads (said (notes.TimedOut serial) ∷ past) i ≡ filter (λ (read : StateRead). not (is_gone (over_if (is_serial (sender_in ((terms past).sent serial)) (suc i)) serial) read.serial))
+    (Reads past i)
 late_reads serial past i =
     let host = host_at past i in
     ap (λ (t : Terms). (cond (is_serial (sender_in (t.sent serial)) (suc i)) (record host { reads = without_read serial host.reads }) host).reads) (wire_is past i)
     ∙ late_by (is_serial (sender_in ((terms past).sent serial)) (suc i)) serial host
 
 -- ---- a generation is seen
-pub seen_reads : (generation : ℕ) (past : List Moment) (i : ℕ) → Reads (said (notes.Seen (suc i) generation) ∷ past) i ≡ (reset_seen (not (nat_eq generation ((terms past).generation (suc i)))) (host_at past i)).reads
+pub seen_reads : (generation : ℕ) (past : List Moment) (i : ℕ)
+    → Reads (said (notes.Seen (suc i) generation) ∷ past) i ≡ (reset_seen (not (nat_eq generation ((terms past).generation (suc i)))) (host_at past i)).reads
 seen_reads generation past i =
     let host = host_at past i in
     on (nat_eq (suc i) (suc i)) (reset_seen (not (nat_eq generation ((known_host past i).wire.generation (suc i)))) host) host (itself (suc i))

@@ -36,16 +36,16 @@ use Rattle.sbp_world.specs.Lines.{weight_in}
 use Rattle.sbp_world.specs.Packets.{target_left}
 use Rattle.sbp_world.specs.Wire.Wires.{layers_of}
 use Rattle.sbp_world.specs.Worlds.{Scene, WorldState, initiator_at}
+use Rattle.sbp_world.proofs.Common.{untrue}
 use Rattle.turn_laws.proofs.Calls.{Brings, Cases, calls, injects, loses, refuses, refuses_action, resets, sets_key}
 use Rattle.turn_laws.proofs.Handed.{handed}
 use Rattle.turn_laws.proofs.Judgements.{row_there}
 use Rattle.turn_laws.proofs.OwnActs.{AreQuiet, act_quiet, quiet_none}
-use Rattle.turn_laws.proofs.OwnEnds.{untrue}
 use Rattle.turn_laws.proofs.OwnNotes.{target_none}
 use Rattle.turn_laws.proofs.OwnTurns.{AreTies, got_due, heard_due, late_due, late_sender, same_resets, seen_due}
 use Rattle.turn_laws.proofs.Places.{Place}
 use Rattle.turn_laws.proofs.Timely.{Timely, of_timely_turns}
-use Rattle.turn_laws.specs.Operations.{OperationsStand, StatusEndsLaw, StatusesEnd}
+use Rattle.turn_laws.specs.Operations.{OperationsStand, NoneEndsLaw, StandsWhereNoneEnds}
 
 line_stands : (line : ℕ) (s : Scene) (past : List Moment) (event : Event) (rest : List Note) → Brings line s event rest → OperationsStand (turn past (asked line event) rest)
 line_stands line s past event rest (calls is_event c) = refl
@@ -96,8 +96,8 @@ module _ (units ready : ℕ) (start : List Disk) where
   act_stands past s line i action outbox state w e = quiet_none (i + 1) (weight_in action) outbox w (subst (λ (r : Option ℕ × Turn). AreQuiet r.1.0.sides) e (act_quiet action (initiator_at s.world i)))
 
   -- ---- where no transaction of an initiator ends
-  pub status_cases : Cases units ready start (Timely StatusesEnd)
-  status_cases = record {
+  pub none_ends_cases : Cases units ready start (Timely StandsWhereNoneEnds)
+  none_ends_cases = record {
     heard = λ past s serial again run one found zero_to may others here behind judged timely none.
         target_none _ _ others ∙ sym (to_target (hist past s.world) serial (as_sending one) (was_sent s.world here.holds.sound.stands serial one found) zero_to _);
     heard_own = λ past s serial again one i found to_is inside own here behind judged timely none.
@@ -137,5 +137,5 @@ module _ (units ready : ℕ) (start : List Disk) where
     }
 
 -- in each turn in which no transaction of an initiator ends
-pub status_ends_law : StatusEndsLaw
-status_ends_law = of_timely_turns StatusesEnd (λ units ready start has. status_cases units ready start)
+pub none_ends_law : NoneEndsLaw
+none_ends_law = of_timely_turns StandsWhereNoneEnds (λ units ready start has. none_ends_cases units ready start)

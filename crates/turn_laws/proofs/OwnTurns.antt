@@ -47,6 +47,7 @@ use Rattle.sbp_laws.specs.Hosts.{Host, host_at}
 use Rattle.sbp_laws.specs.Lists.{present_list}
 use Rattle.sbp_laws.specs.Operations.{at_initiator, drop_note, end_by_answer, end_by_write, end_notes, got_notes, gets_stuck, host_notes, reply_notes, reset_ops, seen_notes}
 use Rattle.sbp_laws.specs.Packets.{access_at, access_in, answer_in, answer_of, answered_at, packet_at, packet_in, receiver_in, sender_in, spelled_by}
+use Rattle.sbp_world.proofs.Common.{untrue}
 use Rattle.sbp_world.proofs.Agents.CrewFirsts.{access_there}
 use Rattle.sbp_world.proofs.Agents.Management.Hearing.{IsAnswer, answers, answers_none}
 use Rattle.sbp_world.proofs.Agents.Management.Holding.{is_of, past_terms, was_sent}
@@ -74,14 +75,14 @@ use Rattle.turn_laws.proofs.FoundRows.{Asks, RowFor}
 use Rattle.turn_laws.proofs.Handed.{handed}
 use Rattle.turn_laws.proofs.OwnAnswers.{packet_ends, read_small}
 use Rattle.turn_laws.proofs.OwnBlocks.{Expected, answer_silent, request_tells}
-use Rattle.turn_laws.proofs.OwnEnds.{lapses, untrue}
+use Rattle.turn_laws.proofs.OwnEnds.{lapses}
 use Rattle.turn_laws.proofs.OwnNotes.{Ops, own_are, reply_kept, sight_kept}
 use Rattle.turn_laws.proofs.OwnStates.{AreReset, sight_due}
 use Rattle.turn_laws.proofs.OwnTies.{GoesOn, IsEndOf, IsTied, ended_due, of_block, of_lock, of_read, of_write}
 use Rattle.turn_laws.specs.Operations.{ends_own, of_initiator}
 use Rattle.turn_laws.proofs.Places.{HasCalls, Place}
 use Rattle.turn_laws.proofs.ReadsCarried.{resets_of}
-use Rattle.turn_laws.proofs.ReadsUnderWay.{AreTimely}
+use Rattle.turn_laws.proofs.ReadsUnderWay.{AreTimely, Waiting, waits_now}
 
 -- What the transactions of an initiator are by the terms of a history. Of one with any node, under its label: that it is tied to the request that waits there.
 pub record AreTies (past : List Moment) (i : ℕ) (s : InitiatorState) : Type 0 where
@@ -97,17 +98,6 @@ drops_present lists = by lists.slots.present
     by : (present : Option PresentList) → (drop_for present lists.slots).0 ≡ present_in present
     by None = refl
     by (Some list) = refl
-
--- a request waits
-record Waiting (h : Held) : Type 0 where
-  kind : Kind
-  serial : ℕ
-  is : h ≡ waits kind serial
-
-waits_now : (h : Held) (kind : ReplyKind) → shape_of h ≡ awaits kind → Waiting h
-waits_now (waits kind serial) other e = record { kind = kind; serial = serial; is = refl }
-waits_now free other e = absurd (let no : shape_of free ≡ awaits other = e in cc)
-waits_now rests other e = absurd (let no : shape_of rests ≡ awaits other = e in cc)
 
 -- by whom it was sent
 sender_is : (packet : Sending) (u : Transaction) (label : ℕ) (kind : Kind) → part_of packet.bytes ≡ request_part label kind → begun_by packet ≡ Some u → packet.from ≡ u.requester

@@ -99,7 +99,7 @@ use Rattle.rbc_disk.specs.Runs.{Told as Told_by}
 use Rattle.sbp_world.specs.Hosts.Calls.{behind}
 use Rattle.turn_laws.proofs.HostReads.{Reads, acted_reads, all_kept, apart_reads, got_reads, is_gone, late_reads, over_if, seen_reads, sent_reads, told_reads}
 use Rattle.turn_laws.proofs.ReadPairs.{AreZipped, zipped_map, zipped_more}
-use Rattle.turn_laws.proofs.ReadsUnderWay.{AreTimely, ClosedFor, IsPair, LapsedFor, ended_by, ended_for, ended_late, expire_goes, finding_left, got_off, got_on, judge_goes, lapsed_left, late_off, late_on, zipped_then}
+use Rattle.turn_laws.proofs.ReadsUnderWay.{AreTimely, ClosedFor, IsPair, LapsedFor, StateAt, WaitsAt, ended_by, ended_for, ended_late, expire_goes, finding_left, got_off, got_on, judge_goes, lapsed_left, late_off, late_on, zipped_then}
 use Rattle.turn_laws.proofs.OwnFacts.{operation_same}
 use Rattle.turn_laws.proofs.OwnStates.{AreAsMany, AreInOrder, AreReset, both as both_reset, none as none_reset}
 
@@ -159,7 +159,7 @@ module _ (past now : List Moment) (i : ℕ) (s : InitiatorState) (goes : Goes (h
   first_on : ((u : Underway) → (host_at past i).operation ≡ Some u → u.first ≤ (terms past).count) → (u : Underway) → (host_at now i).operation ≡ Some u → u.first ≤ (terms now).count
   first_on h u e = (let w = goes.on u e in let b = h w.was w.is in let f = w.first in omega (arith, b, f, count))
 
-  module _ (held : (m : ℕ) (k : Kind) (n : ℕ) → (terms past).held (transaction s.layer.generation (suc i) 0 m) ≡ waits k n → (terms now).held (transaction s.layer.generation (suc i) 0 m) ≡ waits k n) (reads : Reads now i ≡ Reads past i) where
+  module _ (held : (m : ℕ) (k : Kind) (n : ℕ) → WaitsAt past i s.layer m k n → WaitsAt now i s.layer m k n) (reads : Reads now i ≡ Reads past i) where
     pair_on : (read : StateRead) (act : ℕ) → IsPair past i s read act → IsPair now i s read act
     pair_on read act p = record {
       number = p.number;
@@ -179,7 +179,8 @@ told_timely [] past h t = t
 told_timely (sides.Own note ∷ later) past h t = (told_timely later (said note ∷ past) h.1 t).1
 told_timely (_ ∷ later) past h t = absurd h.0
 
-told_paired : (ready : Bool) (told : List Side) (past : List Moment) (j : ℕ) (x : InitiatorState) → AreTame told → Guarded ready (behind told past) j x → Paired ready past j x → Paired ready (behind told past) j x
+told_paired : (ready : Bool) (told : List Side) (past : List Moment) (j : ℕ) (x : InitiatorState) → AreTame told → Guarded ready (behind told past) j x → Paired ready past j x
+    → Paired ready (behind told past) j x
 told_paired ready told past j x tame g h =
     let k = tame_told told past j tame in
     let goes = told_first told past j tame in
@@ -210,7 +211,8 @@ apart_goes (notes.Begin initiators ready) past i e = untrue e
 apart_goes (notes.Sent serial generation from to bytes) past i e = other_first serial generation from to bytes past i (not_so (nat_eq from (suc i)) e)
 apart_goes note past i e = note_first note past i refl
 
-apart_paired : (ready : Bool) (note : Note) (past : List Moment) (i : ℕ) (s : InitiatorState) → is_apart i note ≡ true → IsElsewhere past i note → Paired ready past i s → Paired ready (said note ∷ past) i s
+apart_paired : (ready : Bool) (note : Note) (past : List Moment) (i : ℕ) (s : InitiatorState) → is_apart i note ≡ true → IsElsewhere past i note → Paired ready past i s
+    → Paired ready (said note ∷ past) i s
 apart_paired ready note past i s e w h =
     let passes = apart_passes note past i e w in
     let goes = apart_goes note past i e in
@@ -220,7 +222,8 @@ apart_paired ready note past i s e w h =
       first = λ f. first_on past (said note ∷ past) i s goes passes.count (h.first (passes.fit f));
     }
 
-sent_paired : (ready : Bool) (serial generation from to : ℕ) (bytes : List ℕ) (past : List Moment) (i : ℕ) (s : InitiatorState) → IsNoAct i (event_of past) → Paired ready past i s → Paired ready (said (notes.Sent serial generation from to bytes) ∷ past) i s
+sent_paired : (ready : Bool) (serial generation from to : ℕ) (bytes : List ℕ) (past : List Moment) (i : ℕ) (s : InitiatorState) → IsNoAct i (event_of past) → Paired ready past i s
+    → Paired ready (said (notes.Sent serial generation from to bytes) ∷ past) i s
 sent_paired ready serial generation from to bytes past i s n h =
     let t = terms past in
     let packet : Sending = record { generation = generation; from = from; to = to; bytes = bytes; injected = t.injected serial } in
@@ -256,7 +259,8 @@ lapsed_ended (Ok other) act list e = ap ended_for e
 lapsed_ended (Err stale) act list e = absurd e
 
 -- ---- a packet is heard
-module _ (ready : Bool) (serial generation : ℕ) (bytes : List ℕ) (past : List Moment) (i : ℕ) (s : InitiatorState) (heard : IsHeard past i serial generation bytes) (shown : IsShown past i s.target s.layer)
+module _ (ready : Bool) (serial generation : ℕ) (bytes : List ℕ) (past : List Moment) (i : ℕ) (s : InitiatorState) (heard : IsHeard past i serial generation bytes)
+    (shown : IsShown past i s.target s.layer)
     (after_it : IsShown (said (judged_note serial (receive_step generation bytes empty_outbox s).0) ∷ past) i s.target (judging_step s.layer generation bytes).1) (h : Paired ready past i s) where
   abbrev judged : Judged
   judged = (receive_step generation bytes empty_outbox s).0
@@ -288,18 +292,21 @@ module _ (ready : Bool) (serial generation : ℕ) (bytes : List ℕ) (past : Lis
   reads_by_judged judgements.Got = got_reads serial heard.packet past i heard.sent heard.to_is
   reads_by_judged (judgements.Ignored cause) = sym (all_kept (Reads past i))
 
-  stays_by : (f : Fit past) (j : Judged) (m : ℕ) (k : Kind) (n : ℕ) → (terms past).held (transaction s.layer.generation (suc i) 0 m) ≡ waits k n → is_gone (gone_by j) n ≡ false → (terms (said (judged_note serial j) ∷ past)).held (transaction s.layer.generation (suc i) 0 m) ≡ waits k n
+  stays_by : (f : Fit past) (j : Judged) (m : ℕ) (k : Kind) (n : ℕ) → WaitsAt past i s.layer m k n → is_gone (gone_by j) n ≡ false → WaitsAt (said (judged_note serial j) ∷ past) i s.layer m k n
   stays_by f judgements.Got m k n e g = got_on past f.serials serial heard.packet heard.sent (transaction s.layer.generation (suc i) 0 m) k n e g
-  stays_by f (judgements.Ignored cause) m k n e g = ap (λ (x : Transaction → Held). x (transaction s.layer.generation (suc i) 0 m)) (ignored_quiet ((terms past).sent serial) cause serial (terms past)).held ∙ e
+  stays_by f (judgements.Ignored cause) m k n e g =
+      ap (λ (x : Transaction → Held). x (transaction s.layer.generation (suc i) 0 m)) (ignored_quiet ((terms past).sent serial) cause serial (terms past)).held ∙ e
 
-  ends_by_judged : (f : Fit past) (j : Judged) (m : ℕ) (k : Kind) (n : ℕ) → (terms past).held (transaction s.layer.generation (suc i) 0 m) ≡ waits k n → is_gone (gone_by j) n ≡ true → (k' : Kind) (n' : ℕ) → (terms (said (judged_note serial j) ∷ past)).held (transaction s.layer.generation (suc i) 0 m) ≡ waits k' n' → ⊥
+  ends_by_judged : (f : Fit past) (j : Judged) (m : ℕ) (k : Kind) (n : ℕ) → WaitsAt past i s.layer m k n → is_gone (gone_by j) n ≡ true → (k' : Kind) (n' : ℕ)
+      → WaitsAt (said (judged_note serial j) ∷ past) i s.layer m k' n' → ⊥
   ends_by_judged f judgements.Got m k n e g k' n' w = got_off past f.serials serial heard.packet heard.sent (transaction s.layer.generation (suc i) 0 m) k n e g k' n' w
   ends_by_judged f (judgements.Ignored cause) m k n e g k' n' w = untrue g
 
-  on_by : (m act : ℕ) (list : Option ℕ) → At s.layer s.target m (Some (purposes.State act list)) → At (judging_step s.layer generation bytes).1 s.target m (Some (purposes.State act list)) ⊎ (ended_by finding ≡ Some act)
+  on_by : (m act : ℕ) (list : Option ℕ) → StateAt s.layer s.target m act list → StateAt (judging_step s.layer generation bytes).1 s.target m act list ⊎ (ended_by finding ≡ Some act)
   on_by m act list a = by (judge_goes s.layer s.target m (Some (purposes.State act list)) called a generation bytes)
     where
-      by : At (judging_step s.layer generation bytes).1 s.target m (Some (purposes.State act list)) ⊎ ClosedFor finding (Some (purposes.State act list)) → At (judging_step s.layer generation bytes).1 s.target m (Some (purposes.State act list)) ⊎ (ended_by finding ≡ Some act)
+      by : StateAt (judging_step s.layer generation bytes).1 s.target m act list ⊎ ClosedFor finding (Some (purposes.State act list))
+          → StateAt (judging_step s.layer generation bytes).1 s.target m act list ⊎ (ended_by finding ≡ Some act)
       by (inl x) = inl x
       by (inr x) = inr (closed_ended finding act list x)
 
@@ -321,17 +328,21 @@ module _ (ready : Bool) (serial generation : ℕ) (bytes : List ℕ) (past : Lis
               (stays_by f_past judged) (ends_by_judged f_past judged) (λ n q a. judge_at s.layer generation bytes s.target n q called a) on_by
               goes count (stays_or_ends s _ t.1 (hears_left s generation bytes (hears_fit ready i s own_heard generation bytes)))
               (λ n act list a. lives_of ready i t.1 then_called t.1.target n act list a)
-              (states_step ready i s own_heard (receives generation bytes) tt ∙ ap (λ (x : InitiatorState). finding_reads (judging_step x.layer generation bytes).0 s.states) own_heard.is ∙ finding_left finding s.states)
+              (states_step ready i s own_heard (receives generation bytes) tt ∙ ap (λ (x : InitiatorState). finding_reads (judging_step x.layer generation bytes).0 s.states) own_heard.is
+                  ∙ finding_left finding s.states)
               (reads_by_judged judged)
               (h.pairs f_past (told_timely t.0.sides heard_now left.told m).1);
-          first = λ f. first_on past (behind t.0.sides heard_now) i s (goes_then (host_at past i) (host_at heard_now i) (host_at (behind t.0.sides heard_now) i) goes (told_first t.0.sides heard_now i left.told))
-              (let w = ap (λ (x : Terms). x.count) (tame_told t.0.sides heard_now i left.told).wire in omega (arith, w, count)) (h.first (judged_fit serial judged past ((tame_told t.0.sides heard_now i left.told).fit f)));
+          first = λ f. first_on past (behind t.0.sides heard_now) i s
+              (goes_then (host_at past i) (host_at heard_now i) (host_at (behind t.0.sides heard_now) i) goes (told_first t.0.sides heard_now i left.told))
+              (let w = ap (λ (x : Terms). x.count) (tame_told t.0.sides heard_now i left.told).wire in omega (arith, w, count))
+                  (h.first (judged_fit serial judged past ((tame_told t.0.sides heard_now i left.told).fit f)));
         };
         others = λ j x e g. told_paired ready t.0.sides heard_now j x left.told (tells.others j x e g.guarded) g;
       }
 
 -- ---- a transaction times out
-module _ (ready : Bool) (serial : ℕ) (label : LabelParts) (past : List Moment) (i : ℕ) (s : InitiatorState) (after_it : IsShown (said (notes.TimedOut serial) ∷ past) i s.target (expiring_step s.layer s.target label).1) (h : Paired ready past i s) where
+module _ (ready : Bool) (serial : ℕ) (label : LabelParts) (past : List Moment) (i : ℕ) (s : InitiatorState)
+    (after_it : IsShown (said (notes.TimedOut serial) ∷ past) i s.target (expiring_step s.layer s.target label).1) (h : Paired ready past i s) where
   abbrev late : List Moment
   late = said (notes.TimedOut serial) ∷ past
 
@@ -350,10 +361,11 @@ module _ (ready : Bool) (serial : ℕ) (label : LabelParts) (past : List Moment)
   abbrev over : Option ℕ
   over = over_if (is_serial (sender_in ((terms past).sent serial)) (suc i)) serial
 
-  on_late : (m act : ℕ) (list : Option ℕ) → At s.layer s.target m (Some (purposes.State act list)) → At (expiring_step s.layer s.target label).1 s.target m (Some (purposes.State act list)) ⊎ (ended_late lapsed ≡ Some act)
+  on_late : (m act : ℕ) (list : Option ℕ) → StateAt s.layer s.target m act list → StateAt (expiring_step s.layer s.target label).1 s.target m act list ⊎ (ended_late lapsed ≡ Some act)
   on_late m act list a = by (expire_goes s.layer s.target m (Some (purposes.State act list)) layer_called a s.target label)
     where
-      by : At (expiring_step s.layer s.target label).1 s.target m (Some (purposes.State act list)) ⊎ LapsedFor lapsed (Some (purposes.State act list)) → At (expiring_step s.layer s.target label).1 s.target m (Some (purposes.State act list)) ⊎ (ended_late lapsed ≡ Some act)
+      by : StateAt (expiring_step s.layer s.target label).1 s.target m act list ⊎ LapsedFor lapsed (Some (purposes.State act list))
+          → StateAt (expiring_step s.layer s.target label).1 s.target m act list ⊎ (ended_late lapsed ≡ Some act)
       by (inl x) = inl x
       by (inr x) = inr (lapsed_ended lapsed act list x)
 
@@ -372,14 +384,17 @@ module _ (ready : Bool) (serial : ℕ) (label : LabelParts) (past : List Moment)
               let timely = told_timely late_turn.0.sides late left.told m in
               zipped_then past late i s (expiring_step s.layer s.target label).1 late_turn over (ended_late lapsed)
               after_it (expiring_stays s.layer s.target label) (expired_called ready s.layer s.target label layer_called) left
-              (λ n k o e g. late_on past f_now.serials serial timely.0 s.layer.generation i n k o e g) (λ n k o e g k' o' w. late_off past f_now.serials serial timely.0 s.layer.generation i n k o e g k' o' w)
+              (λ n k o e g. late_on past f_now.serials serial timely.0 s.layer.generation i n k o e g)
+                  (λ n k o e g k' o' w. late_off past f_now.serials serial timely.0 s.layer.generation i n k o e g k' o' w)
               (λ n q a. expire_at s.layer s.target label s.target n q layer_called a) on_late
               goes count (stays_or_ends s _ late_turn.1 (lapses_left s label (expires_fit ready i s own_calls label)))
               (λ n act list a. lives_of ready i late_turn.1 then_called late_turn.1.target n act list a)
-              (states_step ready i s own_calls (lets_expire label) tt ∙ ap (λ (x : InitiatorState). expired_reads (expiring_step x.layer x.target label).0 s.states) own_calls.is ∙ lapsed_left lapsed s.states)
+              (states_step ready i s own_calls (lets_expire label) tt ∙ ap (λ (x : InitiatorState). expired_reads (expiring_step x.layer x.target label).0 s.states) own_calls.is
+                  ∙ lapsed_left lapsed s.states)
               (late_reads serial past i)
               (h.pairs (record { serials = f_now.serials; sent = f_now.sent }) timely.1);
-          first = λ f. first_on past (behind late_turn.0.sides late) i s (goes_then (host_at past i) (host_at late i) (host_at (behind late_turn.0.sides late) i) goes (told_first late_turn.0.sides late i left.told))
+          first = λ f. first_on past (behind late_turn.0.sides late) i s
+              (goes_then (host_at past i) (host_at late i) (host_at (behind late_turn.0.sides late) i) goes (told_first late_turn.0.sides late i left.told))
               (let w = ap (λ (x : Terms). x.count) (tame_told late_turn.0.sides late i left.told).wire in omega (arith, w, count))
               (let g = (tame_told late_turn.0.sides late i left.told).fit f in h.first (record { serials = g.serials; sent = g.sent }));
         };
@@ -387,7 +402,8 @@ module _ (ready : Bool) (serial : ℕ) (label : LabelParts) (past : List Moment)
       }
 
 -- ---- a generation is seen
-module _ (ready : Bool) (generation id target : ℕ) (past : List Moment) (i : ℕ) (s : InitiatorState) (flag : (seeing_step s.layer generation id).0 ≡ not (generation == (terms past).generation (suc i))) (h : Paired ready past i s) where
+module _ (ready : Bool) (generation id target : ℕ) (past : List Moment) (i : ℕ) (s : InitiatorState)
+    (flag : (seeing_step s.layer generation id).0 ≡ not (generation == (terms past).generation (suc i))) (h : Paired ready past i s) where
   abbrev sight : List Moment
   sight = said (notes.Seen (suc i) generation) ∷ past
 
@@ -407,7 +423,8 @@ module _ (ready : Bool) (generation id target : ℕ) (past : List Moment) (i : �
   seen_pairs f m true e =
       let calls = h.guarded.pointed.cored.own.called in
       let none : seen_turn.1.states ≡ [] =
-      states_step ready i s calls (sees_call generation id target) tt ∙ ap (λ (x : InitiatorState). cond (nat_lt x.layer.generation generation) [] s.states) calls.is ∙ ap (λ b. cond b [] s.states) e in
+      states_step ready i s calls (sees_call generation id target) tt ∙ ap (λ (x : InitiatorState). cond (nat_lt x.layer.generation generation) [] s.states) calls.is
+          ∙ ap (λ b. cond b [] s.states) e in
       let nothing : Reads (behind seen_turn.0.sides sight) i ≡ [] =
       told_reads seen_turn.0.sides sight i told_tame ∙ seen_reads generation past i ∙ ap (λ b. (reset_seen b (host_at past i)).reads) (is_new ∙ e) in
       subst (λ acts. AreZipped (IsPair (behind seen_turn.0.sides sight) i seen_turn.1) (Reads (behind seen_turn.0.sides sight) i) acts) (sym none)
@@ -429,7 +446,8 @@ module _ (ready : Bool) (generation id target : ℕ) (past : List Moment) (i : �
               let g = (tame_told seen_turn.0.sides sight i told_tame).fit f in
               seen_pairs (record { serials = g.serials; sent = g.sent }) (told_timely seen_turn.0.sides sight told_tame m).1 (nat_lt s.layer.generation generation) refl;
           first = λ f. first_on past (behind seen_turn.0.sides sight) i s
-              (goes_then (host_at past i) (host_at sight i) (host_at (behind seen_turn.0.sides sight) i) (note_first (notes.Seen (suc i) generation) past i refl) (told_first seen_turn.0.sides sight i told_tame))
+              (goes_then (host_at past i) (host_at sight i) (host_at (behind seen_turn.0.sides sight) i) (note_first (notes.Seen (suc i) generation) past i refl)
+                  (told_first seen_turn.0.sides sight i told_tame))
               (let w = ap (λ (x : Terms). x.count) (tame_told seen_turn.0.sides sight i told_tame).wire in omega (arith, w, count))
               (let g = (tame_told seen_turn.0.sides sight i told_tame).fit f in h.first (record { serials = g.serials; sent = g.sent }));
         };
@@ -454,7 +472,8 @@ state_sends s e n = by (refusal actions.State (facts_with true s actions.State))
     by (Some number) e n = some_none number e
     by None e n = asked_sends s (asked_for (record { wanted = wants.Read (register_of s 0x00); purpose = purposes.State s.counts.acts (counted_list s.lists.slots.present s) }) s) e n
 
-module _ (ready : Bool) (action : Action) (past : List Moment) (i : ℕ) (s : InitiatorState) (under : event_of past ≡ Some (events.Act i action)) (fit : IsLineOf action) (done_is : (act_step action empty_outbox s).0 ≡ None)
+module _ (ready : Bool) (action : Action) (past : List Moment) (i : ℕ) (s : InitiatorState) (under : event_of past ≡ Some (events.Act i action)) (fit : IsLineOf action)
+    (done_is : (act_step action empty_outbox s).0 ≡ None)
     (shown : IsShown past i s.target s.layer) (known : Ready past i s) (h : Paired ready past i s) where
   abbrev act_turn : Turn
   act_turn = (act_step action empty_outbox s).1
@@ -487,7 +506,8 @@ module _ (ready : Bool) (action : Action) (past : List Moment) (i : ℕ) (s : In
   states_now =
       let calls = cored.own.called in
       let turn = after i ready calls.calls in
-      let none : (act_step action turn.0 turn.1).0 ≡ None = refusal_law.first action turn.0 turn.1 ∙ sym (refusal_law.first action empty_outbox turn.1) ∙ ap (λ (x : InitiatorState). (act_step action empty_outbox x).0) calls.is ∙ done_is in
+      let none : (act_step action turn.0 turn.1).0 ≡ None = refusal_law.first action turn.0 turn.1 ∙ sym (refusal_law.first action empty_outbox turn.1)
+          ∙ ap (λ (x : InitiatorState). (act_step action empty_outbox x).0) calls.is ∙ done_is in
       states_step ready i s calls (act_call action) fit.0
       ∙ ap (λ r. read_begun r action turn.1.counts.acts s.states) none
       ∙ ap (λ (x : InitiatorState). cond (is_read action) (s.states ++ x.counts.acts ∷ []) s.states) calls.is
@@ -513,7 +533,8 @@ module _ (ready : Bool) (action : Action) (past : List Moment) (i : ℕ) (s : In
       number = p.number;
       list = p.list;
       kind = p.kind;
-      at = subst (λ (l : Layer Purpose). At l act_turn.1.target p.number (Some (purposes.State act p.list))) (sym (left.quiet none)) (subst (λ n. At s.layer n p.number (Some (purposes.State act p.list))) (sym left.target_is) p.at);
+      at = subst (λ (l : Layer Purpose). At l act_turn.1.target p.number (Some (purposes.State act p.list))) (sym (left.quiet none))
+          (subst (λ n. At s.layer n p.number (Some (purposes.State act p.list))) (sym left.target_is) p.at);
       held =
           ap (λ (l : Layer Purpose). (terms ms).held (transaction l.generation (suc i) 0 p.number)) (left.quiet none)
           ∙ ap (λ (x : Terms). x.held (transaction s.layer.generation (suc i) 0 p.number)) told.wire ∙ p.held;
@@ -531,10 +552,12 @@ module _ (ready : Bool) (action : Action) (past : List Moment) (i : ℕ) (s : In
     quiet_pairs : AreZipped (IsPair past i s) (Reads past i) s.states → AreZipped (IsPair ms i act_turn.1) (Reads ms i) act_turn.1.states
     quiet_pairs z =
         subst (λ acts. AreZipped (IsPair ms i act_turn.1) (Reads ms i) acts) (sym (states_now ∙ ap (λ b. cond b (s.states ++ s.counts.acts ∷ []) s.states) (not_read (is_read action) refl)))
-        (subst (λ rs. AreZipped (IsPair ms i act_turn.1) rs s.states) (sym (told_reads act_turn.0.sides past i left.told)) (zipped_map (IsPair past i s) (IsPair ms i act_turn.1) quiet_pair (Reads past i) s.states z))
+        (subst (λ rs. AreZipped (IsPair ms i act_turn.1) rs s.states) (sym (told_reads act_turn.0.sides past i left.told))
+            (zipped_map (IsPair past i s) (IsPair ms i act_turn.1) quiet_pair (Reads past i) s.states z))
 
   -- and one that sends a request
-  module _ (packet : Outgoing) (one : act_turn.0.packets ≡ packet ∷ []) (serial generation : ℕ) (injected : (terms past).injected serial ≡ false) (q : IsRequest (number_in packet.label) packet.bytes) where
+  module _ (packet : Outgoing) (one : act_turn.0.packets ≡ packet ∷ []) (serial generation : ℕ) (injected : (terms past).injected serial ≡ false)
+      (q : IsRequest (number_in packet.label) packet.bytes) where
     abbrev now : List Moment
     now = said (notes.Sent serial generation (suc i) 0 packet.bytes) ∷ ms
 
@@ -589,12 +612,14 @@ module _ (ready : Bool) (action : Action) (past : List Moment) (i : ℕ) (s : In
             (ask_keeps s.layer s.target (wanted_body x.demand.wanted) x.demand.purpose x.asked act_turn.1.layer called_now x.step s.target p.number (Some (purposes.State act p.list)) p.at);
         held =
             ap (λ g. (terms now).held (transaction g (suc i) 0 p.number)) stays
-            ∙ sent_waits (terms ms) serial sending f.sent.0 (transaction s.layer.generation (suc i) 0 p.number) p.kind read.serial (ap (λ (y : Terms). y.held (transaction s.layer.generation (suc i) 0 p.number)) told.wire ∙ p.held);
+            ∙ sent_waits (terms ms) serial sending f.sent.0 (transaction s.layer.generation (suc i) 0 p.number) p.kind read.serial
+                (ap (λ (y : Terms). y.held (transaction s.layer.generation (suc i) 0 p.number)) told.wire ∙ p.held);
         order = λ u e r g. by begins refl u e r g;
         below = (let b = p.below in let c = count_is in let d = count_now in omega (arith, b, c, d));
       }
         where
-          by : (o : Option Operation) → begins ≡ o → (u : Underway) → (host_at now i).operation ≡ Some u → (r : Running) → act_turn.1.operation ≡ Some r → nat_lt u.first read.serial ≡ nat_lt r.act act
+          by : (o : Option Operation) → begins ≡ o → (u : Underway) → (host_at now i).operation ≡ Some u → (r : Running) → act_turn.1.operation ≡ Some r
+              → nat_lt u.first read.serial ≡ nat_lt r.act act
           by None o u e r g =
               let w = (goes_now (same_operation action ∙ o)).on u e in
               ap (λ n. nat_lt n read.serial) (sym w.first) ∙ p.order w.was w.is r (was_running None o r g refl)
@@ -664,17 +689,21 @@ module _ (ready : Bool) (action : Action) (past : List Moment) (i : ℕ) (s : In
       asking_pairs false e z =
           subst (λ acts. AreZipped (IsPair now i act_turn.1) (Reads now i) acts) (sym (states_now ∙ ap (λ b. cond b (s.states ++ s.counts.acts ∷ []) s.states) e))
           (subst (λ rs. AreZipped (IsPair now i act_turn.1) rs s.states)
-          (sym (ap (λ (y : Host). y.reads) host_is ∙ acted_reads action (present_list ms i) serial (host_at ms i) (λ is. untrue (sym e ∙ ap is_read is)) ∙ told_reads act_turn.0.sides past i left.told))
+          (sym (ap (λ (y : Host). y.reads) host_is ∙ acted_reads action (present_list ms i) serial (host_at ms i) (λ is. untrue (sym e ∙ ap is_read is))
+              ∙ told_reads act_turn.0.sides past i left.told))
           (zipped_map (IsPair past i s) (IsPair now i act_turn.1) old_pair (Reads past i) s.states z))
       asking_pairs true e z =
           let is = is_state action e in
           subst (λ acts. AreZipped (IsPair now i act_turn.1) (Reads now i) acts) (sym (states_now ∙ ap (λ b. cond b (s.states ++ s.counts.acts ∷ []) s.states) e))
           (subst (λ rs. AreZipped (IsPair now i act_turn.1) rs (s.states ++ s.counts.acts ∷ []))
-          (sym (ap (λ (y : Host). y.reads) host_is ∙ ap (λ a. (acted a (operation_of a) (present_list ms i) serial (host_at ms i)).reads) is ∙ ap (λ rs. rs ++ new_read is ∷ []) (told_reads act_turn.0.sides past i left.told)))
+          (sym (ap (λ (y : Host). y.reads) host_is ∙ ap (λ a. (acted a (operation_of a) (present_list ms i) serial (host_at ms i)).reads) is
+              ∙ ap (λ rs. rs ++ new_read is ∷ []) (told_reads act_turn.0.sides past i left.told)))
           (zipped_more (IsPair past i s) (IsPair now i act_turn.1) old_pair (Reads past i) s.states (new_read is) s.counts.acts (new_pair is) z))
 
       first_now : (o : Option Operation) → begins ≡ o → (u : Underway) → (host_at now i).operation ≡ Some u → u.first ≤ (terms now).count
-      first_now None o u e = (let w = (goes_now (same_operation action ∙ o)).on u e in let b = h.first fit_past w.was w.is in let same = w.first in let c = count_is in let d = count_now in omega (arith, b, same, c, d))
+      first_now None o u e =
+          (let w = (goes_now (same_operation action ∙ o)).on u e in let b = h.first fit_past w.was w.is in let same = w.first in let c = count_is in let d =
+          count_now in omega (arith, b, same, c, d))
       first_now (Some operation) o u e = (let a = first_is operation (same_operation action ∙ o) u e in let n = f.serials.0 in let d = count_now in omega (arith, a, n, d))
 
   does_paired : Does (Paired ready) past i act_turn
@@ -689,7 +718,8 @@ module _ (ready : Bool) (action : Action) (past : List Moment) (i : ℕ) (s : In
         };
         asking = λ packet one serial generation injected q. record {
           guarded = g.asking packet one serial generation injected q;
-          pairs = λ f m. asking_pairs packet one serial generation injected q f (is_read action) refl (h.pairs (fit_past packet one serial generation injected q f) (told_timely act_turn.0.sides past left.told m.1));
+          pairs = λ f m. asking_pairs packet one serial generation injected q f (is_read action) refl
+              (h.pairs (fit_past packet one serial generation injected q f) (told_timely act_turn.0.sides past left.told m.1));
           first = λ f. first_now packet one serial generation injected q f begins refl;
         };
       }
@@ -730,8 +760,10 @@ first_paired line i initiators ready b =
 pub paired_of_runs : (line : ℕ) (run : Run) → IsRun run → (i : ℕ) → i < run.initiators → Paired run.ready (history_of line run) i (initiator_of run i)
 paired_of_runs line run r i b = of_runs (Paired run.ready) (paired_carried run.ready) line run (ready_known line run) (λ j c. first_paired line j run.initiators run.ready c) r i b
 
-pub paired_between : (line : ℕ) (run : Run) → IsRun run → (next : ℕ) (most : Option ℕ) (told : List (Option Told_by)) → MayAll told (begun (world_after (beginning run) run.entries)) → (i : ℕ) → i < run.initiators
-    → (let w = (after_all told (begun (world_after (beginning run) run.entries))).world in Paired run.ready (map said w.fresh ++ asked next (more_deliveries most) ∷ history_of line run) i (initiator_at w i))
+pub paired_between : (line : ℕ) (run : Run) → IsRun run → (next : ℕ) (most : Option ℕ) (told : List (Option Told_by)) → MayAll told (begun (world_after (beginning run) run.entries)) → (i : ℕ)
+    → i < run.initiators
+    → (let w = (after_all told (begun (world_after (beginning run) run.entries))).world in Paired run.ready (map said w.fresh ++ asked next (more_deliveries most) ∷ history_of line run) i
+        (initiator_at w i))
 paired_between line run r next most told m i b =
     between_runs (Paired run.ready) (paired_carried run.ready) line run (ready_known line run) (λ j c. first_paired line j run.initiators run.ready c) r next most told m i b
 
@@ -750,7 +782,8 @@ module _ (past : List Moment) (i : ℕ) (s : InitiatorState) where
     in_order [] (act ∷ acts) z = absurd z
     in_order (read ∷ reads) [] z = absurd z
 
-  pub resets_of : work_of (host_at past i).operation ≡ work_in s.operation → AreZipped (IsPair past i s) (Reads past i) s.states → AreReset (host_at past i).operation s.operation (Reads past i) s.states
+  pub resets_of : work_of (host_at past i).operation ≡ work_in s.operation → AreZipped (IsPair past i s) (Reads past i) s.states
+      → AreReset (host_at past i).operation s.operation (Reads past i) s.states
   resets_of work z = by (host_at past i).operation s.operation refl refl work
     where
       by : (u : Option Underway) (r : Option Running) → (host_at past i).operation ≡ u → s.operation ≡ r → work_of u ≡ work_in r → AreReset u r (Reads past i) s.states

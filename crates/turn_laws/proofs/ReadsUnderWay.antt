@@ -1,5 +1,5 @@
--- A read of AGENT_STATE that the terms have under way and one of its initiator are of one transaction. What a packet that is judged, or a time-out, leaves of both: a transaction that ends takes its read
--- out of both, and every other one leaves them.
+-- A read of AGENT_STATE that the terms have under way and one of its initiator are of one transaction. What a packet that is judged, or a time-out, leaves
+-- of both: a transaction that ends takes its read out of both, and every other one leaves them.
 use Rattle.std.proofs.Common.{arith, ◌≡◌, inl, inr, ◌⊎◌, refl, sym, ◌∙◌, ap, subst, ℕ, suc, ◌+◌, ◌<◌, ◌≤◌, ◌==◌, ◌&&◌, nat_eq, nat_lt, is_some, not, Bool, true, false, cond, List, [], ◌∷◌, Option, Some, None, Result, Ok, Err}
 use Rattle.std.specs.List.{filter}
 use Rattle.std.proofs.lemmas.Bool.Decides.{nat_tests}
@@ -54,13 +54,20 @@ use Rattle.sbp_world.specs.Hosts.Calls.{behind}
 use Rattle.turn_laws.proofs.HostReads.{Reads, all_kept, is_gone, over_if, told_reads}
 use Rattle.turn_laws.proofs.ReadPairs.{AreZipped, Fate, was_kept, zipped_filter}
 
+-- a transaction of an initiator with its target waits under a label; a read of AGENT_STATE of an action is under way there
+abbrev pub WaitsAt : List Moment → (i : ℕ) → Layer Purpose → (number : ℕ) → Kind → (serial : ℕ) → Type 0
+WaitsAt past i layer number kind serial = (terms past).held (transaction layer.generation (suc i) 0 number) ≡ waits kind serial
+
+abbrev pub StateAt : Layer Purpose → (target number act : ℕ) → Option ℕ → Type 0
+StateAt layer target number act list = At layer target number (Some (purposes.State act list))
+
 -- Both are of one transaction that is under way, and both began behind the operation under way, or before it.
 pub record IsPair (past : List Moment) (i : ℕ) (s : InitiatorState) (one : StateRead) (act : ℕ) : Type 0 where
   pub number : ℕ
   pub list : Option ℕ
   pub kind : Kind
-  pub at : At s.layer s.target number (Some (purposes.State act list))
-  pub held : (terms past).held (transaction s.layer.generation (suc i) 0 number) ≡ waits kind one.serial
+  pub at : StateAt s.layer s.target number act list
+  pub held : WaitsAt past i s.layer number kind one.serial
   pub order : (u : Underway) → (host_at past i).operation ≡ Some u → (r : Running) → s.operation ≡ Some r → nat_lt u.first one.serial ≡ nat_lt r.act act
   pub below : one.serial ≤ (terms past).count
 
@@ -98,7 +105,8 @@ record Awaited (t : Terms) (serial : ℕ) : Type 0 where
   kind : Kind
   held : t.held u ≡ waits kind serial
 
-awaited_held : (t : Terms) (serial : ℕ) (packet : Sending) → t.sent serial ≡ Some packet → (u : Transaction) → begun_by packet ≡ Some u → (now : Bool) (held : Held) → t.held u ≡ held → (now && is_waiting_for held serial) ≡ true → Awaited t serial
+awaited_held : (t : Terms) (serial : ℕ) (packet : Sending) → t.sent serial ≡ Some packet → (u : Transaction) → begun_by packet ≡ Some u → (now : Bool) (held : Held) → t.held u ≡ held
+    → (now && is_waiting_for held serial) ≡ true → Awaited t serial
 awaited_held t serial packet e u b false held h f = untrue f
 awaited_held t serial packet e u b true free h f = untrue f
 awaited_held t serial packet e u b true rests h f = untrue f
@@ -144,7 +152,8 @@ module _ (past : List Moment) (serials : SerialsCount past) where
     module _ (v : Transaction) (k : Kind) (n : ℕ) (h : T.held v ≡ waits k n) where
       -- it answers another request, or none
       module _ (e : is_gone own n ≡ false) where
-        apart : (label : ℕ) (kind : Kind) → part_of q.bytes ≡ response label kind → (other : ℕ) → closed_by (T.held (between q q.to q.from label)) kind ≡ Some other → is_same v (between q q.to q.from label) ≡ false
+        apart : (label : ℕ) (kind : Kind) → part_of q.bytes ≡ response label kind → (other : ℕ) → closed_by (T.held (between q q.to q.from label)) kind ≡ Some other
+            → is_same v (between q q.to q.from label) ≡ false
         apart label kind p other f = by (is_same v (between q q.to q.from label)) refl
           where
             by : (b : Bool) → is_same v (between q q.to q.from label) ≡ b → is_same v (between q q.to q.from label) ≡ false
@@ -277,7 +286,8 @@ module _ (layer : Layer Purpose) (peer number : ℕ) (purpose : Option Purpose) 
   reading_runs (Err fault) = w
   reading_runs (Ok p) = unknown_runs (reply_kind p) p
 
-  closed_runs : (kind : Option ReplyKind) (p : Packet) (label : LabelParts) (other : Option Purpose) → At layer (header_in p).source label.number other → Runs (life peer name (and_before (told_closed p label other kind) lived)) ⊎ (other ≡ purpose)
+  closed_runs : (kind : Option ReplyKind) (p : Packet) (label : LabelParts) (other : Option Purpose) → At layer (header_in p).source label.number other
+      → Runs (life peer name (and_before (told_closed p label other kind) lived)) ⊎ (other ≡ purpose)
   closed_runs None p label other a = inl w
   closed_runs (Some kind) p label other a = by (is_same_name (header_in p).source label peer name) refl
     where
@@ -285,7 +295,8 @@ module _ (layer : Layer Purpose) (peer number : ℕ) (purpose : Option Purpose) 
       by true e = inr (for_this (header_in p).source label other a e)
       by false e = inl w
 
-  found_runs : (finding : Finding Purpose) (bytes : List ℕ) → ((p : Packet) (label : LabelParts) (other : Option Purpose) → finding ≡ of_response p label other → At layer (header_in p).source label.number other)
+  found_runs : (finding : Finding Purpose) (bytes : List ℕ)
+      → ((p : Packet) (label : LabelParts) (other : Option Purpose) → finding ≡ of_response p label other → At layer (header_in p).source label.number other)
       → Runs (life peer name (and_before (told_by_finding finding bytes) lived)) ⊎ ClosedFor finding purpose
   found_runs of_generation bytes f = inl w
   found_runs of_grammar bytes f = inl w
@@ -296,7 +307,8 @@ module _ (layer : Layer Purpose) (peer number : ℕ) (purpose : Option Purpose) 
 
   pub judge_goes : (generation : ℕ) (bytes : List ℕ) → At (judging_step layer generation bytes).1 peer number purpose ⊎ ClosedFor (judging_step layer generation bytes).0 purpose
   judge_goes generation bytes =
-      by (found_runs (judging_step old generation bytes).0 bytes (λ p label other e. closes_at layer generation bytes p label other c (ap (λ (l : Layer Purpose). (judging_step l generation bytes).0) (sym c.is) ∙ e)))
+      by (found_runs (judging_step old generation bytes).0 bytes
+          (λ p label other e. closes_at layer generation bytes p label other c (ap (λ (l : Layer Purpose). (judging_step l generation bytes).0) (sym c.is) ∙ e)))
     where
       by : Runs (life peer name (and_before (told_by_finding (judging_step old generation bytes).0 bytes) lived)) ⊎ ClosedFor (judging_step old generation bytes).0 purpose
           → At (judging_step layer generation bytes).1 peer number purpose ⊎ ClosedFor (judging_step layer generation bytes).0 purpose
@@ -360,28 +372,30 @@ lapsed_left (Ok purpose) acts = over_reads purpose acts
 lapsed_left (Err stale) acts = sym (all_kept acts)
 
 -- ---- behind a packet that was judged, or a time-out, and what is told then
-forward : (l : Layer Purpose) (target : ℕ) (now : Layer Purpose) (number : ℕ) (purpose : Option Purpose) → Called l → LayerLeft l target now → At l target number purpose → At now target number purpose
+forward : (l : Layer Purpose) (target : ℕ) (now : Layer Purpose) (number : ℕ) (purpose : Option Purpose) → Called l → LayerLeft l target now → At l target number purpose
+    → At now target number purpose
 forward l target now number purpose c (same g p) a = at_same l now target number purpose p a
 forward l target now number purpose c (read body act asked step) a = ask_keeps l target body (purposes.Rom act) asked now c step target number purpose a
 
-record Waits (h : Held) : Type 0 where
-  kind : Kind
-  serial : ℕ
-  is : h ≡ waits kind serial
+-- a request waits
+pub record Waiting (h : Held) : Type 0 where
+  pub kind : Kind
+  pub serial : ℕ
+  pub is : h ≡ waits kind serial
 
-waits_by : (h : Held) (kind : ReplyKind) → awaits kind ≡ shape_of h → Waits h
-waits_by free kind e = absurd (let no : awaits kind ≡ shape_of free = e in cc)
-waits_by rests kind e = absurd (let no : awaits kind ≡ shape_of rests = e in cc)
-waits_by (waits kind serial) other e = record { kind = kind; serial = serial; is = refl }
+pub waits_now : (h : Held) (kind : ReplyKind) → shape_of h ≡ awaits kind → Waiting h
+waits_now (waits kind serial) other e = record { kind = kind; serial = serial; is = refl }
+waits_now free other e = absurd (let no : shape_of free ≡ awaits other = e in cc)
+waits_now rests other e = absurd (let no : shape_of rests ≡ awaits other = e in cc)
 
 module _ (past now : List Moment) (i : ℕ) (s : InitiatorState) (l : Layer Purpose) (t : Turn) (gone ended : Option ℕ)
     (shown : IsShown now i s.target l) (generation_is : l.generation ≡ s.layer.generation) (called : Called l) (left : Left l s.target t)
-    (stays : (m : ℕ) (k : Kind) (n : ℕ) → (terms past).held (transaction s.layer.generation (suc i) 0 m) ≡ waits k n → is_gone gone n ≡ false → (terms now).held (transaction s.layer.generation (suc i) 0 m) ≡ waits k n)
-    (ends : (m : ℕ) (k : Kind) (n : ℕ) → (terms past).held (transaction s.layer.generation (suc i) 0 m) ≡ waits k n → is_gone gone n ≡ true → (k' : Kind) (n' : ℕ) → (terms now).held (transaction s.layer.generation (suc i) 0 m) ≡ waits k' n' → ⊥)
+    (stays : (m : ℕ) (k : Kind) (n : ℕ) → WaitsAt past i s.layer m k n → is_gone gone n ≡ false → WaitsAt now i s.layer m k n)
+    (ends : (m : ℕ) (k : Kind) (n : ℕ) → WaitsAt past i s.layer m k n → is_gone gone n ≡ true → (k' : Kind) (n' : ℕ) → WaitsAt now i s.layer m k' n' → ⊥)
     (back : (m : ℕ) (purpose : Option Purpose) → At l s.target m purpose → At s.layer s.target m purpose)
-    (on : (m act : ℕ) (list : Option ℕ) → At s.layer s.target m (Some (purposes.State act list)) → At l s.target m (Some (purposes.State act list)) ⊎ (ended ≡ Some act))
+    (on : (m act : ℕ) (list : Option ℕ) → StateAt s.layer s.target m act list → StateAt l s.target m act list ⊎ (ended ≡ Some act))
     (goes : Goes (host_at past i) (host_at now i)) (count : (terms past).count ≤ (terms now).count) (operation : (t.1.operation ≡ s.operation) ⊎ (t.1.operation ≡ None))
-    (lives : (m act : ℕ) (list : Option ℕ) → At t.1.layer t.1.target m (Some (purposes.State act list)) → has_read act t.1.states ≡ true)
+    (lives : (m act : ℕ) (list : Option ℕ) → StateAt t.1.layer t.1.target m act list → has_read act t.1.states ≡ true)
     (states : t.1.states ≡ Left_of ended s.states) (reads : Reads now i ≡ filter (λ (r : StateRead). not (is_gone gone r.serial)) (Reads past i)) where
   abbrev later : List Moment
   later = behind t.0.sides now
@@ -420,26 +434,27 @@ module _ (past now : List Moment) (i : ℕ) (s : InitiatorState) (l : Layer Purp
     goes_out : is_gone gone r.serial ≡ true → ended ≡ Some act
     goes_out e = by (on p.number act p.list p.at)
       where
-        by : At l s.target p.number (Some (purposes.State act p.list)) ⊎ (ended ≡ Some act) → ended ≡ Some act
+        by : StateAt l s.target p.number act p.list ⊎ (ended ≡ Some act) → ended ≡ Some act
         by (inr f) = f
         by (inl a) =
-            let x = waits_by ((terms now).held (transaction l.generation (suc i) 0 p.number)) a.kind (sym (ap shape a.state) ∙ shown.states p.number) in
+            let x = waits_now ((terms now).held (transaction l.generation (suc i) 0 p.number)) a.kind (sym (shown.states p.number) ∙ ap shape a.state) in
             absurd (ends p.number p.kind r.serial p.held e x.kind x.serial (ap (λ g. (terms now).held (transaction g (suc i) 0 p.number)) (sym generation_is) ∙ x.is))
 
     -- it goes on
     module _ (e : is_gone gone r.serial ≡ false) where
-      held_now : (terms now).held (v p.number) ≡ waits p.kind r.serial
+      held_now : WaitsAt now i s.layer p.number p.kind r.serial
       held_now = stays p.number p.kind r.serial p.held e
 
-      at_now : At l s.target p.number (Some (purposes.State act p.list))
+      at_now : StateAt l s.target p.number act p.list
       at_now =
-          let u = under_way_now (state_for l.peers s.target p.number) (kind_as p.kind) (shown.states p.number ∙ ap (λ g. shape_of ((terms now).held (transaction g (suc i) 0 p.number))) generation_is ∙ ap shape_of held_now) in
+          let u = under_way_now (state_for l.peers s.target p.number) (kind_as p.kind)
+              (shown.states p.number ∙ ap (λ g. shape_of ((terms now).held (transaction g (suc i) 0 p.number))) generation_is ∙ ap shape_of held_now) in
           let x : At l s.target p.number (purpose_for l.peers s.target p.number) = record { kind = u.kind; serial = u.serial; state = u.is; is_for = refl } in
           let c = back p.number (purpose_for l.peers s.target p.number) x in
           record { kind = u.kind; serial = u.serial; state = u.is; is_for = sym c.is_for ∙ p.at.is_for }
 
-      at_then : At t.1.layer t.1.target p.number (Some (purposes.State act p.list))
-      at_then = subst (λ n. At t.1.layer n p.number (Some (purposes.State act p.list))) (sym left.target_is) (forward l s.target t.1.layer p.number (Some (purposes.State act p.list)) called left.layer at_now)
+      at_then : StateAt t.1.layer t.1.target p.number act p.list
+      at_then = subst (λ n. StateAt t.1.layer n p.number act p.list) (sym left.target_is) (forward l s.target t.1.layer p.number (Some (purposes.State act p.list)) called left.layer at_now)
 
       stays_in : stay act ≡ true
       stays_in = ap not (was_kept (λ (other : ℕ). is_gone ended other) act s.states (ap (λ (acts : List ℕ). has_read act acts) (sym states) ∙ lives p.number act p.list at_then))

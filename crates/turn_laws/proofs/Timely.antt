@@ -69,7 +69,8 @@ module _ (units ready : ℕ) (start : List Disk) where
     was_under_way : (expires request w).0 ≡ true → is_under_way (terms (hist past w)) serial ≡ true
     was_under_way e = ap (λ (t : Terms). is_under_way t serial) (sym (past_terms w here.holds.sound.stands)) ∙ expired_was w here.holds.sound.stands serial request found aimed e
 
-    target_timely : request.node ≡ 0 → (done : Unit {0}) (t : target.Scene) → expired request.peer request.label (target.scene w.target empty_outbox) ≡ (Ok done, t) → is_under_way (terms (hist past w)) serial ≡ true
+    target_timely : request.node ≡ 0 → (done : Unit {0}) (t : target.Scene) → expired request.peer request.label (target.scene w.target empty_outbox) ≡ (Ok done, t)
+        → is_under_way (terms (hist past w)) serial ≡ true
     unfolding expires target_expired
     target_timely node_is done t e =
         was_under_way
@@ -77,14 +78,16 @@ module _ (units ready : ℕ) (start : List Disk) where
         ∙ at_target_is (target_left (expired request.peer request.label (target.scene w.target empty_outbox)) w.target) w
         ∙ ap (λ y. (target_left y w.target).0) e)
 
-    own_timely : (i : ℕ) → request.node ≡ suc i → i < length w.initiators → (outbox : OutboxState) (state : InitiatorState) → expire_step request.label empty_outbox (initiator_at w i) ≡ (true, (outbox, state)) → is_under_way (terms (hist past w)) serial ≡ true
+    own_timely : (i : ℕ) → request.node ≡ suc i → i < length w.initiators → (outbox : OutboxState) (state : InitiatorState)
+        → expire_step request.label empty_outbox (initiator_at w i) ≡ (true, (outbox, state)) → is_under_way (terms (hist past w)) serial ≡ true
     unfolding expires
     own_timely i node_is inside outbox state e =
         let other : nat_eq request.node 0 ≡ false = grind (arith, nat_tests) in
         let there : nat_lt i (length w.initiators) ≡ true = grind (arith, nat_tests) in
         was_under_way
         (ap (λ b. (cond b (at_target (target_expired request w.target) w) (initiator_expires request w)).0) other
-        ∙ ap (λ j. (cond (nat_lt j (length w.initiators)) (at_initiator j (expire_step request.label empty_outbox (initiator_at w j)) w) (false, (empty_outbox, w))).0) (let z : request.node - 1 ≡ i = omega arith in z)
+        ∙ ap (λ j. (cond (nat_lt j (length w.initiators)) (at_initiator j (expire_step request.label empty_outbox (initiator_at w j)) w) (false, (empty_outbox, w))).0)
+            (let z : request.node - 1 ≡ i = omega arith in z)
         ∙ ap (λ b. (cond b (at_initiator i (expire_step request.label empty_outbox (initiator_at w i)) w) (false, (empty_outbox, w))).0) there
         ∙ at_own_is i (expire_step request.label empty_outbox (initiator_at w i)) w
         ∙ ap (λ (y : Bool × _). y.0) e)
@@ -134,5 +137,6 @@ module _ (L : Turn → Type 0) where
       let law = of_every_run (λ start. Timely L) cases in
       record {
         after_lines = λ line run r has small size. each_then _ [] (timely_law.after_lines line run r has small size) (law.after_lines line run r has small size);
-        between = λ line run r has small size next most told may. each_then _ [] (timely_law.between line run r has small size next most told may) (law.between line run r has small size next most told may);
+        between = λ line run r has small size next most told may. each_then _ [] (timely_law.between line run r has small size next most told may)
+            (law.between line run r has small size next most told may);
       }

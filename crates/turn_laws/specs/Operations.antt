@@ -25,8 +25,8 @@ ends_own (said (notes.Got serial)) wire = of_initiator (receiver_in (wire.sent s
 ends_own (said (notes.TimedOut serial)) wire = of_initiator (sender_in (wire.sent serial))
 ends_own moment wire = false
 
-abbrev pub StatusesEnd : Turn → Type 0
-StatusesEnd t = ends_own t.start (terms t.past) ≡ false → OperationsStand t
+abbrev pub StandsWhereNoneEnds : Turn → Type 0
+StandsWhereNoneEnds t = ends_own t.start (terms t.past) ≡ false → OperationsStand t
 
-abbrev pub StatusEndsLaw : Type 0
-StatusEndsLaw = OfEveryRun (λ start past. EachTurn StatusesEnd past)
+abbrev pub NoneEndsLaw : Type 0
+NoneEndsLaw = OfEveryRun (λ start past. EachTurn StandsWhereNoneEnds past)
