@@ -39,7 +39,7 @@ use Rattle.sbp_journal.specs.Addresses.{Access}
 use Rattle.sbp_journal.specs.Outgoings.{OutboxState, empty_outbox}
 use Rattle.sbp_journal.specs.Run.{Moment, said}
 use Rattle.sbp_journal.specs.Transactions.{Kind, Sending, Transaction, asked_as, asked_by, begun_by, between, locking, part_in, part_of, reading_block, reading_quadlet, request as request_part, response, writing}
-use Rattle.sbp_journal.specs.Wire.{Held, Terms, free, rests, terms, waits}
+use Rattle.sbp_journal.specs.Wire.{Terms, terms, waits}
 use Rattle.sbp_journal.specs.declared.cause.Judged.{Judged}
 use Rattle.sbp_journal.specs.declared.cause.Judged.TheVariants as judgements
 use Rattle.sbp_journal.specs.declared.note.Note.TheVariants as notes
@@ -65,7 +65,7 @@ use Rattle.sbp_world.specs.Wire.Wires.{Stands}
 use Rattle.sbp_world.specs.Worlds.{Scene, WorldState, initiator_at}
 use Rattle.bus_transactions.specs.Judging.{AreJudged}
 use Rattle.bus_transactions.specs.Reached.{IsAwaited}
-use Rattle.bus_transactions.specs.Rows.{awaits, shape, shape_of}
+use Rattle.bus_transactions.specs.Rows.{shape, shape_of}
 use Rattle.bus_transactions.proofs.Facts.{begun_asked}
 use Rattle.bus_transactions.proofs.Reaches.{goes_on}
 use Rattle.sbp_world.specs.Wire.Knows.{IsLatest}

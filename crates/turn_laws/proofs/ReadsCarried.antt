@@ -6,13 +6,12 @@ use Rattle.std.proofs.lemmas.Option.{same_Some}
 use Rattle.async_packet.specs.Labels.{LabelParts}
 use Rattle.bus_transactions.specs.Wire.{transaction}
 use Rattle.bus_transactions.proofs.Facts.{asked_begun, request_asked}
-use Rattle.label_table.specs.History.{under_way}
 use Rattle.label_table.specs.History as wire
 use Rattle.label_table.specs.Layer.{Finding, Layer, expiring_step, judging_step, of_again, of_generation, of_grammar, of_label, of_request, of_response, seeing_step}
 use Rattle.label_table.specs.declared.judgement.Asked.{Asked}
 use Rattle.label_table.specs.declared.reply.Stale.{Stale}
 use Rattle.sbp_bus.specs.Packets.{judged_note}
-use Rattle.sbp_initiator.specs.Acting.{act_step, asked_as, asked_for, counted_list, demand_of, demanded_as, done_step, facts_with, judged_as, register_of}
+use Rattle.sbp_initiator.specs.Acting.{act_step, asked_as, asked_for, counted_list, demand_of, done_step, facts_with, judged_as, register_of}
 use Rattle.sbp_initiator.specs.Effects.{Turn}
 use Rattle.sbp_initiator.specs.Initiators.{new_state}
 use Rattle.sbp_initiator.specs.Receiving.{expire_step, receive_step}
@@ -34,11 +33,11 @@ use Rattle.sbp_initiator.proofs.FirstRow.{refusal_law}
 use Rattle.sbp_initiator.proofs.Histories.Known.{mark_law}
 use Rattle.sbp_initiator.proofs.Histories.Over.{counted_now, pointed_now, sound}
 use Rattle.sbp_initiator.proofs.Histories.Purposes.{IsOf, all_began, life_of}
-use Rattle.sbp_initiator.proofs.Histories.Runs.{FitsNow, IsEarlier, act_in}
-use Rattle.sbp_journal.specs.Outgoings.{OutboxState, empty_outbox}
+use Rattle.sbp_initiator.proofs.Histories.Runs.{FitsNow}
+use Rattle.sbp_journal.specs.Outgoings.{empty_outbox}
 use Rattle.sbp_journal.specs.Run.{Moment, asked, said}
 use Rattle.sbp_journal.specs.Transactions.{Kind, Sending, Transaction, between, part_of}
-use Rattle.sbp_journal.specs.Wire.{Held, Terms, kind_in, terms, waits}
+use Rattle.sbp_journal.specs.Wire.{Held, Terms, kind_in, terms}
 use Rattle.sbp_journal.specs.declared.cause.Judged.{Judged}
 use Rattle.sbp_journal.specs.declared.cause.Judged.TheVariants as judgements
 use Rattle.sbp_journal.specs.declared.event.Action.{Action}
@@ -54,7 +53,7 @@ use Rattle.sbp_journal.specs.declared.side.Side.TheVariants as sides
 use Rattle.sbp_laws.specs.Hosts.{Host, StateRead, Underway, acted, host_at, is_serial, new_host, operation_of, ready_host, reset_seen, told_of}
 use Rattle.sbp_laws.specs.Lists.{present_list}
 use Rattle.sbp_laws.specs.Packets.{answered_at, sender_in}
-use Rattle.sbp_laws.specs.Turns.{EachMoment, event_of}
+use Rattle.sbp_laws.specs.Turns.{event_of}
 use Rattle.sbp_world.proofs.Common.{least, none_is, some_none, untrue}
 use Rattle.sbp_world.proofs.Hosts.ActLeft.{ActLeft, HasAsked, act_left}
 use Rattle.sbp_world.proofs.Hosts.Alone.{call_same}
@@ -95,7 +94,7 @@ use Rattle.sbp_world.specs.Hosts.Runs.{IsRun, more_deliveries}
 use Rattle.sbp_world.specs.Runs.{Run, after as world_after, beginning}
 use Rattle.sbp_world.specs.Settling.{MayAll, after_all}
 use Rattle.sbp_world.specs.Worlds.{begun, initiator_at}
-use Rattle.rbc_disk.specs.Runs.{Told as Told_by}
+use Rattle.rbc_disk.specs.Runs.{Told as ToldRun}
 use Rattle.sbp_world.specs.Hosts.Calls.{behind}
 use Rattle.turn_laws.proofs.HostReads.{Reads, acted_reads, all_kept, apart_reads, got_reads, is_gone, late_reads, over_if, seen_reads, sent_reads, told_reads}
 use Rattle.turn_laws.proofs.ReadPairs.{AreZipped, zipped_map, zipped_more}
@@ -760,10 +759,13 @@ first_paired line i initiators ready b =
 pub paired_of_runs : (line : ℕ) (run : Run) → IsRun run → (i : ℕ) → i < run.initiators → Paired run.ready (history_of line run) i (initiator_of run i)
 paired_of_runs line run r i b = of_runs (Paired run.ready) (paired_carried run.ready) line run (ready_known line run) (λ j c. first_paired line j run.initiators run.ready c) r i b
 
-pub paired_between : (line : ℕ) (run : Run) → IsRun run → (next : ℕ) (most : Option ℕ) (told : List (Option Told_by)) → MayAll told (begun (world_after (beginning run) run.entries)) → (i : ℕ)
-    → i < run.initiators
-    → (let w = (after_all told (begun (world_after (beginning run) run.entries))).world in Paired run.ready (map said w.fresh ++ asked next (more_deliveries most) ∷ history_of line run) i
-        (initiator_at w i))
+abbrev pub PairedBetween : Run → (line next : ℕ) → Option ℕ → List (Option ToldRun) → ℕ → Type 0
+PairedBetween run line next most told i =
+    let w = (after_all told (begun (world_after (beginning run) run.entries))).world in
+    Paired run.ready (map said w.fresh ++ asked next (more_deliveries most) ∷ history_of line run) i (initiator_at w i)
+
+pub paired_between : (line : ℕ) (run : Run) → IsRun run → (next : ℕ) (most : Option ℕ) (told : List (Option ToldRun))
+    → MayAll told (begun (world_after (beginning run) run.entries)) → (i : ℕ) → i < run.initiators → PairedBetween run line next most told i
 paired_between line run r next most told m i b =
     between_runs (Paired run.ready) (paired_carried run.ready) line run (ready_known line run) (λ j c. first_paired line j run.initiators run.ready c) r next most told m i b
 

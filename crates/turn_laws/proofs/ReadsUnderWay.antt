@@ -1,8 +1,7 @@
 -- A read of AGENT_STATE that the terms have under way and one of its initiator are of one transaction. What a packet that is judged, or a time-out, leaves
 -- of both: a transaction that ends takes its read out of both, and every other one leaves them.
-use Rattle.std.proofs.Common.{arith, ◌≡◌, inl, inr, ◌⊎◌, refl, sym, ◌∙◌, ap, subst, ℕ, suc, ◌+◌, ◌<◌, ◌≤◌, ◌==◌, ◌&&◌, nat_eq, nat_lt, is_some, not, Bool, true, false, cond, List, [], ◌∷◌, Option, Some, None, Result, Ok, Err}
+use Rattle.std.proofs.Common.{arith, ◌≡◌, inl, inr, ◌⊎◌, refl, sym, ◌∙◌, ap, subst, ℕ, suc, ◌≤◌, ◌==◌, ◌&&◌, nat_eq, nat_lt, not, Bool, true, false, cond, List, ◌∷◌, Option, Some, None, Result, Ok, Err}
 use Rattle.std.specs.List.{filter}
-use Rattle.std.proofs.lemmas.Bool.Decides.{nat_tests}
 use Rattle.std.proofs.lemmas.Option.{same_Some}
 use Rattle.async_packet.specs.Fields.{rcode_of}
 use Rattle.async_packet.specs.Labels.{LabelParts}
@@ -27,24 +26,23 @@ use Rattle.sbp_initiator.specs.declared.purpose.Purpose.{Purpose}
 use Rattle.sbp_initiator.specs.declared.purpose.Purpose.TheVariants as purposes
 use Rattle.sbp_initiator.specs.declared.purpose.Running.{Running}
 use Rattle.sbp_initiator.specs.declared.state.InitiatorState.{InitiatorState}
-use Rattle.sbp_initiator.proofs.Histories.Lives.{Same, read_act, same_of}
+use Rattle.sbp_initiator.proofs.Histories.Lives.{read_act, same_of}
 use Rattle.sbp_journal.specs.Run.{Moment, said}
 use Rattle.sbp_journal.specs.Transactions.{Kind, Part, Sending, Transaction, asked_by, begun_by, between, is_same, is_same_kind, no_packet, part_of, request, response}
 use Rattle.sbp_journal.specs.Wire.{Held, Terms, arrives, begun_in, closes, closes_if, free, gets, gets_as, is_news, is_served, rests, terms, times_out, waits}
 use Rattle.sbp_journal.specs.declared.note.Note.TheVariants as notes
-use Rattle.sbp_journal.specs.declared.side.Side.{Side}
 use Rattle.sbp_laws.specs.Hosts.{StateRead, Underway, host_at, is_serial}
 use Rattle.sbp_laws.specs.Packets.{answered_as, answered_at, answered_in, closed_by, is_under_way, is_waiting_for, sender_in, waits_for}
 use Rattle.sbp_laws.specs.Packets as packets
 use Rattle.sbp_laws.specs.Turns.{EachMoment}
 use Rattle.sbp_world.proofs.Agents.Management.Still.{judges_held}
 use Rattle.sbp_world.proofs.Common.{cond_off, cond_on, equal, none_is, same_number, untrue}
-use Rattle.sbp_world.proofs.Hosts.Layered.{AreTame, LayerLeft, Left, read, same}
+use Rattle.sbp_world.proofs.Hosts.Layered.{LayerLeft, Left, read, same}
 use Rattle.sbp_world.proofs.Hosts.Lives.{At, Called, ask_keeps, at_life}
 use Rattle.sbp_world.proofs.Hosts.PointerNotes.{tame_told}
 use Rattle.sbp_world.proofs.Hosts.Pointing.{at_same, under_way_now}
 use Rattle.sbp_world.proofs.Hosts.Shown.{IsShown}
-use Rattle.sbp_world.proofs.Lists.BegunBy.{IsHeld, begun_of, held_by, transaction_of}
+use Rattle.sbp_world.proofs.Lists.BegunBy.{begun_of, held_by, transaction_of}
 use Rattle.sbp_world.proofs.Lists.FedHeld.{got_frees, same_self}
 use Rattle.sbp_world.proofs.Lists.ManageFirsts.{Goes, goes_then, told_first}
 use Rattle.sbp_world.proofs.Pointers.Ages.{serial_is}
@@ -295,9 +293,11 @@ module _ (layer : Layer Purpose) (peer number : ℕ) (purpose : Option Purpose) 
       by true e = inr (for_this (header_in p).source label other a e)
       by false e = inl w
 
-  found_runs : (finding : Finding Purpose) (bytes : List ℕ)
-      → ((p : Packet) (label : LabelParts) (other : Option Purpose) → finding ≡ of_response p label other → At layer (header_in p).source label.number other)
-      → Runs (life peer name (and_before (told_by_finding finding bytes) lived)) ⊎ ClosedFor finding purpose
+  -- what a packet closes was under way under its label
+  abbrev ClosesHere : Finding Purpose → Type 0
+  ClosesHere finding = (p : Packet) (label : LabelParts) (other : Option Purpose) → finding ≡ of_response p label other → At layer (header_in p).source label.number other
+
+  found_runs : (finding : Finding Purpose) (bytes : List ℕ) → ClosesHere finding → Runs (life peer name (and_before (told_by_finding finding bytes) lived)) ⊎ ClosedFor finding purpose
   found_runs of_generation bytes f = inl w
   found_runs of_grammar bytes f = inl w
   found_runs of_label bytes f = inl (reading_runs (reading bytes))
@@ -346,10 +346,10 @@ abbrev pub ended_late : Result (Option Purpose) Stale → Option ℕ
 ended_late (Ok purpose) = ended_for purpose
 ended_late (Err stale) = None
 
-abbrev Left_of : Option ℕ → List ℕ → List ℕ
-Left_of over acts = filter (λ (act : ℕ). not (is_gone over act)) acts
+abbrev left_of : Option ℕ → List ℕ → List ℕ
+left_of over acts = filter (λ (act : ℕ). not (is_gone over act)) acts
 
-over_reads : (purpose : Option Purpose) (acts : List ℕ) → read_over purpose acts ≡ Left_of (ended_for purpose) acts
+over_reads : (purpose : Option Purpose) (acts : List ℕ) → read_over purpose acts ≡ left_of (ended_for purpose) acts
 over_reads None acts = sym (all_kept acts)
 over_reads (Some (purposes.State act list)) acts = refl
 over_reads (Some (purposes.Pointer list)) acts = sym (all_kept acts)
@@ -359,7 +359,7 @@ over_reads (Some (purposes.Enable act)) acts = sym (all_kept acts)
 over_reads (Some (purposes.Management act)) acts = sym (all_kept acts)
 over_reads (Some (purposes.Rom act)) acts = sym (all_kept acts)
 
-pub finding_left : (finding : Finding Purpose) (acts : List ℕ) → finding_reads finding acts ≡ Left_of (ended_by finding) acts
+pub finding_left : (finding : Finding Purpose) (acts : List ℕ) → finding_reads finding acts ≡ left_of (ended_by finding) acts
 finding_left of_generation acts = sym (all_kept acts)
 finding_left of_grammar acts = sym (all_kept acts)
 finding_left of_label acts = sym (all_kept acts)
@@ -367,7 +367,7 @@ finding_left (of_response p label purpose) acts = over_reads purpose acts
 finding_left (of_again p rcode) acts = sym (all_kept acts)
 finding_left (of_request p) acts = sym (all_kept acts)
 
-pub lapsed_left : (r : Result (Option Purpose) Stale) (acts : List ℕ) → expired_reads r acts ≡ Left_of (ended_late r) acts
+pub lapsed_left : (r : Result (Option Purpose) Stale) (acts : List ℕ) → expired_reads r acts ≡ left_of (ended_late r) acts
 lapsed_left (Ok purpose) acts = over_reads purpose acts
 lapsed_left (Err stale) acts = sym (all_kept acts)
 
@@ -396,7 +396,7 @@ module _ (past now : List Moment) (i : ℕ) (s : InitiatorState) (l : Layer Purp
     (on : (m act : ℕ) (list : Option ℕ) → StateAt s.layer s.target m act list → StateAt l s.target m act list ⊎ (ended ≡ Some act))
     (goes : Goes (host_at past i) (host_at now i)) (count : (terms past).count ≤ (terms now).count) (operation : (t.1.operation ≡ s.operation) ⊎ (t.1.operation ≡ None))
     (lives : (m act : ℕ) (list : Option ℕ) → StateAt t.1.layer t.1.target m act list → has_read act t.1.states ≡ true)
-    (states : t.1.states ≡ Left_of ended s.states) (reads : Reads now i ≡ filter (λ (r : StateRead). not (is_gone gone r.serial)) (Reads past i)) where
+    (states : t.1.states ≡ left_of ended s.states) (reads : Reads now i ≡ filter (λ (r : StateRead). not (is_gone gone r.serial)) (Reads past i)) where
   abbrev later : List Moment
   later = behind t.0.sides now
 
@@ -482,4 +482,4 @@ module _ (past now : List Moment) (i : ℕ) (s : InitiatorState) (l : Layer Purp
   pub zipped_then : AreZipped P (Reads past i) s.states → AreZipped Q (Reads later i) t.1.states
   zipped_then z =
       subst (λ acts. AreZipped Q (Reads later i) acts) (sym states)
-      (subst (λ rs. AreZipped Q rs (Left_of ended s.states)) (sym (told_reads t.0.sides now i left.told ∙ reads)) (zipped_filter P Q keep stay fate (Reads past i) s.states z))
+      (subst (λ rs. AreZipped Q rs (left_of ended s.states)) (sym (told_reads t.0.sides now i left.told ∙ reads)) (zipped_filter P Q keep stay fate (Reads past i) s.states z))

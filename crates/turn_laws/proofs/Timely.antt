@@ -1,9 +1,8 @@
 -- Each transaction that times out in a run was under way then, by the terms.
-use Rattle.std.proofs.Common.{◌≡◌, refl, sym, ◌∙◌, ap, ℕ, zero, suc, ◌+◌, ◌<◌, nat_eq, nat_lt, arith, Bool, true, false, cond, List, [], ◌∷◌, length, Option, Some, None, Ok}
+use Rattle.std.proofs.Common.{◌≡◌, sym, ◌∙◌, ap, ℕ, suc, ◌<◌, nat_eq, nat_lt, arith, Bool, true, false, cond, List, [], ◌∷◌, length, Some, Ok}
 use Rattle.std.specs.Prelude.{◌-◌}
 use Rattle.std.proofs.lemmas.Bool.Decides.{nat_tests}
 use Rattle.rbc_disk.specs.Disk.{Disk}
-use Rattle.sbp_bus.specs.Generations.{topology_at}
 use Rattle.sbp_bus.specs.Packets.{end_note, judged_note}
 use Rattle.sbp_bus.specs.Requests.{find}
 use Rattle.sbp_bus.specs.declared.requests.Request.{Request}
