@@ -1,6 +1,10 @@
 pub mod Handed
 pub mod Turns
 pub mod OperationAsked
+pub mod HostReads
+pub mod ReadPairs
+pub mod ReadsUnderWay
+pub mod ReadsCarried
 pub mod Places
 pub mod Calls
 pub mod Pass
@@ -94,6 +98,7 @@ pub mod OwnBlocks
 pub mod OwnTies
 pub mod OwnAnswers
 pub mod OwnActs
+pub mod Timely
 pub mod OwnTurns
 pub mod OwnCases
 pub mod SentPackets

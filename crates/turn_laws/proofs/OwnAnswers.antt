@@ -14,7 +14,8 @@ use Rattle.sbp_initiator.specs.declared.purpose.Ending.TheVariants as endings
 use Rattle.sbp_journal.specs.Transactions.{Kind, is_same_kind, locking, part_in, reading_block, reading_quadlet, request, response, writing}
 use Rattle.sbp_laws.specs.Packets.{answer_of}
 use Rattle.byteorder.specs.Numbers.{big_number-reads_back}
-use Rattle.turn_laws.proofs.OwnEnds.{gives, refuses, untrue}
+use Rattle.sbp_world.proofs.Common.{untrue}
+use Rattle.turn_laws.proofs.OwnEnds.{gives, refuses}
 use Rattle.turn_laws.proofs.OwnTies.{IsEndOf, of_block, of_lock, of_read, of_write}
 use Rattle.byteorder.specs.Endian.{big_bytes, big_number}
 

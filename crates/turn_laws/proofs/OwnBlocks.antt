@@ -44,8 +44,9 @@ use Rattle.sbp_world.proofs.Hosts.Answering.{asks_block, asks_quadlet, locks, wr
 use Rattle.sbp_world.proofs.Hosts.Statuses.Blocks.{command_is, is_read_by, managed_kind}
 use Rattle.sbp_world.specs.Hosts.Core.{placed, work_in, work_of}
 use Rattle.sbp_world.specs.Sessions.Holding.{AreBuffers}
+use Rattle.sbp_world.proofs.Common.{and_first, and_second, untrue}
 use Rattle.turn_laws.proofs.HostFacts.{AtFifo, fifo_is, managed_same, none_there, open_test, place_by}
-use Rattle.turn_laws.proofs.OwnEnds.{Says, own, untrue}
+use Rattle.turn_laws.proofs.OwnEnds.{Says, own}
 use Rattle.turn_laws.proofs.OwnFacts.{operation_same}
 use Rattle.turn_laws.proofs.OwnNotes.{Ops, end_kept}
 use Rattle.turn_laws.proofs.OwnStates.{status_due}
@@ -147,7 +148,7 @@ module _ (s : InitiatorState) (host : Host) (present : Option ℕ) (work : work_
       → end_by_write host (Some access) ≡ cond b (ends_by_status (told_status block.kind) underway.operation response) None → Tells access (managed_for (cond b s.operation None) status p bytes empty_outbox s)
   status_by false underway running block status access p at is same e kind law = nothing_by access p (judgements.Ignored _) 0 [] (empty_outbox, s) refl refl
   status_by true underway running block status access p at is same e kind law =
-      let manages : is_management underway.operation ≡ true = first_true (is_management underway.operation) _ e in
+      let manages : is_management underway.operation ≡ true = and_first (is_management underway.operation) _ e in
       let operation_is : underway.operation ≡ running.operation = operation_same underway running same in
       let responses = response_is underway running running.managed at manages (ap place_by same) refl in
       let end_is : end_by_write host (Some access) ≡ status_ends running.operation status (response_of running s) =
@@ -160,10 +161,6 @@ module _ (s : InitiatorState) (host : Host) (present : Option ℕ) (work : work_
         sides = answer_silent p bytes 0 [] t ∙ says;
         are = end_kept s.number (status_ends running.operation status (response_of running s)) present ∙ ap (λ x. end_notes s.number x present) (sym end_is);
       })
-    where
-      first_true : (a b : Bool) → (a && b) ≡ true → a ≡ true
-      first_true true b e = refl
-      first_true false b e = untrue e
 
   status_for : (u : Option Underway) (r : Option Running) (block : StatusBlock) (status : ℕ) (access : Access) (p : Packet) → host.operation ≡ u → s.operation ≡ r → work_of u ≡ work_in r → block.kind ≡ kinds.Management status
       → end_by_write host (Some access) ≡ ends_by_block u (Ok block) response → Tells access (managed_for (present_for block.orb s.operation) status p bytes empty_outbox s)
@@ -225,10 +222,6 @@ module _ (s : InitiatorState) (host : Host) (present : Option ℕ) (work : work_
       abbrev unsolicited_got : Judged × Turn
       unsolicited_got = got_step w bytes (told empty_outbox (notes.Told s.number), called s)
 
-      second_true : (a c : Bool) → (a && c) ≡ true → c ≡ true
-      second_true true c f = f
-      second_true false c f = untrue f
-
       status_tells : (is_login : Bool) (b : Bool) → (is_login && is_block payload) ≡ b → Here (status_step is_login payload w bytes empty_outbox s)
       status_tells is_login false e =
           subst (λ c. Here (cond c unsolicited_got (block_step (status_in payload) w bytes empty_outbox s))) (sym e)
@@ -238,7 +231,7 @@ module _ (s : InitiatorState) (host : Host) (present : Option ℕ) (work : work_
           (record {
             told_notes = notes.Told s.number ∷ [];
             sides = answer_silent w bytes 0 [] (told empty_outbox (notes.Told s.number), called s);
-            are = sym (free_end (unsolicited_free payload (second_true is_login (is_block payload) e)));
+            are = sym (free_end (unsolicited_free payload (and_second is_login (is_block payload) e)));
           })
 
     -- where it goes

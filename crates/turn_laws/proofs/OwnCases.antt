@@ -36,16 +36,16 @@ use Rattle.sbp_world.specs.Lines.{weight_in}
 use Rattle.sbp_world.specs.Packets.{target_left}
 use Rattle.sbp_world.specs.Wire.Wires.{layers_of}
 use Rattle.sbp_world.specs.Worlds.{Scene, WorldState, initiator_at}
+use Rattle.sbp_world.proofs.Common.{untrue}
 use Rattle.turn_laws.proofs.Calls.{Brings, Cases, calls, injects, loses, refuses, refuses_action, resets, sets_key}
 use Rattle.turn_laws.proofs.Handed.{handed}
 use Rattle.turn_laws.proofs.Judgements.{row_there}
 use Rattle.turn_laws.proofs.OwnActs.{AreQuiet, act_quiet, quiet_none}
-use Rattle.turn_laws.proofs.OwnEnds.{untrue}
 use Rattle.turn_laws.proofs.OwnNotes.{target_none}
-use Rattle.turn_laws.proofs.Pass.{of_every_run}
-use Rattle.turn_laws.proofs.OwnTurns.{AreTies, got_due, heard_due, late_due, late_sender, seen_due}
+use Rattle.turn_laws.proofs.OwnTurns.{AreTies, got_due, heard_due, late_due, late_sender, same_resets, seen_due}
 use Rattle.turn_laws.proofs.Places.{Place}
-use Rattle.turn_laws.specs.Operations.{OperationsStand, StatusEndsLaw, StatusesEnd}
+use Rattle.turn_laws.proofs.Timely.{Timely, of_timely_turns}
+use Rattle.turn_laws.specs.Operations.{OperationsStand, NoneEndsLaw, StandsWhereNoneEnds}
 
 line_stands : (line : ℕ) (s : Scene) (past : List Moment) (event : Event) (rest : List Note) → Brings line s event rest → OperationsStand (turn past (asked line event) rest)
 line_stands line s past event rest (calls is_event c) = refl
@@ -96,46 +96,46 @@ module _ (units ready : ℕ) (start : List Disk) where
   act_stands past s line i action outbox state w e = quiet_none (i + 1) (weight_in action) outbox w (subst (λ (r : Option ℕ × Turn). AreQuiet r.1.0.sides) e (act_quiet action (initiator_at s.world i)))
 
   -- ---- where no transaction of an initiator ends
-  pub status_cases : Cases units ready start StatusesEnd
-  status_cases = record {
-    heard = λ past s serial again run one found zero_to may others here behind judged none.
+  pub none_ends_cases : Cases units ready start (Timely StandsWhereNoneEnds)
+  none_ends_cases = record {
+    heard = λ past s serial again run one found zero_to may others here behind judged timely none.
         target_none _ _ others ∙ sym (to_target (hist past s.world) serial (as_sending one) (was_sent s.world here.holds.sound.stands serial one found) zero_to _);
-    heard_own = λ past s serial again one i found to_is inside own here behind judged none.
+    heard_own = λ past s serial again one i found to_is inside own here behind judged timely none.
         let there : one.to ≤ length s.world.initiators = omega (arith, to_is, inside) in
         let old = initiator_at s.world i in
         got_due units ready start past s here i inside serial one found to_is _ (here.holding i inside).responses none judged (row_there s.world here.holds.sound.stands serial one found there old.layer (ap (layers_of s.world) to_is));
-    late = λ past s serial request done t found node_is e others here behind judged none. target_none t.outbox _ others ∙ sym (lapse_none past s here serial request done t found node_is e);
-    late_own = λ past s serial request i outbox state found node_is inside e own here behind judged none. untrue (sym none ∙ late_sender units ready start past s here i inside serial request found node_is (s.world) outbox state e);
-    sees = λ past s others here behind judged none. target_none _ _ others;
-    sees_own = λ past s i inside own here behind judged none. untrue (sym none);
-    ticks = λ past s others here behind judged none. target_none _ _ others;
-    ends = λ past s done here behind none. end_stands (hist past s.world) done;
-    acts = λ past s line i action outbox state inside e own here behind none. act_stands past s line i action outbox state _ e;
-    lines = λ past s line event rest behind brings fresh here there none. line_stands line s (hist past s.world) event rest brings;
-    begins = λ line initiators is_ready none. refl;
+    late = λ past s serial request done t found node_is e others here behind judged timely none. target_none t.outbox _ others ∙ sym (lapse_none past s here serial request done t found node_is e);
+    late_own = λ past s serial request i outbox state found node_is inside e own here behind judged timely none. untrue (sym none ∙ late_sender units ready start past s here i inside serial request found node_is (s.world) outbox state e);
+    sees = λ past s others here behind judged timely none. target_none _ _ others;
+    sees_own = λ past s i inside own here behind judged timely none. seen_due units ready start past s here i inside (same_resets units ready start past s here i inside timely) _;
+    ticks = λ past s others here behind judged timely none. target_none _ _ others;
+    ends = λ past s done here behind timely none. end_stands (hist past s.world) done;
+    acts = λ past s line i action outbox state inside e own here behind timely none. act_stands past s line i action outbox state _ e;
+    lines = λ past s line event rest behind brings fresh here there timely none. line_stands line s (hist past s.world) event rest brings;
+    begins = λ line initiators is_ready timely none. refl;
   }
 
   -- ---- every turn, where the transactions are tied
   module _ (ties : (past : List Moment) (s : Scene) → Place units ready start past s → (i : ℕ) → i < length s.world.initiators → AreTies (hist past s.world) i (initiator_at s.world i)) where
-    pub operation_cases : Cases units ready start OperationsStand
+    pub operation_cases : Cases units ready start (Timely OperationsStand)
     operation_cases = record {
-      heard = λ past s serial again run one found zero_to may others here behind judged.
+      heard = λ past s serial again run one found zero_to may others here behind judged timely.
           target_none _ _ others ∙ sym (to_target (hist past s.world) serial (as_sending one) (was_sent s.world here.holds.sound.stands serial one found) zero_to _);
-      heard_own = λ past s serial again one i found to_is inside own here behind judged.
+      heard_own = λ past s serial again one i found to_is inside own here behind judged timely.
           let there : one.to ≤ length s.world.initiators = omega (arith, to_is, inside) in
           let old = initiator_at s.world i in
           heard_due units ready start past s here i inside serial one found to_is _ (ties past s here i inside) judged (row_there s.world here.holds.sound.stands serial one found there old.layer (ap (layers_of s.world) to_is));
-      late = λ past s serial request done t found node_is e others here behind judged. target_none t.outbox _ others ∙ sym (lapse_none past s here serial request done t found node_is e);
-      late_own = λ past s serial request i outbox state found node_is inside e own here behind judged. late_due units ready start past s here i inside serial request found node_is _ (ties past s here i inside) outbox state e;
-      sees = λ past s others here behind judged. target_none _ _ others;
-      sees_own = λ past s i inside own here behind judged. seen_due units ready start past s here i inside (ties past s here i inside) _;
-      ticks = λ past s others here behind judged. target_none _ _ others;
-      ends = λ past s done here behind. end_stands (hist past s.world) done;
-      acts = λ past s line i action outbox state inside e own here behind. act_stands past s line i action outbox state _ e;
-      lines = λ past s line event rest behind brings fresh here there. line_stands line s (hist past s.world) event rest brings;
-      begins = λ line initiators is_ready. refl;
+      late = λ past s serial request done t found node_is e others here behind judged timely. target_none t.outbox _ others ∙ sym (lapse_none past s here serial request done t found node_is e);
+      late_own = λ past s serial request i outbox state found node_is inside e own here behind judged timely. late_due units ready start past s here i inside serial request found node_is _ (ties past s here i inside) outbox state e;
+      sees = λ past s others here behind judged timely. target_none _ _ others;
+      sees_own = λ past s i inside own here behind judged timely. seen_due units ready start past s here i inside (same_resets units ready start past s here i inside timely) _;
+      ticks = λ past s others here behind judged timely. target_none _ _ others;
+      ends = λ past s done here behind timely. end_stands (hist past s.world) done;
+      acts = λ past s line i action outbox state inside e own here behind timely. act_stands past s line i action outbox state _ e;
+      lines = λ past s line event rest behind brings fresh here there timely. line_stands line s (hist past s.world) event rest brings;
+      begins = λ line initiators is_ready timely. refl;
     }
 
 -- in each turn in which no transaction of an initiator ends
-pub status_ends_law : StatusEndsLaw
-status_ends_law = of_every_run (λ start. StatusesEnd) (λ units ready start has. status_cases units ready start)
+pub none_ends_law : NoneEndsLaw
+none_ends_law = of_timely_turns StandsWhereNoneEnds (λ units ready start has. none_ends_cases units ready start)

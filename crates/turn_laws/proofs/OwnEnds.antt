@@ -33,6 +33,7 @@ use Rattle.sbp_laws.specs.Operations.{End, drop_note, end_notes, ends_as, gets_s
 use Rattle.sbp_session.specs.Moves as moves
 use Rattle.sbp_session.specs.Seats.{is_stuck_seat}
 use Rattle.sbp_session.specs.declared.seat.Seat.{Seat}
+use Rattle.sbp_world.proofs.Common.{untrue}
 use Rattle.turn_laws.proofs.KindNotes.{join_same, none_behind}
 
 -- ---- what is told, behind what was
@@ -59,15 +60,6 @@ says_none o s = sym (none_behind o.sides)
 
 pub says_as : (o : OutboxState) (t : Turn) (a b : List Note) → a ≡ b → Says o t a → Says o t b
 says_as o t a b e h = h ∙ ap (λ xs. o.sides ++ own xs) e
-
-pub untrue : {A : Type 0} → false ≡ true → A
-untrue e = absurd (let no : false ≡ true = e in cc)
-
-none_some : {A : Type 0} {B : Type 0} {x : B} → None ≡ Some x → A
-none_some e = absurd (differ e)
-  where
-    differ : {B : Type 0} {x : B} → None ≡ Some x → ⊥
-    differ e = cc
 
 -- ---- the steps
 

@@ -28,8 +28,9 @@ use Rattle.sbp_laws.specs.Hosts.{Host, StateRead, Underway, is_latest, is_manage
 use Rattle.sbp_laws.specs.OnceLaw.{is_write_in}
 use Rattle.sbp_laws.specs.Operations as law
 use Rattle.sbp_laws.specs.Operations.{End, done_word, drop_note, end_notes, ends_as, gets_stuck, or_end, read_ends, reply_notes, reset_op, reset_ops, reset_reads, says_reset, state_word, status_ends, stuck_note}
+use Rattle.sbp_world.proofs.Common.{untrue}
 use Rattle.turn_laws.proofs.KindNotes.{join_same, none_behind}
-use Rattle.turn_laws.proofs.OwnEnds.{IsRead, Says, drop_says, drop_where_says, dropped_number, gives, lapses, none_answered, own, read_free, refuses, says_as, then_says, untrue, where_number}
+use Rattle.turn_laws.proofs.OwnEnds.{IsRead, Says, drop_says, drop_where_says, dropped_number, gives, lapses, none_answered, own, read_free, refuses, says_as, then_says, where_number}
 
 -- ---- a read of AGENT_STATE
 

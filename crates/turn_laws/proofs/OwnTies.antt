@@ -24,7 +24,8 @@ use Rattle.sbp_laws.specs.Hosts.{Host, is_latest, is_management, is_present}
 use Rattle.sbp_laws.specs.OnceLaw.{is_write_in}
 use Rattle.sbp_laws.specs.Operations.{rom_ends, reply_notes}
 use Rattle.sbp_session.specs.declared.seat.Seat.{Seat}
-use Rattle.turn_laws.proofs.OwnEnds.{AreApart, IsRead, IsWrite, Mine, Under, doorbell_due, enable_due, gives, lapses, management_due, own, pointer_due, refuses, reset_due, rom_goes_on, rom_late, rom_read_due, rom_refused, untrue, write_answer}
+use Rattle.sbp_world.proofs.Common.{untrue}
+use Rattle.turn_laws.proofs.OwnEnds.{AreApart, IsRead, IsWrite, Mine, Under, doorbell_due, enable_due, gives, lapses, management_due, own, pointer_due, refuses, reset_due, rom_goes_on, rom_late, rom_read_due, rom_refused, write_answer}
 use Rattle.turn_laws.proofs.OwnStates.{IsListed, state_due}
 
 -- the next read of a ROM finds a label

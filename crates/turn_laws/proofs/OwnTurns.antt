@@ -39,7 +39,7 @@ use Rattle.sbp_journal.specs.Addresses.{Access}
 use Rattle.sbp_journal.specs.Outgoings.{OutboxState, empty_outbox}
 use Rattle.sbp_journal.specs.Run.{Moment, said}
 use Rattle.sbp_journal.specs.Transactions.{Kind, Sending, Transaction, asked_as, asked_by, begun_by, between, locking, part_in, part_of, reading_block, reading_quadlet, request as request_part, response, writing}
-use Rattle.sbp_journal.specs.Wire.{Held, Terms, free, rests, terms, waits}
+use Rattle.sbp_journal.specs.Wire.{Terms, terms, waits}
 use Rattle.sbp_journal.specs.declared.cause.Judged.{Judged}
 use Rattle.sbp_journal.specs.declared.cause.Judged.TheVariants as judgements
 use Rattle.sbp_journal.specs.declared.note.Note.TheVariants as notes
@@ -47,6 +47,7 @@ use Rattle.sbp_laws.specs.Hosts.{Host, host_at}
 use Rattle.sbp_laws.specs.Lists.{present_list}
 use Rattle.sbp_laws.specs.Operations.{at_initiator, drop_note, end_by_answer, end_by_write, end_notes, got_notes, gets_stuck, host_notes, reply_notes, reset_ops, seen_notes}
 use Rattle.sbp_laws.specs.Packets.{access_at, access_in, answer_in, answer_of, answered_at, packet_at, packet_in, receiver_in, sender_in, spelled_by}
+use Rattle.sbp_world.proofs.Common.{untrue}
 use Rattle.sbp_world.proofs.Agents.CrewFirsts.{access_there}
 use Rattle.sbp_world.proofs.Agents.Management.Hearing.{IsAnswer, answers, answers_none}
 use Rattle.sbp_world.proofs.Agents.Management.Holding.{is_of, past_terms, was_sent}
@@ -56,6 +57,7 @@ use Rattle.sbp_world.proofs.Hosts.Lives.{At, Called}
 use Rattle.sbp_world.proofs.Lists.LiveRefusing.{label_number}
 use Rattle.sbp_world.proofs.Pointers.Ending.{read_in}
 use Rattle.sbp_world.proofs.Pointers.Finds.{closes_at, expires_at}
+use Rattle.sbp_world.proofs.Wire.Starts.{laws_of}
 use Rattle.sbp_world.specs.Hosts.Core.{Core, work_in, work_of}
 use Rattle.sbp_world.specs.Hosts.Rows.{present_in}
 use Rattle.sbp_world.specs.Sessions.Holding.{AreBuffers}
@@ -63,7 +65,7 @@ use Rattle.sbp_world.specs.Wire.Wires.{Stands}
 use Rattle.sbp_world.specs.Worlds.{Scene, WorldState, initiator_at}
 use Rattle.bus_transactions.specs.Judging.{AreJudged}
 use Rattle.bus_transactions.specs.Reached.{IsAwaited}
-use Rattle.bus_transactions.specs.Rows.{awaits, shape, shape_of}
+use Rattle.bus_transactions.specs.Rows.{shape, shape_of}
 use Rattle.bus_transactions.proofs.Facts.{begun_asked}
 use Rattle.bus_transactions.proofs.Reaches.{goes_on}
 use Rattle.sbp_world.specs.Wire.Knows.{IsLatest}
@@ -73,18 +75,19 @@ use Rattle.turn_laws.proofs.FoundRows.{Asks, RowFor}
 use Rattle.turn_laws.proofs.Handed.{handed}
 use Rattle.turn_laws.proofs.OwnAnswers.{packet_ends, read_small}
 use Rattle.turn_laws.proofs.OwnBlocks.{Expected, answer_silent, request_tells}
-use Rattle.turn_laws.proofs.OwnEnds.{lapses, untrue}
+use Rattle.turn_laws.proofs.OwnEnds.{lapses}
 use Rattle.turn_laws.proofs.OwnNotes.{Ops, own_are, reply_kept, sight_kept}
 use Rattle.turn_laws.proofs.OwnStates.{AreReset, sight_due}
 use Rattle.turn_laws.proofs.OwnTies.{GoesOn, IsEndOf, IsTied, ended_due, of_block, of_lock, of_read, of_write}
 use Rattle.turn_laws.specs.Operations.{ends_own, of_initiator}
 use Rattle.turn_laws.proofs.Places.{HasCalls, Place}
+use Rattle.turn_laws.proofs.ReadsCarried.{resets_of}
+use Rattle.turn_laws.proofs.ReadsUnderWay.{AreTimely, Waiting, waits_now}
 
--- What the transactions of an initiator, its operation and its reads are by the terms of a history. Of a transaction with any node, under its label: that it is tied to the request that waits there.
+-- What the transactions of an initiator are by the terms of a history. Of one with any node, under its label: that it is tied to the request that waits there.
 pub record AreTies (past : List Moment) (i : ℕ) (s : InitiatorState) : Type 0 where
   pub ends : (from number : ℕ) (purpose : Option Purpose) (kind : Kind) (serial : ℕ) → At s.layer ((terms past).ids ((terms past).generation (suc i)) from) number purpose → (terms past).held (transaction ((terms past).generation (suc i)) (suc i) from number) ≡ waits kind serial
       → IsTied (host_at past i) (present_list past i) (access_at (terms past) serial) serial s.operation s.seat s.quads s.lists.slots.present purpose kind
-  pub resets : AreReset (host_at past i).operation s.operation (host_at past i).reads s.states
   pub goes_on : (generation : ℕ) (bytes : List ℕ) (p : Packet) (label : LabelParts) (act : ℕ) → (judging_step s.layer generation bytes).0 ≡ of_response p label (Some (purposes.Rom act)) → GoesOn (record s { layer = (judging_step s.layer generation bytes).1 }) act
 
 -- the list that is dropped is the present one
@@ -95,17 +98,6 @@ drops_present lists = by lists.slots.present
     by : (present : Option PresentList) → (drop_for present lists.slots).0 ≡ present_in present
     by None = refl
     by (Some list) = refl
-
--- a request waits
-record Waiting (h : Held) : Type 0 where
-  kind : Kind
-  serial : ℕ
-  is : h ≡ waits kind serial
-
-waits_now : (h : Held) (kind : ReplyKind) → shape_of h ≡ awaits kind → Waiting h
-waits_now (waits kind serial) other e = record { kind = kind; serial = serial; is = refl }
-waits_now free other e = absurd (let no : shape_of free ≡ awaits other = e in cc)
-waits_now rests other e = absurd (let no : shape_of rests ≡ awaits other = e in cc)
 
 -- by whom it was sent
 sender_is : (packet : Sending) (u : Transaction) (label : ℕ) (kind : Kind) → part_of packet.bytes ≡ request_part label kind → begun_by packet ≡ Some u → packet.from ≡ u.requester
@@ -324,17 +316,27 @@ module _ (units ready : ℕ) (start : List Disk) (past : List Moment) (s : Scene
   abbrev is_new : Bool
   is_new = not (nat_eq s.world.generations.latest.generation (wire.generation (suc i)))
 
-  sight_by : AreTies ms i old → (w : WorldState) (r : Bool × Layer Purpose) → r.0 ≡ is_new → Ops (handed (suc i) 0 (seen_as r (id_of s.world.generations.latest 0) empty_outbox old).0 w) ≡ seen_notes i is_new host present
-  sight_by ties w (false, l) e = own_are (suc i) 0 empty_outbox w [] refl ∙ ap (λ b. seen_notes i b host present) e
-  sight_by ties w (true, l) e =
-      own_are (suc i) 0 _ w (reset_ops old.number host.operation host.reads ++ drop_note old.number true present) (sight_due (id_of s.world.generations.latest 0) empty_outbox (record old { layer = l }) host present drops ties.resets)
+  abbrev SeesSo : Type 0
+  SeesSo = AreReset host.operation old.operation host.reads old.states
+
+  sight_by : SeesSo → (w : WorldState) (r : Bool × Layer Purpose) → r.0 ≡ is_new → Ops (handed (suc i) 0 (seen_as r (id_of s.world.generations.latest 0) empty_outbox old).0 w) ≡ seen_notes i is_new host present
+  sight_by resets w (false, l) e = own_are (suc i) 0 empty_outbox w [] refl ∙ ap (λ b. seen_notes i b host present) e
+  sight_by resets w (true, l) e =
+      own_are (suc i) 0 _ w (reset_ops old.number host.operation host.reads ++ drop_note old.number true present) (sight_due (id_of s.world.generations.latest 0) empty_outbox (record old { layer = l }) host present drops resets)
       ∙ sight_kept old.number host.operation host.reads present
       ∙ ap (λ n. reset_ops n host.operation host.reads ++ drop_note n true present) number_is
       ∙ ap (λ b. seen_notes i b host present) e
 
-  pub seen_due : AreTies ms i old → (w : WorldState) → (let g = s.world.generations.latest in Ops (handed (suc i) 0 (see_step g.generation (id_of g (suc i)) (id_of g 0) empty_outbox old).0 w) ≡ host_notes (said (notes.Seen (suc i) g.generation)) ms)
+  -- by the terms it has the same reads under way, where each time-out was timely
+  pub same_resets : AreTimely ms → SeesSo
+  same_resets timely =
+      let pairs = (here.reads i inside).paired in
+      let laws = laws_of past s.world stands in
+      resets_of ms i old work_is (pairs.pairs (record { serials = laws.serials; sent = laws.sent }) timely)
+
+  pub seen_due : SeesSo → (w : WorldState) → (let g = s.world.generations.latest in Ops (handed (suc i) 0 (see_step g.generation (id_of g (suc i)) (id_of g 0) empty_outbox old).0 w) ≡ host_notes (said (notes.Seen (suc i) g.generation)) ms)
   unfolding see_step
-  seen_due ties w = let g = s.world.generations.latest in sight_by ties w (seeing_step old.layer g.generation (id_of g (suc i))) (may_see s.world stands i inside_there)
+  seen_due resets w = let g = s.world.generations.latest in sight_by resets w (seeing_step old.layer g.generation (id_of g (suc i))) (may_see s.world stands i inside_there)
 
   -- ---- a time-out
   module _ (serial : ℕ) (request : Request) (found : find s.world.requests serial ≡ Some request) (node_is : request.node ≡ suc i) (w : WorldState) where

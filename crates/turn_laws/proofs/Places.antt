@@ -53,6 +53,7 @@ use Rattle.sbp_world.proofs.Lists.Courses.{more_than_one}
 use Rattle.sbp_world.proofs.Lists.OpenProved.{taken_lists_law}
 use Rattle.sbp_world.proofs.Lists.JoinLaws.{moments_same, lines_same}
 use Rattle.turn_laws.proofs.OperationAsked.{asked_opens}
+use Rattle.turn_laws.proofs.ReadsCarried.{Paired, asked_paired, paired_between, paired_of_runs}
 use Rattle.sbp_world.proofs.Sessions.HoldingRuns.{holding_law}
 use Rattle.sbp_world.proofs.Sessions.PlaceRuns.{are_places, placed_law}
 
@@ -60,6 +61,11 @@ use Rattle.sbp_world.proofs.Sessions.PlaceRuns.{are_places, placed_law}
 pub record HasCalls (i : ℕ) (s : InitiatorState) : Type 0 where
   pub ready : Bool
   pub called : IsCalled ready i s
+
+-- and its reads of AGENT_STATE are those that the terms have
+pub record HasPairs (past : List Moment) (i : ℕ) (s : InitiatorState) : Type 0 where
+  pub ready : Bool
+  pub paired : Paired ready past i s
 
 -- What is known at a place: its history goes on from `past` by the notes of the world.
 pub record Place (units ready : ℕ) (start : List Disk) (past : List Moment) (s : Scene) : Type 0 where
@@ -70,6 +76,8 @@ pub record Place (units ready : ℕ) (start : List Disk) (past : List Moment) (s
   pub holds : Holding units ready start past lines s.world
   -- each initiator is what its calls made of it
   pub calls : (i : ℕ) → i < length s.world.initiators → HasCalls i (initiator_at s.world i)
+  -- the reads of AGENT_STATE that each initiator has under way
+  pub reads : (i : ℕ) → i < length s.world.initiators → HasPairs (hist past s.world) i (initiator_at s.world i)
   -- the target's agents, who has its logins, its units and its registers
   pub agents : AreAgentsAt start (hist past s.world) s.world
   pub held : AreHeldAt start (hist past s.world) s.world
@@ -139,6 +147,7 @@ module _ (line : ℕ) (run : Run) (few : run.initiators ≤ 4) (has : 0 < run.un
       size = size;
       holds = h;
       calls = λ i b. calls_of i (initiator_at here.world i) (of_runs Owned (own_carried run.ready) line front (λ before few short every fit j c. tt) (λ j c. own_first run.ready j) is_run i (inside i b));
+      reads = λ i b. subst (λ ms. HasPairs ms i (initiator_at here.world i)) same (record { ready = run.ready; paired = paired_of_runs line front is_run i (inside i b) });
       agents = subst (λ ms. AreAgentsAt start ms here.world) same (agents_run_law line front few has small size short every (lines_same run entries entries fit));
       held = subst (λ ms. AreHeldAt start ms here.world) same (holders_law line front few has small size short every (lines_same run entries entries fit));
       taken = subst (λ ms. AreTaken start ms here.world) same (taken_lists_law.after_lines line front is_run has small size);
@@ -191,6 +200,7 @@ module _ (line : ℕ) (run : Run) (few : run.initiators ≤ 4) (has : 0 < run.un
               size = size;
               holds = between_holds told m;
               calls = λ i b. calls_of i (initiator_at w i) (between_runs Owned (own_carried run.ready) line front (λ before few short every fit j c. tt) (λ j c. own_first run.ready j) is_run next most told m i (inside_there i b));
+              reads = λ i b. moved (λ ms. HasPairs ms i (initiator_at w i)) (record { ready = run.ready; paired = paired_between line front is_run next most told m i (inside_there i b) });
               agents = moved (λ ms. AreAgentsAt start ms w) (agents_between_law line front few has small size short every f next (more_deliveries most) d told m);
               held = moved (λ ms. AreHeldAt start ms w) (holders_between_law line front few has small size short every f next (more_deliveries most) d told m);
               taken = moved (λ ms. AreTaken start ms w) (taken_lists_law.between line front is_run has small size next (more_deliveries most) d told m);
@@ -224,6 +234,7 @@ module _ (line : ℕ) (run : Run) (few : run.initiators ≤ 4) (has : 0 < run.un
             size = size;
             holds = begins;
             calls = λ i b. p.calls i b;
+            reads = λ i b. (let k = p.reads i b in record { ready = k.ready; paired = asked_paired k.ready next event (hist past here.world) i (initiator_at here.world i) k.paired });
             agents = record { requests = settling.agents.requests; are = settling.agents.are; known = settling.agents.known };
             held = are_held run.units logins has start (without_notes here.world) begins (seats_opened run.units logins has start here.world (seats_after line run entries few has small size short every fit));
             taken = λ place b e. p.taken place b e;

@@ -13,7 +13,7 @@ ghost use Rattle.turn_laws.specs.Faults.{FaultsLaw};
 ghost use Rattle.turn_laws.specs.Judgement.{JudgementRunLaw};
 ghost use Rattle.turn_laws.specs.Login.{LoginRunLaw};
 ghost use Rattle.turn_laws.specs.Once.{OnceLaw};
-ghost use Rattle.turn_laws.specs.Operations.{StatusEndsLaw};
+ghost use Rattle.turn_laws.specs.Operations.{NoneEndsLaw};
 ghost use Rattle.turn_laws.specs.Ordered.{OrderedLaw};
 ghost use Rattle.turn_laws.specs.Packets.{PacketsLaw};
 ghost use Rattle.turn_laws.specs.Silent.{SilentLaw};
@@ -169,12 +169,13 @@ pub fn failures_have_rows()
     ensures { FailingLaw }
 {}
 
-/// In each turn in which no transaction of an initiator ends and none sees a reset, whatever anybody injected,
-/// `op`, `drop` and `stuck` stand exactly where the rules of an initiator say: an operation ends by the status
-/// block of its management ORB alone, with its list where it ends lists.
-#[tactic(auto, using(crate::proofs::OwnCases::status_ends_law))]
-pub fn statuses_end_operations()
-    ensures { StatusEndsLaw }
+/// In each turn in which no transaction of an initiator ends, whatever anybody injected, `op`, `drop` and `stuck`
+/// stand exactly where the rules of an initiator say. An operation ends by the status block of its management
+/// ORB, with its list where it ends lists. A reset that an initiator sees ends its operation and its reads of
+/// AGENT_STATE, in the order of their lines, and drops its list.
+#[tactic(auto, using(crate::proofs::OwnCases::none_ends_law))]
+pub fn statuses_and_resets_end_operations()
+    ensures { NoneEndsLaw }
 {}
 
 /// Behind each turn of every run, whatever anybody injected, an agent that is ACTIVE has its main request under way,

@@ -1,0 +1,795 @@
+-- Of each initiator of every run the reads of AGENT_STATE that the terms have under way and those that it has are of the same transactions, in the order of their lines.
+use Rattle.std.proofs.Common.{arith, ◌≡◌, inl, inr, ◌⊎◌, refl, sym, ◌∙◌, ap, subst, ℕ, suc, ◌+◌, ◌<◌, ◌≤◌, ◌==◌, ◌&&◌, nat_eq, nat_lt, not, Bool, true, false, cond, List, [], ◌∷◌, ◌++◌, map, Option, Some, None, Result, Ok, Err}
+use Rattle.std.specs.List.{filter}
+use Rattle.std.proofs.lemmas.Bool.Decides.{nat_tests}
+use Rattle.std.proofs.lemmas.Option.{same_Some}
+use Rattle.async_packet.specs.Labels.{LabelParts}
+use Rattle.bus_transactions.specs.Wire.{transaction}
+use Rattle.bus_transactions.proofs.Facts.{asked_begun, request_asked}
+use Rattle.label_table.specs.History as wire
+use Rattle.label_table.specs.Layer.{Finding, Layer, expiring_step, judging_step, of_again, of_generation, of_grammar, of_label, of_request, of_response, seeing_step}
+use Rattle.label_table.specs.declared.judgement.Asked.{Asked}
+use Rattle.label_table.specs.declared.reply.Stale.{Stale}
+use Rattle.sbp_bus.specs.Packets.{judged_note}
+use Rattle.sbp_initiator.specs.Acting.{act_step, asked_as, asked_for, counted_list, demand_of, done_step, facts_with, judged_as, register_of}
+use Rattle.sbp_initiator.specs.Effects.{Turn}
+use Rattle.sbp_initiator.specs.Initiators.{new_state}
+use Rattle.sbp_initiator.specs.Receiving.{expire_step, receive_step}
+use Rattle.sbp_initiator.specs.Refusals.{refusal}
+use Rattle.sbp_initiator.specs.Refusals as refusals
+use Rattle.sbp_initiator.specs.Seeing.{see_step}
+use Rattle.sbp_initiator.specs.States.{wanted_body}
+use Rattle.sbp_initiator.specs.Histories.Begins.{IsFree, after_by, begun_as}
+use Rattle.sbp_initiator.specs.Histories.Laws.{Call, IsCall, acts as act_call, after, done, lets_expire, receives, sees as sees_call}
+use Rattle.sbp_initiator.specs.Histories.Ends.{is_managed}
+use Rattle.sbp_initiator.specs.Histories.Marks.{expired_reads, finding_reads, has_read, is_read, read_begun, reads_by}
+use Rattle.sbp_initiator.specs.declared.purpose.Demand.{Demand}
+use Rattle.sbp_initiator.specs.declared.purpose.Purpose.{Purpose}
+use Rattle.sbp_initiator.specs.declared.purpose.Purpose.TheVariants as purposes
+use Rattle.sbp_initiator.specs.declared.purpose.Running.{Running}
+use Rattle.sbp_initiator.specs.declared.purpose.Wanted.TheVariants as wants
+use Rattle.sbp_initiator.specs.declared.state.InitiatorState.{InitiatorState}
+use Rattle.sbp_initiator.proofs.FirstRow.{refusal_law}
+use Rattle.sbp_initiator.proofs.Histories.Known.{mark_law}
+use Rattle.sbp_initiator.proofs.Histories.Over.{counted_now, pointed_now, sound}
+use Rattle.sbp_initiator.proofs.Histories.Purposes.{IsOf, all_began, life_of}
+use Rattle.sbp_initiator.proofs.Histories.Runs.{FitsNow}
+use Rattle.sbp_journal.specs.Outgoings.{empty_outbox}
+use Rattle.sbp_journal.specs.Run.{Moment, asked, said}
+use Rattle.sbp_journal.specs.Transactions.{Kind, Sending, Transaction, between, part_of}
+use Rattle.sbp_journal.specs.Wire.{Held, Terms, kind_in, terms}
+use Rattle.sbp_journal.specs.declared.cause.Judged.{Judged}
+use Rattle.sbp_journal.specs.declared.cause.Judged.TheVariants as judgements
+use Rattle.sbp_journal.specs.declared.event.Action.{Action}
+use Rattle.sbp_journal.specs.declared.event.Action.TheVariants as actions
+use Rattle.sbp_journal.specs.declared.event.Event.{Event}
+use Rattle.sbp_journal.specs.declared.event.Event.TheVariants as events
+use Rattle.sbp_journal.specs.declared.note.Note.{Note}
+use Rattle.sbp_journal.specs.declared.note.Note.TheVariants as notes
+use Rattle.sbp_journal.specs.declared.operation.Operation.{Operation}
+use Rattle.sbp_journal.specs.declared.outbox.Outgoing.{Outgoing}
+use Rattle.sbp_journal.specs.declared.side.Side.{Side}
+use Rattle.sbp_journal.specs.declared.side.Side.TheVariants as sides
+use Rattle.sbp_laws.specs.Hosts.{Host, StateRead, Underway, acted, host_at, is_serial, new_host, operation_of, ready_host, reset_seen, told_of}
+use Rattle.sbp_laws.specs.Lists.{present_list}
+use Rattle.sbp_laws.specs.Packets.{answered_at, sender_in}
+use Rattle.sbp_laws.specs.Turns.{event_of}
+use Rattle.sbp_world.proofs.Common.{least, none_is, some_none, untrue}
+use Rattle.sbp_world.proofs.Hosts.ActLeft.{ActLeft, HasAsked, act_left}
+use Rattle.sbp_world.proofs.Hosts.Alone.{call_same}
+use Rattle.sbp_world.proofs.Hosts.Asked.{IsRequest, number_in}
+use Rattle.sbp_world.proofs.Hosts.Calling.{called_on}
+use Rattle.sbp_world.proofs.Hosts.Carried.{between_runs, of_runs}
+use Rattle.sbp_world.proofs.Hosts.Carries.{Carries, Does, IsLineOf, IsNoAct, Tells, is_apart}
+use Rattle.sbp_world.proofs.Hosts.Cores.{not_so}
+use Rattle.sbp_world.proofs.Hosts.Held.{ignored_quiet, sent_begun, sent_count}
+use Rattle.sbp_world.proofs.Hosts.Hosted.{Cored, expires_fit, hears_fit, marks_of}
+use Rattle.sbp_world.proofs.Hosts.KnowActs.{no_packets}
+use Rattle.sbp_world.proofs.Hosts.Layered.{AreTame, expire_left, receive_left}
+use Rattle.sbp_world.proofs.Hosts.Lives.{At, Called, ask_begins, ask_keeps, at_life, expire_at, judge_at}
+use Rattle.sbp_world.proofs.Hosts.Pointed.{expired_called, expiring_stays, judged_called, judged_fit, stale_is}
+use Rattle.sbp_world.proofs.Hosts.PointerNotes.{Fit, Told, apart_passes, opens, tame_told}
+use Rattle.sbp_world.proofs.Hosts.Pointing.{asked_generation, called_of, sent_waits}
+use Rattle.sbp_world.proofs.Hosts.Shown.{IsElsewhere, IsHeard, IsShown}
+use Rattle.sbp_world.proofs.Lists.ManageActs.{act_operation, new_by, same_operation}
+use Rattle.sbp_world.proofs.Lists.ManageFirsts.{Goes, begun_first, goes_then, kept_first, line_first, note_first, other_first, sent_first, told_first}
+use Rattle.sbp_world.proofs.Lists.ManageHears.{hears_left, lapses_left}
+use Rattle.sbp_world.proofs.Lists.ManageLeaves as leaves
+use Rattle.sbp_world.proofs.Pointers.Asks.{act_allowed}
+use Rattle.sbp_world.proofs.Pointers.GuardActs.{none_underway}
+use Rattle.sbp_world.proofs.Pointers.GuardDoes.{Ready}
+use Rattle.sbp_world.proofs.Pointers.Guarded.{Guarded}
+use Rattle.sbp_world.proofs.Pointers.Guarding.{first_guarded, guarded_carried, ready_known}
+use Rattle.sbp_world.proofs.Pointers.Resetting.{asked_host}
+use Rattle.sbp_world.proofs.Hosts.PointSees.{see_left}
+use Rattle.sbp_world.proofs.Pointers.WaitActs.{see_old}
+use Rattle.sbp_world.proofs.Pointers.Waits.{judged_count, timed_count}
+use Rattle.sbp_world.proofs.Lists.LiveTurns.{flag_is}
+use Rattle.sbp_world.proofs.Wire.Deliver.{judging_stays}
+use Rattle.sbp_world.specs.Histories.{history_of}
+use Rattle.sbp_world.specs.Hosts.Calling.{IsCalled}
+use Rattle.sbp_world.specs.Hosts.Core.{work_in, work_of}
+use Rattle.sbp_world.specs.Hosts.Refusing.{initiator_of}
+use Rattle.sbp_world.specs.Hosts.Runs.{IsRun, more_deliveries}
+use Rattle.sbp_world.specs.Runs.{Run, after as world_after, beginning}
+use Rattle.sbp_world.specs.Settling.{MayAll, after_all}
+use Rattle.sbp_world.specs.Worlds.{begun, initiator_at}
+use Rattle.rbc_disk.specs.Runs.{Told as ToldRun}
+use Rattle.sbp_world.specs.Hosts.Calls.{behind}
+use Rattle.turn_laws.proofs.HostReads.{Reads, acted_reads, all_kept, apart_reads, got_reads, is_gone, late_reads, over_if, seen_reads, sent_reads, told_reads}
+use Rattle.turn_laws.proofs.ReadPairs.{AreZipped, zipped_map, zipped_more}
+use Rattle.turn_laws.proofs.ReadsUnderWay.{AreTimely, ClosedFor, IsPair, LapsedFor, StateAt, WaitsAt, ended_by, ended_for, ended_late, expire_goes, finding_left, got_off, got_on, judge_goes, lapsed_left, late_off, late_on, zipped_then}
+use Rattle.turn_laws.proofs.OwnFacts.{operation_same}
+use Rattle.turn_laws.proofs.OwnStates.{AreAsMany, AreInOrder, AreReset, both as both_reset, none as none_reset}
+
+-- ---- what an initiator has, by its calls
+module _ (ready : Bool) (i : ℕ) (s : InitiatorState) (own : IsCalled ready i s) where
+  abbrev was : Turn
+  was = after i ready own.calls
+
+  states_step : (call : Call) → IsCall call → (done call (empty_outbox, s)).1.states ≡ reads_by call was s.states
+  states_step call fit =
+      ap (λ (x : InitiatorState). x.states) (sym (call_same call was.0 empty_outbox was.1 ∙ ap (λ (x : InitiatorState). (done call (empty_outbox, x)).1) own.is))
+      ∙ (mark_law i ready (call ∷ own.calls) (fit, own.fit)).reads
+      ∙ ap (λ acts. reads_by call was acts) (sym (mark_law i ready own.calls own.fit).reads ∙ ap (λ (x : InitiatorState). x.states) own.is)
+
+  running_before : (r : Running) → s.operation ≡ Some r → r.act < s.counts.acts
+  running_before = subst (λ (x : InitiatorState). (r : Running) → x.operation ≡ Some r → r.act < x.counts.acts) own.is ((sound i ready own.calls).begun.before)
+
+  module _ (peer number act : ℕ) (list : Option ℕ) (a : At s.layer peer number (Some (purposes.State act list))) where
+    abbrev node : ℕ
+    node = 0xffc1 + i
+
+    abbrev layer_calls : List (wire.Call Purpose)
+    layer_calls = (sound i ready own.calls).wires.calls
+
+    abbrev layer_now : Layer Purpose
+    layer_now = wire.after node layer_calls
+
+    b : At layer_now peer number (Some (purposes.State act list))
+    b = subst (λ (l : Layer Purpose). At l peer number (Some (purposes.State act list))) (sym ((sound i ready own.calls).wires.layer_is ∙ ap (λ (x : InitiatorState). x.layer) own.is)) a
+
+    abbrev name : LabelParts
+    name = record { number = number; generation = layer_now.generation; serial = b.serial }
+
+    lives_of : has_read act s.states ≡ true
+    lives_of =
+        subst (λ (x : InitiatorState). has_read act x.states ≡ true) own.is
+        ((sound i ready own.calls).wires.lives.has peer name b.kind act list (at_life node layer_calls peer number (Some (purposes.State act list)) b))
+
+    abbrev Fitting : Purpose → Type 0
+    Fitting = FitsNow was.1.operation was.1.counts.acts (counted_now i ready own.calls) (pointed_now i ready own.calls)
+
+    earlier_of : act < s.counts.acts
+    earlier_of =
+        let f : Fitting (purposes.State act list) =
+        subst (λ x. IsOf Fitting x) (at_life node layer_calls peer number (Some (purposes.State act list)) b)
+        (life_of Fitting peer name (wire.history node layer_calls) (all_began Fitting node layer_calls (sound i ready own.calls).wires.asks)) in
+        subst (λ (x : InitiatorState). act < x.counts.acts) own.is f.earlier
+
+-- ---- what is carried on
+pub record Paired (ready : Bool) (past : List Moment) (i : ℕ) (s : InitiatorState) : Type 0 where
+  pub guarded : Guarded ready past i s
+  pub pairs : Fit past → AreTimely past → AreZipped (IsPair past i s) (Reads past i) s.states
+  pub first : Fit past → (u : Underway) → (host_at past i).operation ≡ Some u → u.first ≤ (terms past).count
+
+-- as others tell and send something
+module _ (past now : List Moment) (i : ℕ) (s : InitiatorState) (goes : Goes (host_at past i) (host_at now i)) (count : (terms past).count ≤ (terms now).count) where
+  first_on : ((u : Underway) → (host_at past i).operation ≡ Some u → u.first ≤ (terms past).count) → (u : Underway) → (host_at now i).operation ≡ Some u → u.first ≤ (terms now).count
+  first_on h u e = (let w = goes.on u e in let b = h w.was w.is in let f = w.first in omega (arith, b, f, count))
+
+  module _ (held : (m : ℕ) (k : Kind) (n : ℕ) → WaitsAt past i s.layer m k n → WaitsAt now i s.layer m k n) (reads : Reads now i ≡ Reads past i) where
+    pair_on : (read : StateRead) (act : ℕ) → IsPair past i s read act → IsPair now i s read act
+    pair_on read act p = record {
+      number = p.number;
+      list = p.list;
+      kind = p.kind;
+      at = p.at;
+      held = held p.number p.kind read.serial p.held;
+      order = λ u e r f. (let w = goes.on u e in ap (λ n. nat_lt n read.serial) (sym w.first) ∙ p.order w.was w.is r f);
+      below = (let b = p.below in omega (arith, b, count));
+    }
+
+    pairs_on : AreZipped (IsPair past i s) (Reads past i) s.states → AreZipped (IsPair now i s) (Reads now i) s.states
+    pairs_on z = subst (λ rs. AreZipped (IsPair now i s) rs s.states) (sym reads) (zipped_map (IsPair past i s) (IsPair now i s) pair_on (Reads past i) s.states z)
+
+told_timely : (told : List Side) (past : List Moment) → AreTame told → AreTimely (behind told past) → AreTimely past
+told_timely [] past h t = t
+told_timely (sides.Own note ∷ later) past h t = (told_timely later (said note ∷ past) h.1 t).1
+told_timely (_ ∷ later) past h t = absurd h.0
+
+told_paired : (ready : Bool) (told : List Side) (past : List Moment) (j : ℕ) (x : InitiatorState) → AreTame told → Guarded ready (behind told past) j x → Paired ready past j x
+    → Paired ready (behind told past) j x
+told_paired ready told past j x tame g h =
+    let k = tame_told told past j tame in
+    let goes = told_first told past j tame in
+    let count = least _ _ (ap (λ (t : Terms). t.count) k.wire) in
+    record {
+      guarded = g;
+      pairs = λ f m.
+          pairs_on past (behind told past) j x goes count (λ n k' o e. ap (λ (t : Terms). t.held (transaction x.layer.generation (suc j) 0 n)) k.wire ∙ e) (told_reads told past j tame)
+          (h.pairs (k.fit f) (told_timely told past tame m));
+      first = λ f. first_on past (behind told past) j x goes count (h.first (k.fit f));
+    }
+
+pub asked_paired : (ready : Bool) (line : ℕ) (event : Event) (past : List Moment) (i : ℕ) (s : InitiatorState) → Paired ready past i s → Paired ready (asked line event ∷ past) i s
+asked_paired ready line event past i s h =
+    let o = opens event (terms past) in
+    let goes = line_first line event past i in
+    let count = least _ _ o.count in
+    record {
+      guarded = (guarded_carried ready).asked line event past i s h.guarded;
+      pairs = λ f m.
+          pairs_on past (asked line event ∷ past) i s goes count (λ n k o' e. ap (λ (x : Transaction → Held). x (transaction s.layer.generation (suc i) 0 n)) o.held ∙ e) refl
+          (h.pairs (record { serials = f.serials; sent = f.sent }) m.1);
+      first = λ f. first_on past (asked line event ∷ past) i s goes count (h.first (record { serials = f.serials; sent = f.sent }));
+    }
+
+apart_goes : (note : Note) (past : List Moment) (i : ℕ) → is_apart i note ≡ true → Goes (host_at past i) (host_at (said note ∷ past) i)
+apart_goes (notes.Begin initiators ready) past i e = untrue e
+apart_goes (notes.Sent serial generation from to bytes) past i e = other_first serial generation from to bytes past i (not_so (nat_eq from (suc i)) e)
+apart_goes note past i e = note_first note past i refl
+
+apart_paired : (ready : Bool) (note : Note) (past : List Moment) (i : ℕ) (s : InitiatorState) → is_apart i note ≡ true → IsElsewhere past i note → Paired ready past i s
+    → Paired ready (said note ∷ past) i s
+apart_paired ready note past i s e w h =
+    let passes = apart_passes note past i e w in
+    let goes = apart_goes note past i e in
+    record {
+      guarded = (guarded_carried ready).apart note past i s e w h.guarded;
+      pairs = λ f m. pairs_on past (said note ∷ past) i s goes passes.count (λ n k o x. passes.held s.layer.generation n ∙ x) (apart_reads note past i e w) (h.pairs (passes.fit f) m.1);
+      first = λ f. first_on past (said note ∷ past) i s goes passes.count (h.first (passes.fit f));
+    }
+
+sent_paired : (ready : Bool) (serial generation from to : ℕ) (bytes : List ℕ) (past : List Moment) (i : ℕ) (s : InitiatorState) → IsNoAct i (event_of past) → Paired ready past i s
+    → Paired ready (said (notes.Sent serial generation from to bytes) ∷ past) i s
+sent_paired ready serial generation from to bytes past i s n h =
+    let t = terms past in
+    let packet : Sending = record { generation = generation; from = from; to = to; bytes = bytes; injected = t.injected serial } in
+    let now = said (notes.Sent serial generation from to bytes) ∷ past in
+    let goes = sent_first serial generation from to bytes past i n in
+    let count : t.count ≤ (terms now).count = (let d = sent_count serial packet t in omega (arith, d)) in
+    record {
+      guarded = (guarded_carried ready).sent serial generation from to bytes past i s n h.guarded;
+      pairs = λ f m.
+          pairs_on past now i s goes count (λ x k o e. sent_waits t serial packet f.sent.0 (transaction s.layer.generation (suc i) 0 x) k o e) (sent_reads serial generation from to bytes past i n)
+          (h.pairs (record { serials = f.serials.1; sent = f.sent.1 }) m.1);
+      first = λ f. first_on past now i s goes count (h.first (record { serials = f.serials.1; sent = f.sent.1 }));
+    }
+
+-- ---- the operation under way ends, or stays
+stays_or_ends : (s : InitiatorState) (Why : Running → Type 0) (u : InitiatorState) → leaves.Left s Why u → (u.operation ≡ s.operation) ⊎ (u.operation ≡ None)
+stays_or_ends s Why u left = by left.operation
+  where
+    by : (u.operation ≡ s.operation) ⊎ leaves.IsEnded s Why u → (u.operation ≡ s.operation) ⊎ (u.operation ≡ None)
+    by (inl e) = inl e
+    by (inr e) = inr e.none
+
+closed_ended : (finding : Finding Purpose) (act : ℕ) (list : Option ℕ) → ClosedFor finding (Some (purposes.State act list)) → ended_by finding ≡ Some act
+closed_ended (of_response p label other) act list e = ap ended_for e
+closed_ended of_generation act list e = absurd e
+closed_ended of_grammar act list e = absurd e
+closed_ended of_label act list e = absurd e
+closed_ended (of_again p rcode) act list e = absurd e
+closed_ended (of_request p) act list e = absurd e
+
+lapsed_ended : (r : Result (Option Purpose) Stale) (act : ℕ) (list : Option ℕ) → LapsedFor r (Some (purposes.State act list)) → ended_late r ≡ Some act
+lapsed_ended (Ok other) act list e = ap ended_for e
+lapsed_ended (Err stale) act list e = absurd e
+
+-- ---- a packet is heard
+module _ (ready : Bool) (serial generation : ℕ) (bytes : List ℕ) (past : List Moment) (i : ℕ) (s : InitiatorState) (heard : IsHeard past i serial generation bytes)
+    (shown : IsShown past i s.target s.layer)
+    (after_it : IsShown (said (judged_note serial (receive_step generation bytes empty_outbox s).0) ∷ past) i s.target (judging_step s.layer generation bytes).1) (h : Paired ready past i s) where
+  abbrev judged : Judged
+  judged = (receive_step generation bytes empty_outbox s).0
+
+  abbrev heard_now : List Moment
+  heard_now = said (judged_note serial judged) ∷ past
+
+  abbrev t : Turn
+  t = (receive_step generation bytes empty_outbox s).1
+
+  abbrev finding : Finding Purpose
+  finding = (judging_step s.layer generation bytes).0
+
+  abbrev own_heard : IsCalled ready i s
+  own_heard = h.guarded.pointed.cored.own.called
+
+  called : Called s.layer
+  called = called_of h.guarded.pointed.cored
+
+  abbrev gone_by : Judged → Option ℕ
+  gone_by judgements.Got = answered_at (terms past) serial
+  gone_by (judgements.Ignored cause) = None
+
+  goes_by : (j : Judged) → Goes (host_at past i) (host_at (said (judged_note serial j) ∷ past) i)
+  goes_by judgements.Got = note_first (notes.Got serial) past i refl
+  goes_by (judgements.Ignored cause) = note_first (notes.Ignored serial cause) past i refl
+
+  reads_by_judged : (j : Judged) → Reads (said (judged_note serial j) ∷ past) i ≡ filter (λ (r : StateRead). not (is_gone (gone_by j) r.serial)) (Reads past i)
+  reads_by_judged judgements.Got = got_reads serial heard.packet past i heard.sent heard.to_is
+  reads_by_judged (judgements.Ignored cause) = sym (all_kept (Reads past i))
+
+  stays_by : (f : Fit past) (j : Judged) (m : ℕ) (k : Kind) (n : ℕ) → WaitsAt past i s.layer m k n → is_gone (gone_by j) n ≡ false → WaitsAt (said (judged_note serial j) ∷ past) i s.layer m k n
+  stays_by f judgements.Got m k n e g = got_on past f.serials serial heard.packet heard.sent (transaction s.layer.generation (suc i) 0 m) k n e g
+  stays_by f (judgements.Ignored cause) m k n e g =
+      ap (λ (x : Transaction → Held). x (transaction s.layer.generation (suc i) 0 m)) (ignored_quiet ((terms past).sent serial) cause serial (terms past)).held ∙ e
+
+  ends_by_judged : (f : Fit past) (j : Judged) (m : ℕ) (k : Kind) (n : ℕ) → WaitsAt past i s.layer m k n → is_gone (gone_by j) n ≡ true → (k' : Kind) (n' : ℕ)
+      → WaitsAt (said (judged_note serial j) ∷ past) i s.layer m k' n' → ⊥
+  ends_by_judged f judgements.Got m k n e g k' n' w = got_off past f.serials serial heard.packet heard.sent (transaction s.layer.generation (suc i) 0 m) k n e g k' n' w
+  ends_by_judged f (judgements.Ignored cause) m k n e g k' n' w = untrue g
+
+  on_by : (m act : ℕ) (list : Option ℕ) → StateAt s.layer s.target m act list → StateAt (judging_step s.layer generation bytes).1 s.target m act list ⊎ (ended_by finding ≡ Some act)
+  on_by m act list a = by (judge_goes s.layer s.target m (Some (purposes.State act list)) called a generation bytes)
+    where
+      by : StateAt (judging_step s.layer generation bytes).1 s.target m act list ⊎ ClosedFor finding (Some (purposes.State act list))
+          → StateAt (judging_step s.layer generation bytes).1 s.target m act list ⊎ (ended_by finding ≡ Some act)
+      by (inl x) = inl x
+      by (inr x) = inr (closed_ended finding act list x)
+
+  hears_paired : Tells (Paired ready) heard_now i t
+  hears_paired =
+      let left = receive_left generation bytes s in
+      let tells = (guarded_carried ready).hears serial generation bytes past i s heard shown after_it h.guarded in
+      let then_called = called_on ready i s (receives generation bytes) tt own_heard in
+      let goes = goes_by judged in
+      let count = judged_count serial judged past in
+      record {
+        own = record {
+          guarded = tells.own;
+          pairs = λ f m.
+              let f_now = (tame_told t.0.sides heard_now i left.told).fit f in
+              let f_past = judged_fit serial judged past f_now in
+              zipped_then past heard_now i s (judging_step s.layer generation bytes).1 t (gone_by judged) (ended_by finding)
+              after_it (judging_stays s.layer generation bytes) (judged_called ready s.layer generation bytes called) left
+              (stays_by f_past judged) (ends_by_judged f_past judged) (λ n q a. judge_at s.layer generation bytes s.target n q called a) on_by
+              goes count (stays_or_ends s _ t.1 (hears_left s generation bytes (hears_fit ready i s own_heard generation bytes)))
+              (λ n act list a. lives_of ready i t.1 then_called t.1.target n act list a)
+              (states_step ready i s own_heard (receives generation bytes) tt ∙ ap (λ (x : InitiatorState). finding_reads (judging_step x.layer generation bytes).0 s.states) own_heard.is
+                  ∙ finding_left finding s.states)
+              (reads_by_judged judged)
+              (h.pairs f_past (told_timely t.0.sides heard_now left.told m).1);
+          first = λ f. first_on past (behind t.0.sides heard_now) i s
+              (goes_then (host_at past i) (host_at heard_now i) (host_at (behind t.0.sides heard_now) i) goes (told_first t.0.sides heard_now i left.told))
+              (let w = ap (λ (x : Terms). x.count) (tame_told t.0.sides heard_now i left.told).wire in omega (arith, w, count))
+                  (h.first (judged_fit serial judged past ((tame_told t.0.sides heard_now i left.told).fit f)));
+        };
+        others = λ j x e g. told_paired ready t.0.sides heard_now j x left.told (tells.others j x e g.guarded) g;
+      }
+
+-- ---- a transaction times out
+module _ (ready : Bool) (serial : ℕ) (label : LabelParts) (past : List Moment) (i : ℕ) (s : InitiatorState)
+    (after_it : IsShown (said (notes.TimedOut serial) ∷ past) i s.target (expiring_step s.layer s.target label).1) (h : Paired ready past i s) where
+  abbrev late : List Moment
+  late = said (notes.TimedOut serial) ∷ past
+
+  abbrev late_turn : Turn
+  late_turn = (expire_step label empty_outbox s).1
+
+  abbrev lapsed : Result (Option Purpose) Stale
+  lapsed = (expiring_step s.layer s.target label).0
+
+  abbrev own_calls : IsCalled ready i s
+  own_calls = h.guarded.pointed.cored.own.called
+
+  layer_called : Called s.layer
+  layer_called = called_of h.guarded.pointed.cored
+
+  abbrev over : Option ℕ
+  over = over_if (is_serial (sender_in ((terms past).sent serial)) (suc i)) serial
+
+  on_late : (m act : ℕ) (list : Option ℕ) → StateAt s.layer s.target m act list → StateAt (expiring_step s.layer s.target label).1 s.target m act list ⊎ (ended_late lapsed ≡ Some act)
+  on_late m act list a = by (expire_goes s.layer s.target m (Some (purposes.State act list)) layer_called a s.target label)
+    where
+      by : StateAt (expiring_step s.layer s.target label).1 s.target m act list ⊎ LapsedFor lapsed (Some (purposes.State act list))
+          → StateAt (expiring_step s.layer s.target label).1 s.target m act list ⊎ (ended_late lapsed ≡ Some act)
+      by (inl x) = inl x
+      by (inr x) = inr (lapsed_ended lapsed act list x)
+
+  expires_paired : Tells (Paired ready) late i late_turn
+  expires_paired =
+      let left = expire_left label s in
+      let tells = (guarded_carried ready).expires serial label past i s after_it h.guarded in
+      let then_called = called_on ready i s (lets_expire label) tt own_calls in
+      let goes = note_first (notes.TimedOut serial) past i refl in
+      let count = timed_count serial past in
+      record {
+        own = record {
+          guarded = tells.own;
+          pairs = λ f m.
+              let f_now = (tame_told late_turn.0.sides late i left.told).fit f in
+              let timely = told_timely late_turn.0.sides late left.told m in
+              zipped_then past late i s (expiring_step s.layer s.target label).1 late_turn over (ended_late lapsed)
+              after_it (expiring_stays s.layer s.target label) (expired_called ready s.layer s.target label layer_called) left
+              (λ n k o e g. late_on past f_now.serials serial timely.0 s.layer.generation i n k o e g)
+                  (λ n k o e g k' o' w. late_off past f_now.serials serial timely.0 s.layer.generation i n k o e g k' o' w)
+              (λ n q a. expire_at s.layer s.target label s.target n q layer_called a) on_late
+              goes count (stays_or_ends s _ late_turn.1 (lapses_left s label (expires_fit ready i s own_calls label)))
+              (λ n act list a. lives_of ready i late_turn.1 then_called late_turn.1.target n act list a)
+              (states_step ready i s own_calls (lets_expire label) tt ∙ ap (λ (x : InitiatorState). expired_reads (expiring_step x.layer x.target label).0 s.states) own_calls.is
+                  ∙ lapsed_left lapsed s.states)
+              (late_reads serial past i)
+              (h.pairs (record { serials = f_now.serials; sent = f_now.sent }) timely.1);
+          first = λ f. first_on past (behind late_turn.0.sides late) i s
+              (goes_then (host_at past i) (host_at late i) (host_at (behind late_turn.0.sides late) i) goes (told_first late_turn.0.sides late i left.told))
+              (let w = ap (λ (x : Terms). x.count) (tame_told late_turn.0.sides late i left.told).wire in omega (arith, w, count))
+              (let g = (tame_told late_turn.0.sides late i left.told).fit f in h.first (record { serials = g.serials; sent = g.sent }));
+        };
+        others = λ j x e g. told_paired ready late_turn.0.sides late j x left.told (tells.others j x e g.guarded) g;
+      }
+
+-- ---- a generation is seen
+module _ (ready : Bool) (generation id target : ℕ) (past : List Moment) (i : ℕ) (s : InitiatorState)
+    (flag : (seeing_step s.layer generation id).0 ≡ not (generation == (terms past).generation (suc i))) (h : Paired ready past i s) where
+  abbrev sight : List Moment
+  sight = said (notes.Seen (suc i) generation) ∷ past
+
+  abbrev seen_turn : Turn
+  seen_turn = see_step generation id target empty_outbox s
+
+  abbrev Zipped : Turn → Type 0
+  Zipped u = AreZipped (IsPair (behind u.0.sides sight) i u.1) (Reads (behind u.0.sides sight) i) u.1.states
+
+  told_tame : AreTame seen_turn.0.sides
+  told_tame = (see_left generation id target s).told
+
+  is_new : not (nat_eq generation ((terms past).generation (suc i))) ≡ nat_lt s.layer.generation generation
+  is_new = sym flag ∙ flag_is s.layer generation id
+
+  seen_pairs : Fit past → AreTimely past → (b : Bool) → nat_lt s.layer.generation generation ≡ b → Zipped seen_turn
+  seen_pairs f m true e =
+      let calls = h.guarded.pointed.cored.own.called in
+      let none : seen_turn.1.states ≡ [] =
+      states_step ready i s calls (sees_call generation id target) tt ∙ ap (λ (x : InitiatorState). cond (nat_lt x.layer.generation generation) [] s.states) calls.is
+          ∙ ap (λ b. cond b [] s.states) e in
+      let nothing : Reads (behind seen_turn.0.sides sight) i ≡ [] =
+      told_reads seen_turn.0.sides sight i told_tame ∙ seen_reads generation past i ∙ ap (λ b. (reset_seen b (host_at past i)).reads) (is_new ∙ e) in
+      subst (λ acts. AreZipped (IsPair (behind seen_turn.0.sides sight) i seen_turn.1) (Reads (behind seen_turn.0.sides sight) i) acts) (sym none)
+      (subst (λ rs. AreZipped (IsPair (behind seen_turn.0.sides sight) i seen_turn.1) rs []) (sym nothing) tt)
+  seen_pairs f m false e =
+      let count : (terms past).count ≤ (terms sight).count = omega arith in
+      subst Zipped (sym (see_old generation id target s e))
+      (pairs_on past sight i s (note_first (notes.Seen (suc i) generation) past i refl) count (λ n k o x. x)
+      (seen_reads generation past i ∙ ap (λ b. (reset_seen b (host_at past i)).reads) (is_new ∙ e)) (h.pairs f m))
+
+  sees_paired : Tells (Paired ready) sight i seen_turn
+  sees_paired =
+      let tells = (guarded_carried ready).sees generation id target past i s flag h.guarded in
+      let count : (terms past).count ≤ (terms sight).count = omega arith in
+      record {
+        own = record {
+          guarded = tells.own;
+          pairs = λ f m.
+              let g = (tame_told seen_turn.0.sides sight i told_tame).fit f in
+              seen_pairs (record { serials = g.serials; sent = g.sent }) (told_timely seen_turn.0.sides sight told_tame m).1 (nat_lt s.layer.generation generation) refl;
+          first = λ f. first_on past (behind seen_turn.0.sides sight) i s
+              (goes_then (host_at past i) (host_at sight i) (host_at (behind seen_turn.0.sides sight) i) (note_first (notes.Seen (suc i) generation) past i refl)
+                  (told_first seen_turn.0.sides sight i told_tame))
+              (let w = ap (λ (x : Terms). x.count) (tame_told seen_turn.0.sides sight i told_tame).wire in omega (arith, w, count))
+              (let g = (tame_told seen_turn.0.sides sight i told_tame).fit f in h.first (record { serials = g.serials; sent = g.sent }));
+        };
+        others = λ j x e g. told_paired ready seen_turn.0.sides sight j x told_tame (tells.others j x e g.guarded) g;
+      }
+
+-- ---- an action
+is_state : (action : Action) → is_read action ≡ true → action ≡ actions.State
+is_state actions.State e = refl
+is_state _ e = untrue e
+
+asked_sends : (s : InitiatorState) (r : Option Asked × Layer Purpose) → (asked_as r actions.State empty_outbox s).0 ≡ None → (asked_as r actions.State empty_outbox s).1.0.packets ≡ [] → ⊥
+unfolding done_step
+asked_sends s (None, layer) e n = some_none 10 e
+asked_sends s (Some one, layer) e n = no_packets _ n
+
+state_sends : (s : InitiatorState) → (act_step actions.State empty_outbox s).0 ≡ None → (act_step actions.State empty_outbox s).1.0.packets ≡ [] → ⊥
+unfolding act_step
+state_sends s e n = by (refusal actions.State (facts_with true s actions.State)) e n
+  where
+    by : (r : Option ℕ) → (judged_as r actions.State empty_outbox s).0 ≡ None → (judged_as r actions.State empty_outbox s).1.0.packets ≡ [] → ⊥
+    by (Some number) e n = some_none number e
+    by None e n = asked_sends s (asked_for (record { wanted = wants.Read (register_of s 0x00); purpose = purposes.State s.counts.acts (counted_list s.lists.slots.present s) }) s) e n
+
+module _ (ready : Bool) (action : Action) (past : List Moment) (i : ℕ) (s : InitiatorState) (under : event_of past ≡ Some (events.Act i action)) (fit : IsLineOf action)
+    (done_is : (act_step action empty_outbox s).0 ≡ None)
+    (shown : IsShown past i s.target s.layer) (known : Ready past i s) (h : Paired ready past i s) where
+  abbrev act_turn : Turn
+  act_turn = (act_step action empty_outbox s).1
+
+  abbrev ms : List Moment
+  ms = behind act_turn.0.sides past
+
+  left : ActLeft action s act_turn
+  left = act_left action s done_is
+
+  abbrev cored : Cored ready past i s
+  cored = h.guarded.pointed.cored
+
+  told : Told past act_turn.0.sides i
+  told = tame_told act_turn.0.sides past i left.told
+
+  goes_told : Goes (host_at past i) (host_at ms i)
+  goes_told = told_first act_turn.0.sides past i left.told
+
+  abbrev begins : Option Operation
+  begins = refusals.operation_of action
+
+  operation_now : act_turn.1.operation ≡ after_by begins s
+  operation_now = act_operation action s (act_allowed action s done_is) (marks_of ready i s cored.own.called) done_is
+
+  free : IsFree begins s
+  free = (act_allowed action s done_is).free
+
+  states_now : act_turn.1.states ≡ cond (is_read action) (s.states ++ s.counts.acts ∷ []) s.states
+  states_now =
+      let calls = cored.own.called in
+      let turn = after i ready calls.calls in
+      let none : (act_step action turn.0 turn.1).0 ≡ None = refusal_law.first action turn.0 turn.1 ∙ sym (refusal_law.first action empty_outbox turn.1)
+          ∙ ap (λ (x : InitiatorState). (act_step action empty_outbox x).0) calls.is ∙ done_is in
+      states_step ready i s calls (act_call action) fit.0
+      ∙ ap (λ r. read_begun r action turn.1.counts.acts s.states) none
+      ∙ ap (λ (x : InitiatorState). cond (is_read action) (s.states ++ x.counts.acts ∷ []) s.states) calls.is
+
+  -- where an operation begins none was under way
+  no_underway : (operation : Operation) → begins ≡ Some operation → (u : Underway) → (host_at past i).operation ≡ Some u → ⊥
+  no_underway operation e u f = none_is u (sym (none_underway past i s cored.core (subst (λ x. IsFree x s) e free)) ∙ f)
+
+  was_running : (o : Option Operation) → begins ≡ o → (r : Running) → act_turn.1.operation ≡ Some r → o ≡ None → s.operation ≡ Some r
+  was_running None e r f n = sym (operation_now ∙ ap (λ x. after_by x s) e) ∙ f
+  was_running (Some operation) e r f n = some_none operation n
+
+  -- one that sends nothing
+  module _ (none : act_turn.0.packets ≡ []) where
+    not_read : (b : Bool) → is_read action ≡ b → is_read action ≡ false
+    not_read false e = e
+    not_read true e =
+        let is = is_state action e in
+        absurd (state_sends s (ap (λ a. (act_step a empty_outbox s).0) (sym is) ∙ done_is) (ap (λ a. (act_step a empty_outbox s).1.0.packets) (sym is) ∙ none))
+
+    quiet_pair : (read : StateRead) (act : ℕ) → IsPair past i s read act → IsPair ms i act_turn.1 read act
+    quiet_pair read act p = record {
+      number = p.number;
+      list = p.list;
+      kind = p.kind;
+      at = subst (λ (l : Layer Purpose). At l act_turn.1.target p.number (Some (purposes.State act p.list))) (sym (left.quiet none))
+          (subst (λ n. At s.layer n p.number (Some (purposes.State act p.list))) (sym left.target_is) p.at);
+      held =
+          ap (λ (l : Layer Purpose). (terms ms).held (transaction l.generation (suc i) 0 p.number)) (left.quiet none)
+          ∙ ap (λ (x : Terms). x.held (transaction s.layer.generation (suc i) 0 p.number)) told.wire ∙ p.held;
+      order = λ u e r f. (let w = goes_told.on u e in ap (λ n. nat_lt n read.serial) (sym w.first) ∙ p.order w.was w.is r (by begins refl r f (no_underway_at w.was w.is)));
+      below = (let b = p.below in let w = ap (λ (x : Terms). x.count) told.wire in omega (arith, b, w));
+    }
+      where
+        no_underway_at : (u : Underway) → (host_at past i).operation ≡ Some u → (operation : Operation) → begins ≡ Some operation → ⊥
+        no_underway_at u e operation f = no_underway operation f u e
+
+        by : (o : Option Operation) → begins ≡ o → (r : Running) → act_turn.1.operation ≡ Some r → ((operation : Operation) → begins ≡ Some operation → ⊥) → s.operation ≡ Some r
+        by None e r f n = was_running None e r f refl
+        by (Some operation) e r f n = absurd (n operation e)
+
+    quiet_pairs : AreZipped (IsPair past i s) (Reads past i) s.states → AreZipped (IsPair ms i act_turn.1) (Reads ms i) act_turn.1.states
+    quiet_pairs z =
+        subst (λ acts. AreZipped (IsPair ms i act_turn.1) (Reads ms i) acts) (sym (states_now ∙ ap (λ b. cond b (s.states ++ s.counts.acts ∷ []) s.states) (not_read (is_read action) refl)))
+        (subst (λ rs. AreZipped (IsPair ms i act_turn.1) rs s.states) (sym (told_reads act_turn.0.sides past i left.told))
+            (zipped_map (IsPair past i s) (IsPair ms i act_turn.1) quiet_pair (Reads past i) s.states z))
+
+  -- and one that sends a request
+  module _ (packet : Outgoing) (one : act_turn.0.packets ≡ packet ∷ []) (serial generation : ℕ) (injected : (terms past).injected serial ≡ false)
+      (q : IsRequest (number_in packet.label) packet.bytes) where
+    abbrev now : List Moment
+    now = said (notes.Sent serial generation (suc i) 0 packet.bytes) ∷ ms
+
+    abbrev sending : Sending
+    sending = record { generation = generation; from = suc i; to = 0; bytes = packet.bytes; injected = (terms ms).injected serial }
+
+    honest : (terms ms).injected serial ≡ false
+    honest = ap (λ (y : Terms). y.injected serial) told.wire ∙ injected
+
+    x : HasAsked action s packet act_turn.1.layer
+    x = left.asking packet one
+
+    called_now : Called s.layer
+    called_now = called_of cored
+
+    count_is : (terms ms).count ≡ (terms past).count
+    count_is = ap (λ (y : Terms). y.count) told.wire
+
+    count_now : (terms now).count ≡ (terms ms).count + 1
+    count_now = sent_count serial sending (terms ms)
+
+    kept : operation_of action ≡ None → Goes (host_at ms i) (host_at now i)
+    kept o = kept_first action (number_in packet.label) q.kind serial generation 0 packet.bytes ms i (told.line ∙ under) q.part honest o
+
+    goes_now : operation_of action ≡ None → Goes (host_at past i) (host_at now i)
+    goes_now o = goes_then (host_at past i) (host_at ms i) (host_at now i) goes_told (kept o)
+
+    first_is : (operation : Operation) → operation_of action ≡ Some operation → (u : Underway) → (host_at now i).operation ≡ Some u → u.first ≡ serial
+    first_is operation o u e = (begun_first action (number_in packet.label) q.kind serial generation 0 packet.bytes ms i (told.line ∙ under) q.part honest operation u o e).0
+
+    act_is : (operation : Operation) → begins ≡ Some operation → (r : Running) → act_turn.1.operation ≡ Some r → r.act ≡ s.counts.acts
+    act_is operation o r f =
+        ap (λ (y : Running). y.act) (sym (same_Some (begun_as (is_managed operation) operation s) r (sym (operation_now ∙ ap (λ y. after_by y s) o) ∙ f)))
+        ∙ (new_by (is_managed operation) operation s).act
+
+    stays : act_turn.1.layer.generation ≡ s.layer.generation
+    stays = asked_generation s.layer s.target (wanted_body x.demand.wanted) x.demand.purpose x.asked act_turn.1.layer x.step
+
+    module _ (f : Fit now) where
+      fit_past : Fit past
+      fit_past = told.fit (record { serials = f.serials.1; sent = f.sent.1 })
+
+      serial_is : serial ≡ (terms past).count + 1
+      serial_is = f.serials.0 ∙ ap (λ n. n + 1) count_is
+
+      old_pair : (read : StateRead) (act : ℕ) → IsPair past i s read act → IsPair now i act_turn.1 read act
+      old_pair read act p = record {
+        number = p.number;
+        list = p.list;
+        kind = p.kind;
+        at = subst (λ n. At act_turn.1.layer n p.number (Some (purposes.State act p.list))) (sym left.target_is)
+            (ask_keeps s.layer s.target (wanted_body x.demand.wanted) x.demand.purpose x.asked act_turn.1.layer called_now x.step s.target p.number (Some (purposes.State act p.list)) p.at);
+        held =
+            ap (λ g. (terms now).held (transaction g (suc i) 0 p.number)) stays
+            ∙ sent_waits (terms ms) serial sending f.sent.0 (transaction s.layer.generation (suc i) 0 p.number) p.kind read.serial
+                (ap (λ (y : Terms). y.held (transaction s.layer.generation (suc i) 0 p.number)) told.wire ∙ p.held);
+        order = λ u e r g. by begins refl u e r g;
+        below = (let b = p.below in let c = count_is in let d = count_now in omega (arith, b, c, d));
+      }
+        where
+          by : (o : Option Operation) → begins ≡ o → (u : Underway) → (host_at now i).operation ≡ Some u → (r : Running) → act_turn.1.operation ≡ Some r
+              → nat_lt u.first read.serial ≡ nat_lt r.act act
+          by None o u e r g =
+              let w = (goes_now (same_operation action ∙ o)).on u e in
+              ap (λ n. nat_lt n read.serial) (sym w.first) ∙ p.order w.was w.is r (was_running None o r g refl)
+          by (Some operation) o u e r g =
+              let b = p.below in
+              let first = first_is operation (same_operation action ∙ o) u e in
+              let new = serial_is in
+              let of_act = act_is operation o r g in
+              let old = earlier_of ready i s cored.own.called s.target p.number act p.list p.at in
+              let no : nat_lt u.first read.serial ≡ false = grind (arith, nat_tests, b, first, new) in
+              let nor : nat_lt r.act act ≡ false = grind (arith, nat_tests, of_act, old) in
+              no ∙ sym nor
+
+      -- the one that the action begins
+      module _ (is : action ≡ actions.State) where
+        abbrev list : Option ℕ
+        list = counted_list s.lists.slots.present s
+
+        abbrev number : ℕ
+        number = x.asked.label.number
+
+        abbrev begun_at : ℕ → Transaction
+        begun_at m = transaction s.layer.generation (suc i) 0 m
+
+        purpose_is : x.demand.purpose ≡ purposes.State s.counts.acts list
+        purpose_is = ap (λ (d : Demand). d.purpose) (sym (same_Some _ x.demand (ap (λ a. demand_of a s) (sym is) ∙ x.is)))
+
+        generation_is : generation ≡ s.layer.generation
+        generation_is = (f.sent.0 honest).now ∙ ap (λ (y : Terms). y.generation (suc i)) told.wire ∙ sym shown.generation
+
+        abbrev new_read : StateRead
+        new_read = record { serial = serial; list = told_of (host_at ms i).pointed (present_list ms i) }
+
+        none_begins : begins ≡ None
+        none_begins = ap refusals.operation_of is
+
+        new_pair : IsPair now i act_turn.1 new_read s.counts.acts
+        new_pair = record {
+          number = number;
+          list = list;
+          kind = kind_in (part_of packet.bytes);
+          at = subst (λ n. At act_turn.1.layer n number (Some (purposes.State s.counts.acts list))) (sym left.target_is)
+              (subst (λ (p : Purpose). At act_turn.1.layer s.target number (Some p)) purpose_is
+              (ask_begins s.layer s.target (wanted_body x.demand.wanted) x.demand.purpose x.asked act_turn.1.layer called_now x.step));
+          held =
+              ap (λ g. (terms now).held (transaction g (suc i) 0 number)) stays
+              ∙ sent_begun serial sending (terms ms) (begun_at number)
+                  (asked_begun sending (between sending sending.from sending.to (number_in packet.label)) honest (request_asked sending (number_in packet.label) q.kind q.part)
+                  ∙ ap (λ g. Some (transaction g (suc i) 0 (number_in packet.label))) generation_is
+                  ∙ ap (λ m. Some (begun_at m)) (ap number_in x.label));
+          order = λ u e r g.
+              let w = (goes_now (same_operation action ∙ none_begins)).on u e in
+              let b = h.first fit_past w.was w.is in
+              let same = w.first in
+              let new = serial_is in
+              let old = running_before ready i s cored.own.called r (was_running None none_begins r g refl) in
+              let yes : nat_lt u.first serial ≡ true = grind (arith, nat_tests, b, same, new) in
+              let too : nat_lt r.act s.counts.acts ≡ true = grind (arith, nat_tests, old) in
+              yes ∙ sym too;
+          below = (let a = f.serials.0 in let d = count_now in omega (arith, a, d));
+        }
+
+      host_is : host_at now i ≡ acted action (operation_of action) (present_list ms i) serial (host_at ms i)
+      host_is = asked_host action serial generation 0 packet.bytes ms i (told.line ∙ under) q honest
+
+      asking_pairs : (b : Bool) → is_read action ≡ b → AreZipped (IsPair past i s) (Reads past i) s.states → AreZipped (IsPair now i act_turn.1) (Reads now i) act_turn.1.states
+      asking_pairs false e z =
+          subst (λ acts. AreZipped (IsPair now i act_turn.1) (Reads now i) acts) (sym (states_now ∙ ap (λ b. cond b (s.states ++ s.counts.acts ∷ []) s.states) e))
+          (subst (λ rs. AreZipped (IsPair now i act_turn.1) rs s.states)
+          (sym (ap (λ (y : Host). y.reads) host_is ∙ acted_reads action (present_list ms i) serial (host_at ms i) (λ is. untrue (sym e ∙ ap is_read is))
+              ∙ told_reads act_turn.0.sides past i left.told))
+          (zipped_map (IsPair past i s) (IsPair now i act_turn.1) old_pair (Reads past i) s.states z))
+      asking_pairs true e z =
+          let is = is_state action e in
+          subst (λ acts. AreZipped (IsPair now i act_turn.1) (Reads now i) acts) (sym (states_now ∙ ap (λ b. cond b (s.states ++ s.counts.acts ∷ []) s.states) e))
+          (subst (λ rs. AreZipped (IsPair now i act_turn.1) rs (s.states ++ s.counts.acts ∷ []))
+          (sym (ap (λ (y : Host). y.reads) host_is ∙ ap (λ a. (acted a (operation_of a) (present_list ms i) serial (host_at ms i)).reads) is
+              ∙ ap (λ rs. rs ++ new_read is ∷ []) (told_reads act_turn.0.sides past i left.told)))
+          (zipped_more (IsPair past i s) (IsPair now i act_turn.1) old_pair (Reads past i) s.states (new_read is) s.counts.acts (new_pair is) z))
+
+      first_now : (o : Option Operation) → begins ≡ o → (u : Underway) → (host_at now i).operation ≡ Some u → u.first ≤ (terms now).count
+      first_now None o u e =
+          (let w = (goes_now (same_operation action ∙ o)).on u e in let b = h.first fit_past w.was w.is in let same = w.first in let c = count_is in let d =
+          count_now in omega (arith, b, same, c, d))
+      first_now (Some operation) o u e = (let a = first_is operation (same_operation action ∙ o) u e in let n = f.serials.0 in let d = count_now in omega (arith, a, n, d))
+
+  does_paired : Does (Paired ready) past i act_turn
+  does_paired =
+      let g = (guarded_carried ready).acts action past i s under fit done_is shown known h.guarded in
+      record {
+        others = λ j y e k. told_paired ready act_turn.0.sides past j y left.told (g.others j y e k.guarded) k;
+        quiet = λ none. record {
+          guarded = g.quiet none;
+          pairs = λ f m. quiet_pairs none (h.pairs (told.fit f) (told_timely act_turn.0.sides past left.told m));
+          first = λ f. first_on past ms i s goes_told (least _ _ (ap (λ (y : Terms). y.count) told.wire)) (h.first (told.fit f));
+        };
+        asking = λ packet one serial generation injected q. record {
+          guarded = g.asking packet one serial generation injected q;
+          pairs = λ f m. asking_pairs packet one serial generation injected q f (is_read action) refl
+              (h.pairs (fit_past packet one serial generation injected q f) (told_timely act_turn.0.sides past left.told m.1));
+          first = λ f. first_now packet one serial generation injected q f begins refl;
+        };
+      }
+
+-- ---- of every initiator of every run
+paired_carried : (ready : Bool) → Carries Ready (Paired ready)
+paired_carried ready = record {
+  known = (guarded_carried ready).known;
+  number = λ past i s h. h.guarded.pointed.cored.own.number;
+  asked = asked_paired ready;
+  apart = apart_paired ready;
+  sent = sent_paired ready;
+  hears = hears_paired ready;
+  expires = expires_paired ready;
+  stale = λ label past i s e h. subst (λ (x : InitiatorState). Paired ready past i x) (sym (stale_is ready label s e)) h;
+  sees = sees_paired ready;
+  acts = does_paired ready;
+}
+
+begun_reads : (b : Bool) (i : ℕ) → (cond b (ready_host i) new_host).reads ≡ []
+begun_reads true i = refl
+begun_reads false i = refl
+
+begun_none : (b : Bool) (i : ℕ) → (cond b (ready_host i) new_host).operation ≡ None
+begun_none true i = refl
+begun_none false i = refl
+
+first_paired : (line i initiators : ℕ) (ready : Bool) → i < initiators → Paired ready (said (notes.Begin initiators ready) ∷ asked line (events.Begin initiators ready) ∷ []) i (new_state i ready)
+unfolding new_state
+first_paired line i initiators ready b =
+    let past = said (notes.Begin initiators ready) ∷ asked line (events.Begin initiators ready) ∷ [] in
+    record {
+      guarded = first_guarded line i initiators ready b;
+      pairs = λ f m. subst (λ rs. AreZipped (IsPair past i (new_state i ready)) rs []) (sym (begun_reads (ready && nat_lt i initiators) i)) tt;
+      first = λ f u e. none_is u (sym (begun_none (ready && nat_lt i initiators) i) ∙ e);
+    }
+
+pub paired_of_runs : (line : ℕ) (run : Run) → IsRun run → (i : ℕ) → i < run.initiators → Paired run.ready (history_of line run) i (initiator_of run i)
+paired_of_runs line run r i b = of_runs (Paired run.ready) (paired_carried run.ready) line run (ready_known line run) (λ j c. first_paired line j run.initiators run.ready c) r i b
+
+abbrev pub PairedBetween : Run → (line next : ℕ) → Option ℕ → List (Option ToldRun) → ℕ → Type 0
+PairedBetween run line next most told i =
+    let w = (after_all told (begun (world_after (beginning run) run.entries))).world in
+    Paired run.ready (map said w.fresh ++ asked next (more_deliveries most) ∷ history_of line run) i (initiator_at w i)
+
+pub paired_between : (line : ℕ) (run : Run) → IsRun run → (next : ℕ) (most : Option ℕ) (told : List (Option ToldRun))
+    → MayAll told (begun (world_after (beginning run) run.entries)) → (i : ℕ) → i < run.initiators → PairedBetween run line next most told i
+paired_between line run r next most told m i b =
+    between_runs (Paired run.ready) (paired_carried run.ready) line run (ready_known line run) (λ j c. first_paired line j run.initiators run.ready c) r next most told m i b
+
+-- ---- so the operation and the reads under way are the same
+module _ (past : List Moment) (i : ℕ) (s : InitiatorState) where
+  many : (reads : List StateRead) (acts : List ℕ) → AreZipped (IsPair past i s) reads acts → AreAsMany reads acts
+  many [] [] z = tt
+  many (read ∷ reads) (act ∷ acts) z = many reads acts z.1
+  many [] (act ∷ acts) z = absurd z
+  many (read ∷ reads) [] z = absurd z
+
+  module _ (u : Underway) (r : Running) (e : (host_at past i).operation ≡ Some u) (f : s.operation ≡ Some r) where
+    in_order : (reads : List StateRead) (acts : List ℕ) → AreZipped (IsPair past i s) reads acts → AreInOrder u.first r.act reads acts
+    in_order [] [] z = tt
+    in_order (read ∷ reads) (act ∷ acts) z = (z.0.order u e r f, in_order reads acts z.1)
+    in_order [] (act ∷ acts) z = absurd z
+    in_order (read ∷ reads) [] z = absurd z
+
+  pub resets_of : work_of (host_at past i).operation ≡ work_in s.operation → AreZipped (IsPair past i s) (Reads past i) s.states
+      → AreReset (host_at past i).operation s.operation (Reads past i) s.states
+  resets_of work z = by (host_at past i).operation s.operation refl refl work
+    where
+      by : (u : Option Underway) (r : Option Running) → (host_at past i).operation ≡ u → s.operation ≡ r → work_of u ≡ work_in r → AreReset u r (Reads past i) s.states
+      by None None e f w = none_reset (Reads past i) s.states (many (Reads past i) s.states z)
+      by (Some u) (Some r) e f w = both_reset u r (Reads past i) s.states (operation_same u r w) (in_order u r e f (Reads past i) s.states z)
+      by None (Some r) e f w = absurd (let no : work_of None ≡ work_in (Some r) = w in cc)
+      by (Some u) None e f w = absurd (let no : work_of (Some u) ≡ work_in None = w in cc)
