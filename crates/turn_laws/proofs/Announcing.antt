@@ -101,13 +101,13 @@ use Rattle.turn_laws.proofs.Places.{Place}
 use Rattle.turn_laws.proofs.PushSides.{ArePushes, AreSilent, NoPushes, announced_pushes, decision_silent, expired_silent, first_none, is_ran_note, last_noted, plain_none, pushes_in, pushes_none, quiet_before, request_silent, run_noted, runs_none, sight_silent, silent_none, silent_runless}
 
 -- ---- kinds of notes that the target tells
-push_kind : IsToldKind is_push_note
+pub push_kind : IsToldKind is_push_note
 push_kind = record { no_packet = λ serial generation from to bytes. refl }
 
 ran_kind : IsToldKind is_ran_note
 ran_kind = record { no_packet = λ serial generation from to bytes. refl }
 
-own_push : (note : Note) → IsNoRun note → is_push_note note ≡ false
+pub own_push : (note : Note) → IsNoRun note → is_push_note note ≡ false
 own_push (notes.Unsolicited i) h = absurd h
 own_push (notes.Unsent i) h = absurd h
 own_push note h = refl
@@ -572,7 +572,7 @@ line_due start line s past event rest (sets_key unit key) = refl
 line_due start line s past event rest (injects i bytes serial generation from to) = refl
 
 -- the places are as before the call
-marked_holder : (serial : ℕ) (again : Bool) (v : WorldState) (p : ℕ) → holder (marked serial again v) p ≡ holder v p
+pub marked_holder : (serial : ℕ) (again : Bool) (v : WorldState) (p : ℕ) → holder (marked serial again v) p ≡ holder v p
 marked_holder serial again v p = by (again || not (is_flying serial v.store.kept))
   where
     by : (b : Bool) → holder (cond b v (record v { store = deliver_step v.store serial })) p ≡ holder v p

@@ -8,5 +8,5 @@ pub use laws::{
     failures_have_rows, faults_follow_deaths, judgements_are_lawful, lists_are_cut_where_due,
     logins_are_lawful, operations_fail_where_due, orbs_end_where_due, packets_are_lawful,
     statuses_end_operations, turns_are_in_order, units_are_cleared_where_due,
-    untold_chunks_find_no_label,
+    unsolicited_statuses_go_alone, untold_chunks_find_no_label,
 };
