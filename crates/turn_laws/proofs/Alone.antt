@@ -1,15 +1,14 @@
--- In each turn of every run an unsolicited status is sent only to a node to which none is under way, and the label of none rests: the target keeps a list of these nodes, and whom the terms have one pending to
--- stands in it.
-use Rattle.std.proofs.Common.{arith, ◌≡◌, ◌∙◌, refl, sym, ap, subst, inl, inr, ◌⊎◌, ℕ, zero, suc, ◌+◌, ◌<◌, ◌≤◌, ◌==◌, ◌&&◌, ◌||◌, not, nat_eq, nat_lt, is_some, Bool, true, false, cond, List, [], ◌∷◌, ◌++◌, length, map, Option, Some, None, Result, Ok, Err}
+-- In each turn of every run an unsolicited status is sent only to a node to which none is under way, and the label of none rests: the target keeps a list of these nodes, and whom
+-- the terms have one pending to stands in it.
+use Rattle.std.proofs.Common.{arith, ◌≡◌, ◌∙◌, refl, sym, ap, subst, inl, inr, ℕ, zero, suc, ◌+◌, ◌<◌, ◌≤◌, ◌==◌, ◌&&◌, ◌||◌, not, Bool, true, false, cond, List, [], ◌∷◌, ◌++◌, length, Option, Some, None, Result}
 use Rattle.std.specs.List.{list_any}
 use Rattle.std.proofs.Math.ListN.{length-set}
-use Rattle.std.proofs.lemmas.Bool.Decides.{nat_tests}
 use Rattle.async_packet.specs.Labels.{LabelParts}
 use Rattle.async_packet.specs.Packet.{Packet, header_in}
 use Rattle.bus_transactions.specs.Wire.{as_sending}
 use Rattle.label_table.specs.Bodies.{block_write}
 use Rattle.label_table.specs.History as wire_calls
-use Rattle.label_table.specs.Layer.{Finding, Layer, asking_step, judging_step, of_again, of_generation, of_grammar, of_label, of_request, of_response, seeing_step}
+use Rattle.label_table.specs.Layer.{Finding, Layer, asking_step, judging_step, of_again, of_generation, of_grammar, of_label, of_request, of_response}
 use Rattle.label_table.specs.declared.judgement.Asked.{Asked}
 use Rattle.label_table.specs.declared.reply.Stale.{Stale}
 use Rattle.login_table.specs.Table.{expired_ids, is_live}
@@ -24,15 +23,12 @@ use Rattle.rbc_disk.specs.Runs.{Told}
 use Rattle.sbp_bus.specs.Generations.{id_of}
 use Rattle.sbp_bus.specs.Packets.{end_note, judged_note}
 use Rattle.sbp_bus.specs.Places.{or_nobody}
-use Rattle.sbp_bus.specs.Requests.{find}
 use Rattle.sbp_bus.specs.declared.places.Holder.{Holder}
-use Rattle.sbp_bus.specs.declared.requests.Request.{Request}
 use Rattle.sbp_initiator.specs.Receiving.{receive_step}
 use Rattle.sbp_initiator.specs.Seeing.{see_step}
 use Rattle.sbp_journal.specs.Outgoings.{OutboxState, empty_outbox}
 use Rattle.sbp_journal.specs.Run.{Moment, asked, said}
-use Rattle.sbp_journal.specs.Transactions.{Sending, begun_by}
-use Rattle.sbp_journal.specs.Wire.{Terms, noted, terms, times_out}
+use Rattle.sbp_journal.specs.Wire.{Terms, terms}
 use Rattle.sbp_journal.specs.declared.cause.Cause.TheVariants as causes
 use Rattle.sbp_journal.specs.declared.cause.Judged.{Judged}
 use Rattle.sbp_journal.specs.declared.cause.Judged.TheVariants as judgements
@@ -40,11 +36,8 @@ use Rattle.sbp_journal.specs.declared.event.Event.{Event}
 use Rattle.sbp_journal.specs.declared.event.Event.TheVariants as events
 use Rattle.sbp_journal.specs.declared.note.Note.{Note}
 use Rattle.sbp_journal.specs.declared.note.Note.TheVariants as notes
-use Rattle.sbp_journal.specs.declared.outbox.Outgoing.{Outgoing}
-use Rattle.sbp_journal.specs.declared.side.Side.{Side}
 use Rattle.sbp_laws.specs.MediaLaw.{is_pending, is_push_note}
 use Rattle.sbp_laws.specs.NoteKinds.{of_kind}
-use Rattle.sbp_laws.specs.Packets.{begun_in}
 use Rattle.sbp_laws.specs.Targets.{over, target_at}
 use Rattle.sbp_laws.specs.Turns.{turn}
 use Rattle.sbp_target.specs.Calls.{receives}
@@ -53,11 +46,10 @@ use Rattle.sbp_target.specs.Histories.Sides.{Announced, Announces, agent_tells, 
 use Rattle.sbp_target.specs.Management.{with_manager}
 use Rattle.sbp_target.specs.Nodes.{NodeState, desk_at, login_at}
 use Rattle.sbp_target.specs.Nodes as target
-use Rattle.sbp_target.specs.Receiving.{answer_in, concluded, expired, seen, ticked, received, received_as, with_layer}
+use Rattle.sbp_target.specs.Receiving.{answer_in, concluded, seen, ticked, received, received_as, with_layer}
 use Rattle.sbp_target.specs.Replies.{Whole, came, served_login}
 use Rattle.sbp_target.specs.Serving.{is_barred}
 use Rattle.sbp_target.specs.Units.{hears, is_pending as is_listed}
-use Rattle.sbp_target.specs.declared.desk.Desk.{Desk}
 use Rattle.sbp_target.specs.declared.purpose.Purpose.{Purpose}
 use Rattle.sbp_target.specs.declared.purpose.Purpose.TheVariants as purposes
 use Rattle.sbp_target.proofs.Histories.Calling.{Good}
@@ -78,7 +70,7 @@ use Rattle.sbp_world.proofs.Agents.Management.Calm as calm
 use Rattle.sbp_world.proofs.Agents.Management.Calm.{AreQuiet, From}
 use Rattle.sbp_world.proofs.Agents.Management.Holding.{good_of, was_sent}
 use Rattle.sbp_world.proofs.Agents.Management.Still.{hist}
-use Rattle.sbp_world.proofs.Common.{none_is, untrue}
+use Rattle.sbp_world.proofs.Common.{untrue}
 use Rattle.sbp_world.proofs.Formed.{AreOwn}
 use Rattle.turn_laws.specs.Alone.{AloneLaw, AreAlone, PushesAlone}
 use Rattle.turn_laws.proofs.Handed.{handed, notes_told}
@@ -115,7 +107,8 @@ any_none f [] h = refl
 any_none f (x ∷ xs) h = any_first f x xs (λ e. h x (inl refl) e) (any_none f xs (λ r k. h r (inr k)))
 
 -- ---- those of a disc that came
-module _ (node : NodeState) (H : ℕ → Holder) (wire : Terms) (pushes : List ℕ) (unit from : ℕ) (spared : (p : ℕ) (login : Login) → login_at node p ≡ Some login → is_live login ≡ true → is_listed login.node node.pending ≡ false → list_any (is_pending wire (suc (H p).initiator)) pushes ≡ false) where
+module _ (node : NodeState) (H : ℕ → Holder) (wire : Terms) (pushes : List ℕ) (unit from : ℕ)
+    (spared : (p : ℕ) (login : Login) → login_at node p ≡ Some login → is_live login ≡ true → is_listed login.node node.pending ≡ false → list_any (is_pending wire (suc (H p).initiator)) pushes ≡ false) where
   abbrev Grown : List ℕ → Type 0
   Grown pending = (x : ℕ) → is_listed x node.pending ≡ true → is_listed x pending ≡ true
 
@@ -164,7 +157,8 @@ module _ (node : NodeState) (H : ℕ → Holder) (wire : Terms) (pushes : List �
   fine_if true layer = fine_from 8 0 layer node.pending (λ x h. h)
 
 -- ---- a packet comes to the target
-module _ (units ready : ℕ) (has : 0 < units) (start : List Disk) (past : List Moment) (s : Scene) (here : Place units ready start past s) (k : Kept start (hist past s.world) s) (serial : ℕ) (run : Option Told) (one : Sent) (found : found_sent serial s.world.store.kept ≡ Some one) where
+module _ (units ready : ℕ) (has : 0 < units) (start : List Disk) (past : List Moment) (s : Scene) (here : Place units ready start past s)
+    (k : Kept start (hist past s.world) s) (serial : ℕ) (run : Option Told) (one : Sent) (found : found_sent serial s.world.store.kept ≡ Some one) where
   abbrev w : WorldState
   w = s.world
 
@@ -252,7 +246,10 @@ module _ (units ready : ℕ) (has : 0 < units) (start : List Disk) (past : List 
     agent_quiet p label place layer lives from =
         (calm.replies lives (record node { layer = layer }) run place (header_in p).source label (answer_in p) (with_layer layer all) (begins node good layer lives from)).quiet
 
-    response_due : (p : Packet) (label : LabelParts) (purpose : Option Purpose) (layer : Layer Purpose) → Finds (of_response p label purpose) layer → IsFound (of_response p label purpose) node.layer layer one.bytes → (let o = (Given (of_response p label purpose) layer).1.outbox in AreOthers o.sides → (first : List (wire_calls.Call Purpose)) → reply_tells purpose (answer_in p) node first disks (Given (of_response p label purpose) layer).1.disks o → Due judgements.Got o)
+    abbrev Dues : Finding Purpose → Layer Purpose → OutboxState → Type 0
+    Dues f layer outbox = AreOthers outbox.sides → (first : List (wire_calls.Call Purpose)) → delivery_tells f node first disks (Given f layer).1.disks outbox → Due (Given f layer).0 outbox
+
+    response_due : (p : Packet) (label : LabelParts) (purpose : Option Purpose) (layer : Layer Purpose) → (let f = of_response p label purpose in Finds f layer → IsFound f node.layer layer one.bytes → Dues f layer (Given f layer).1.outbox)
     response_due p label None layer e f o first tells = no_sides judgements.Got (Given (of_response p label None) layer).1.outbox o tells
     response_due p label (Some purposes.Unsolicited) layer e f o first tells = no_sides judgements.Got (Given (of_response p label (Some purposes.Unsolicited)) layer).1.outbox o tells
     response_due p label (Some purposes.Management) layer e f o first tells =
@@ -262,7 +259,7 @@ module _ (units ready : ℕ) (has : 0 < units) (start : List Disk) (past : List 
         let lives = live_on (wire_calls.closed (header_in p).source label c.kind (Some (purposes.Agent place))) good.lives in
         agent_due (served_login node place) place _ o (agent_quiet p label place layer lives (from_self node good layer lives c.known)) first _ tells
 
-    by_finding : (f : Finding Purpose) (layer : Layer Purpose) → Finds f layer → IsFound f node.layer layer one.bytes → (let x = Given f layer in AreOthers x.1.outbox.sides → (first : List (wire_calls.Call Purpose)) → delivery_tells f node first disks x.1.disks x.1.outbox → Due x.0 x.1.outbox)
+    by_finding : (f : Finding Purpose) (layer : Layer Purpose) → Finds f layer → IsFound f node.layer layer one.bytes → Dues f layer (Given f layer).1.outbox
     by_finding of_generation layer e f o first tells = no_sides (judgements.Ignored causes.Generation) (Given of_generation layer).1.outbox o tells
     by_finding of_grammar layer e f o first tells = no_sides (judgements.Ignored causes.Grammar) (Given of_grammar layer).1.outbox o tells
     by_finding of_label layer e f o first tells = no_sides (judgements.Ignored causes.Label) (Given of_label layer).1.outbox o tells
@@ -309,14 +306,16 @@ module _ (units ready : ℕ) (has : 0 < units) (start : List Disk) where
     heard = λ past s serial again run one found zero_to may others here behind judged k.
         let x = received run one.generation one.bytes (whole_of s.world.target s.media) in
         let v = with_note (judged_note serial x.0) (marked serial again (with_target x.1.node s.world)) in
-        (heard_alone units ready has start past s here k serial run one found v (λ p. marked_holder serial again (with_target x.1.node s.world) p) others, heard_kept units ready has start past s here k serial again run one found zero_to (record { disks = x.1.disks; faults = faults_after run one s.world.target s.media }) behind others behind);
+        (heard_alone units ready has start past s here k serial run one found v (λ p. marked_holder serial again (with_target x.1.node s.world) p) others,
+        heard_kept units ready has start past s here k serial again run one found zero_to (record { disks = x.1.disks; faults = faults_after run one s.world.target s.media }) behind others behind);
     heard_own = λ past s serial again one i found to_is inside own here behind judged k.
         let x = receive_step one.generation one.bytes empty_outbox (initiator_at s.world i) in
         let note = judged_note serial x.0 in
         let v = with_note note (marked serial again (with_initiator i x.1.1 s.world)) in
         let m = marked_same serial again (with_initiator i x.1.1 s.world) in
         (own_alone (hist past s.world) (said note) (suc i) 0 x.1.0 v own,
-        own_turn units ready has start past s here k i 0 note (judged_no_sent serial x.0) (heard_leaves units ready has start past s here k serial one found i to_is x.0) (heard_injected units ready has start past s here k serial one found i to_is x.0)
+        own_turn units ready has start past s here k i 0 note (judged_no_sent serial x.0)
+        (heard_leaves units ready has start past s here k serial one found i to_is x.0) (heard_injected units ready has start past s here k serial one found i to_is x.0)
         x.1.0 v (ap (λ ns. note ∷ ns) m.1.1) m.0 (ap (λ xs. length xs) m.1.0 ∙ length-set s.world.initiators i x.1.1) own behind);
     late = λ past s serial request done t found node_is e others here behind judged k.
         (still_alone (hist past s.world) (said (notes.TimedOut serial)) t.outbox _ others
@@ -325,22 +324,26 @@ module _ (units ready : ℕ) (has : 0 < units) (start : List Disk) where
     late_own = λ past s serial request i outbox state found node_is inside e own here behind judged k.
         let v = with_note (notes.TimedOut serial) (with_initiator i state s.world) in
         (own_alone (hist past s.world) (said (notes.TimedOut serial)) (suc i) 0 outbox v own,
-        own_turn units ready has start past s here k i 0 (notes.TimedOut serial) tt (late_leaves units ready has start past s here k serial request i found node_is) (late_same units ready has start past s here k serial request i found node_is)
+        own_turn units ready has start past s here k i 0 (notes.TimedOut serial) tt
+        (late_leaves units ready has start past s here k serial request i found node_is) (late_same units ready has start past s here k serial request i found node_is)
         outbox v refl refl (length-set s.world.initiators i state) own behind);
     sees = λ past s others here behind judged k.
         let g = s.world.generations.latest in
         let x = (seen g.generation (id_of g 0) (target.scene s.world.target empty_outbox)).1 in
-        (still_alone (hist past s.world) (said (notes.Seen 0 g.generation)) x.outbox _ others (silent_none x.outbox.sides (subst AreSilent (sym (side_law.sights g.generation (id_of g 0) s.world.target)) (sight_silent g.generation s.world.target))),
+        (still_alone (hist past s.world) (said (notes.Seen 0 g.generation)) x.outbox _ others
+        (silent_none x.outbox.sides (subst AreSilent (sym (side_law.sights g.generation (id_of g 0) s.world.target)) (sight_silent g.generation s.world.target))),
         sight_kept units ready has start past s here k x refl others behind);
     sees_own = λ past s i inside own here behind judged k.
         let g = s.world.generations.latest in
         let x = see_step g.generation (id_of g (suc i)) (id_of g 0) empty_outbox (initiator_at s.world i) in
         let v = with_initiator i x.1 (with_seen (suc i) (told_seen (suc i) s.world)) in
         (own_alone (hist past s.world) (said (notes.Seen (suc i) g.generation)) (suc i) 0 x.0 v own,
-        own_turn units ready has start past s here k i 0 (notes.Seen (suc i) g.generation) tt (sight_leaves units ready has start past s here k i g.generation) refl x.0 v refl refl (length-set s.world.initiators i x.1) own behind);
+        own_turn units ready has start past s here k i 0 (notes.Seen (suc i) g.generation) tt
+        (sight_leaves units ready has start past s here k i g.generation) refl x.0 v refl refl (length-set s.world.initiators i x.1) own behind);
     ticks = λ past s others here behind judged k.
         let x = ticked (target.scene s.world.target empty_outbox) in
-        (still_alone (hist past s.world) (said notes.Tick) x.outbox _ others (silent_none x.outbox.sides (subst AreSilent (sym (side_law.seconds s.world.target)) (expired_silent (expired_ids s.world.target.logins.places)))),
+        (still_alone (hist past s.world) (said notes.Tick) x.outbox _ others
+        (silent_none x.outbox.sides (subst AreSilent (sym (side_law.seconds s.world.target)) (expired_silent (expired_ids s.world.target.logins.places)))),
         tick_kept units ready has start past s here k x refl others behind);
     ends = λ past s done here behind k. (ends_alone (hist past s.world) done, end_kept units ready has start past s here k done);
     acts = λ past s line i action outbox state inside e own here behind k.
@@ -354,7 +357,7 @@ module _ (units ready : ℕ) (has : 0 < units) (start : List Disk) where
 
 first_kept_here : Begins Kept
 unfolding new_world
-first_kept_here line run has there = begun_kept run.units (ready_logins run.initiators run.ready) has run.start.disks (first_past line run.initiators run.ready) (beginning run) there refl (λ v. refl)
+first_kept_here line run has there = begun_kept run.units (ready_logins run.initiators run.ready) has run.start.disks (first_past line run.initiators run.ready) (beginning run) there (record { none = refl; free_all = λ v. refl })
 
 pub alone_law : AloneLaw
 alone_law = of_every_carried Kept PushesAlone first_kept_here (λ units ready start has. alone_cases units ready has start)

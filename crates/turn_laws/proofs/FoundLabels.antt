@@ -5,9 +5,9 @@ use Rattle.sbp_base.specs.Update.{upd}
 use Rattle.async_packet.specs.Canon.{IsValid}
 use Rattle.async_packet.specs.Labels.{LabelParts}
 use Rattle.async_packet.specs.Packet.{Packet}
-use Rattle.bus_transactions.specs.Bare.{bare, bare_finding}
+use Rattle.bus_transactions.specs.Bare.{bare}
 use Rattle.bus_transactions.specs.Fitting.{FitsRequest}
-use Rattle.bus_transactions.specs.Wire.{Node, as_sending, due_for, first_note, id_for}
+use Rattle.bus_transactions.specs.Wire.{Node, as_sending, id_for}
 use Rattle.bus_transactions.proofs.FitSteps.{expires_same, judges_same}
 use Rattle.bus_transactions.proofs.Fits.{request_fits}
 use Rattle.label_table.specs.Bodies.{Body, header_to, request_with}
@@ -21,7 +21,7 @@ use Rattle.rbc_disk.specs.Disk.{Disk}
 use Rattle.sbp_bus.specs.declared.requests.Request.{Request}
 use Rattle.sbp_bus.specs.Generations.{id_of, topology_at}
 use Rattle.sbp_bus.specs.Requests.{find}
-use Rattle.sbp_journal.specs.Run.{Moment, asked, said}
+use Rattle.sbp_journal.specs.Run.{Moment, said}
 use Rattle.sbp_journal.specs.Transactions.{Kind, Part, Sending, Transaction, asked_by, at, between, is_same_kind, no_packet, part_of, request, response}
 use Rattle.async_packet.specs.Fields.{rcode_of}
 use Rattle.sbp_journal.specs.Wire.{Held, Terms, arrives, closes, closes_if, free, gets, gets_as, is_news, is_served, judges, rests, terms, waits}
@@ -32,9 +32,8 @@ use Rattle.sbp_target.specs.declared.purpose.Purpose.{Purpose}
 use Rattle.sbp_target.specs.declared.purpose.Purpose.TheVariants as purposes
 use Rattle.sbp_target.specs.Nodes.{NodeState, login_at}
 use Rattle.sbp_world.specs.Agents.Holders.{IsHeld, IsLiveOf}
-use Rattle.sbp_world.specs.Wire.Wires.{Stands, StandsAt, layers_of}
-use Rattle.sbp_world.specs.Delivering.{marked}
-use Rattle.sbp_world.specs.Worlds.{Scene, WorldState, with_note, without_notes}
+use Rattle.sbp_world.specs.Wire.Wires.{StandsAt, layers_of}
+use Rattle.sbp_world.specs.Worlds.{Scene, WorldState, with_note}
 use Rattle.sbp_world.proofs.Agents.Management.Holding.{known_id, was_sent}
 use Rattle.sbp_world.proofs.Agents.Management.Still.{hist}
 use Rattle.sbp_world.proofs.Wire.Asks.{upd_own}

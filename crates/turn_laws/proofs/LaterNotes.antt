@@ -1,5 +1,5 @@
 -- The notes that a node hands out behind the first one of a turn: what is told says nothing of the wire, and each packet is its own. So the terms behind them go on from those before.
-use Rattle.std.proofs.Common.{arith, ◌≡◌, ◌∙◌, refl, sym, ap, subst, inl, inr, ◌⊎◌, ℕ, suc, ◌+◌, ◌<◌, ◌≤◌, nat_eq, List, [], ◌∷◌, ◌++◌, map, Option, Some, None}
+use Rattle.std.proofs.Common.{arith, ◌≡◌, ◌∙◌, refl, sym, ap, subst, inl, inr, ◌⊎◌, ℕ, ◌+◌, List, [], ◌∷◌, ◌++◌, map, Option, Some, None}
 use Rattle.std.proofs.lemmas.Bool.Decides.{nat_tests}
 use Rattle.bus_transactions.specs.Packets.{SerialsCount}
 use Rattle.bus_transactions.specs.Sent.{AreSent}
@@ -14,14 +14,14 @@ use Rattle.sbp_journal.specs.declared.note.Note.TheVariants as notes
 use Rattle.sbp_journal.specs.declared.outbox.Outgoing.{Outgoing}
 use Rattle.sbp_journal.specs.declared.side.Side.{Side}
 use Rattle.sbp_journal.specs.declared.side.Side.TheVariants as sides
-use Rattle.sbp_laws.specs.Targets.{Target, known_at, target_at}
+use Rattle.sbp_laws.specs.Targets.{known_at, target_at}
 use Rattle.sbp_world.specs.Hosts.Handing.{AreOthers, IsOther}
 use Rattle.sbp_world.specs.Sending.{sent, sent_all}
 use Rattle.sbp_world.specs.Telling.{told, told_all}
 use Rattle.sbp_world.specs.Worlds.{WorldState}
 use Rattle.sbp_world.proofs.Formed.{AreOwn, IsNoRun}
 use Rattle.sbp_world.proofs.Hosts.Remaining.{gets_same, ignores_that_same, opened_same, times_out_same}
-use Rattle.sbp_world.proofs.Hosts.SentMoments.{sent_now, sent_there}
+use Rattle.sbp_world.proofs.Hosts.SentMoments.{sending, sent_now, sent_there}
 use Rattle.sbp_world.proofs.Lists.StatusOffice.{sides_generations}
 use Rattle.sbp_world.proofs.Wire.Alike.{all_alike}
 use Rattle.turn_laws.proofs.Handed.{handed, note_of, notes_sent, notes_told, onto, packet_note}
@@ -109,12 +109,14 @@ module _ (Q : ℕ → List ℕ → Type 0) where
   pub others_handed : (from weight : ℕ) (outbox : OutboxState) (w : WorldState) → AreOthers outbox.sides → AllLeave from w.generations outbox.packets → ArePlain from (handed from weight outbox w)
   others_handed from weight outbox w o l =
       let v = told_all weight outbox.sides w in
-      both_plain from (notes_told weight outbox.sides w) (notes_sent from outbox.packets v) (others_plain from weight outbox.sides w o) (sent_plain from outbox.packets v (subst (λ g. AllLeave from g outbox.packets) (sym (told_bus weight outbox.sides w)) l))
+      both_plain from (notes_told weight outbox.sides w) (notes_sent from outbox.packets v) (others_plain from weight outbox.sides w o)
+      (sent_plain from outbox.packets v (subst (λ g. AllLeave from g outbox.packets) (sym (told_bus weight outbox.sides w)) l))
 
   pub owns_handed : (from weight : ℕ) (outbox : OutboxState) (w : WorldState) → AreOwn outbox.sides → AllLeave from w.generations outbox.packets → ArePlain from (handed from weight outbox w)
   owns_handed from weight outbox w o l =
       let v = told_all weight outbox.sides w in
-      both_plain from (notes_told weight outbox.sides w) (notes_sent from outbox.packets v) (owns_plain from weight outbox.sides w o) (sent_plain from outbox.packets v (subst (λ g. AllLeave from g outbox.packets) (sym (told_bus weight outbox.sides w)) l))
+      both_plain from (notes_told weight outbox.sides w) (notes_sent from outbox.packets v) (owns_plain from weight outbox.sides w o)
+      (sent_plain from outbox.packets v (subst (λ g. AllLeave from g outbox.packets) (sym (told_bus weight outbox.sides w)) l))
 
 -- ---- the front of a history
 one_count : (note : Note) (past : List Moment) → SerialsCount (said note ∷ past) → SerialsCount past
@@ -171,27 +173,34 @@ module _ (start : List Disk) where
   moved_from : (f g : ℕ → Option Sending) (s : ℕ) → g s ≡ f s → FromTarget (f s) → FromTarget (g s)
   moved_from f g s e h = record { packet = h.packet; is = e ∙ h.is; from = h.from }
 
-  sent_from : (serial generation from to : ℕ) (bytes : List ℕ) (past : List Moment) → SerialsCount (said (notes.Sent serial generation from to bytes) ∷ past) → (s : ℕ) → (Has (Pushes start past) s → FromTarget ((terms past).sent s)) → Has (Pushes start (said (notes.Sent serial generation from to bytes) ∷ past)) s → FromTarget ((terms (said (notes.Sent serial generation from to bytes) ∷ past)).sent s)
-  sent_from serial generation from to bytes past c s before h = by (grown start from (λ to bytes. Unit {0}) serial generation to bytes past)
-    where
-      earlier : Has (Pushes start past) s → FromTarget ((terms (said (notes.Sent serial generation from to bytes) ∷ past)).sent s)
+  -- a packet that is sent
+  module _ (serial generation from to : ℕ) (bytes : List ℕ) (past : List Moment) (c : SerialsCount (said (notes.Sent serial generation from to bytes) ∷ past)) where
+    abbrev now : List Moment
+    now = said (notes.Sent serial generation from to bytes) ∷ past
+
+    abbrev IsFrom : List Moment → ℕ → Type 0
+    IsFrom ms s = FromTarget ((terms ms).sent s)
+
+    module _ (s : ℕ) (before : Has (Pushes start past) s → IsFrom past s) where
+      earlier : Has (Pushes start past) s → IsFrom now s
       earlier k =
           let small = (counted start past c.1).pushes s k in
           let next = c.0 in
           let q : Sending = record { generation = generation; from = from; to = to; bytes = bytes; injected = (terms past).injected serial } in
-          moved_from (terms past).sent (terms (said (notes.Sent serial generation from to bytes) ∷ past)).sent s
+          moved_from (terms past).sent (terms now).sent s
           (ap (λ f. f s) (sent_now past serial generation from to bytes) ∙ upd_other (terms past).sent serial s (Some q) (grind (arith, nat_tests)))
           (before k)
 
-      by : (Pushes start (said (notes.Sent serial generation from to bytes) ∷ past) ≡ Pushes start past) ⊎ Grows start from (λ to bytes. Unit {0}) serial generation to bytes past → FromTarget ((terms (said (notes.Sent serial generation from to bytes) ∷ past)).sent s)
-      by (inl e) = earlier (subst (λ xs. Has xs s) e h)
-      by (inr g) = among (subst (λ xs. Has xs s) g.is h)
+      among : from ≡ 0 → (serial ≡ s) ⊎ Has (Pushes start past) s → IsFrom now s
+      among zero (inl e) = subst (IsFrom now) e (record { packet = sending past serial generation from to bytes; is = sent_there past serial generation from to bytes; from = zero })
+      among zero (inr k) = earlier k
+
+      sent_from : Has (Pushes start now) s → IsFrom now s
+      sent_from h = by (grown start from (λ to bytes. Unit {0}) serial generation to bytes past)
         where
-          among : (serial ≡ s) ⊎ Has (Pushes start past) s → FromTarget ((terms (said (notes.Sent serial generation from to bytes) ∷ past)).sent s)
-          among (inl e) =
-              subst (λ n. FromTarget ((terms (said (notes.Sent serial generation from to bytes) ∷ past)).sent n)) e
-              (record { packet = record { generation = generation; from = from; to = to; bytes = bytes; injected = (terms past).injected serial }; is = sent_there past serial generation from to bytes; from = g.zero })
-          among (inr k) = earlier k
+          by : (Pushes start now ≡ Pushes start past) ⊎ Grows start from (λ to bytes. Unit {0}) serial generation to bytes past → IsFrom now s
+          by (inl e) = earlier (subst (λ xs. Has xs s) e h)
+          by (inr g) = among g.zero (subst (λ xs. Has xs s) g.is h)
 
   pub pushed_from : (ms : List Moment) → SerialsCount ms → (s : ℕ) → Has (Pushes start ms) s → FromTarget ((terms ms).sent s)
   pushed_from [] c s h = absurd h

@@ -1,6 +1,6 @@
--- What the notes behind the first one of a turn make of the terms, as far as unsolicited statuses hang on them: a transaction that is under way stays so, a label that rests goes on to rest, and each new
--- unsolicited status is a packet of the target under a label that was free.
-use Rattle.std.proofs.Common.{arith, ◌≡◌, ◌∙◌, refl, sym, ap, subst, inl, inr, ◌⊎◌, ℕ, suc, ◌+◌, ◌<◌, ◌≤◌, ◌==◌, nat_eq, Bool, true, false, cond, List, [], ◌∷◌, not, ◌&&◌, ◌||◌, Option, Some, None}
+-- What the notes behind the first one of a turn make of the terms, as far as unsolicited statuses hang on them: a transaction that is under way stays so, a label that rests
+-- goes on to rest, and each new unsolicited status is a packet of the target under a label that was free.
+use Rattle.std.proofs.Common.{arith, ◌≡◌, ◌∙◌, refl, sym, ap, subst, inl, inr, ◌⊎◌, ℕ, ◌+◌, ◌<◌, ◌≤◌, ◌==◌, nat_eq, Bool, true, false, cond, List, ◌∷◌, not, ◌&&◌, ◌||◌, Option, Some, None}
 use Rattle.std.specs.Prelude.{position}
 use Rattle.std.proofs.lemmas.Bool.Decides.{nat_tests}
 use Rattle.bus_transactions.specs.Packets.{SerialsCount}
@@ -11,9 +11,9 @@ use Rattle.bus_transactions.proofs.Facts.{asked_begun, request_asked}
 use Rattle.label_table.specs.Requests.{is_last, is_write}
 use Rattle.orb_layout.specs.declared.ask.Ask.TheVariants.{Nothing}
 use Rattle.rbc_disk.specs.Disk.{Disk}
-use Rattle.sbp_journal.specs.Run.{Moment, asked, said}
+use Rattle.sbp_journal.specs.Run.{Moment, said}
 use Rattle.sbp_journal.specs.Transactions.{Kind, Part, Sending, Transaction, asked_as, asked_by, begun_by, begun_if, between, is_same, no_packet, part_of, request, response}
-use Rattle.sbp_journal.specs.Wire.{Held, Owed, Terms, begins, free, gives, kind_in, noted, pays, puts, rests, sends, terms, waits}
+use Rattle.sbp_journal.specs.Wire.{Held, Owed, Terms, begins, free, gives, kind_in, noted, pays, puts, rests, terms, waits}
 use Rattle.sbp_journal.specs.declared.note.Note.{Note}
 use Rattle.sbp_journal.specs.declared.note.Note.TheVariants as notes
 use Rattle.sbp_laws.specs.MediaLaw.{is_pending}
@@ -287,11 +287,14 @@ module _ (start : List Disk) where
       settled_pushes : settled.pushes ≡ Pushes past
       settled_pushes = taken_pushes (target_at start past).reply (target_at start past)
 
+      abbrev managed_or : Bool → Target → Target
+      managed_or b x = cond b (record x { manages = Some serial; manager_asks = Nothing }) (record x { pushes = serial ∷ x.pushes })
+
       grown_for : (place : Option ℕ) (w : Bool) (x : Target) → ((sent_for place w serial x).pushes ≡ x.pushes) ⊎ ((sent_for place w serial x).pushes ≡ serial ∷ x.pushes)
       grown_for (Some place) w x = inl refl
       grown_for None w x = by (wants x.manager_asks w)
         where
-          by : (b : Bool) → ((cond b (record x { manages = Some serial; manager_asks = Nothing }) (record x { pushes = serial ∷ x.pushes })).pushes ≡ x.pushes) ⊎ ((cond b (record x { manages = Some serial; manager_asks = Nothing }) (record x { pushes = serial ∷ x.pushes })).pushes ≡ serial ∷ x.pushes)
+          by : (b : Bool) → ((managed_or b x).pushes ≡ x.pushes) ⊎ ((managed_or b x).pushes ≡ serial ∷ x.pushes)
           by true = inl refl
           by false = inr refl
 

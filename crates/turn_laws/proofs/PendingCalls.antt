@@ -1,91 +1,45 @@
 -- What is carried of the target's unsolicited statuses is kept by each call of the target: each packet that it hands out has its row, and a row that is new is to a node that had none pending.
-use Rattle.std.proofs.Common.{arith, ◌≡◌, ◌∙◌, refl, sym, ap, subst, inl, inr, ◌⊎◌, ℕ, zero, suc, ◌+◌, ◌<◌, ◌≤◌, ◌==◌, ◌||◌, not, nat_eq, nat_lt, is_some, Bool, true, false, cond, List, [], ◌∷◌, ◌++◌, length, map, position, Option, Some, None, Result, Ok, Err}
-use Rattle.std.proofs.lemmas.Bool.Decides.{nat_tests}
-use Rattle.async_packet.specs.Labels.{LabelParts}
-use Rattle.async_packet.specs.Packet.{Packet, header_in}
-use Rattle.bus_transactions.specs.Bare.{bare}
-use Rattle.bus_transactions.specs.Rows.{shape, shape_of}
-use Rattle.bus_transactions.specs.Wire.{Node, as_sending, transaction}
+use Rattle.std.proofs.Common.{◌≡◌, ◌∙◌, refl, sym, ap, subst, ℕ, ◌<◌, ◌≤◌, List, [], ◌∷◌, length, Some}
+use Rattle.bus_transactions.specs.Wire.{transaction}
 use Rattle.bus_transactions.proofs.Facts.{AskedBy, asked_is, begun_asked}
-use Rattle.bus_transactions.proofs.Reaches.{goes_on}
-use Rattle.label_table.specs.Layer.{Finding, Layer, expiring_step, judging_step, of_again, of_generation, of_grammar, of_label, of_request, of_response, seeing_step}
-use Rattle.label_table.specs.Peers.{state_for}
-use Rattle.label_table.specs.declared.place.LabelState.TheVariants as states
-use Rattle.label_table.specs.declared.reply.ReplyKind.{ReplyKind}
-use Rattle.label_table.specs.declared.reply.Stale.{Stale}
-use Rattle.packet_store.specs.Kept.{found_sent, is_flying}
-use Rattle.packet_store.specs.Stored.{deliver_step}
-use Rattle.packet_store.specs.declared.sent.Sent.{Sent}
+use Rattle.label_table.specs.Layer.{Layer}
 use Rattle.rbc_disk.specs.Disk.{Disk}
 use Rattle.rbc_disk.specs.Held.{Held as Media}
-use Rattle.rbc_disk.specs.Runs.{Told}
-use Rattle.sbp_base.specs.Update.{upd}
-use Rattle.sbp_bus.specs.Generations.{GenerationsState, id_of, node_of, topology_at}
-use Rattle.sbp_bus.specs.Packets.{judged_note}
-use Rattle.sbp_bus.specs.Requests.{find}
-use Rattle.sbp_bus.specs.declared.requests.Request.{Request}
-use Rattle.sbp_journal.specs.Outgoings.{OutboxState, empty_outbox}
-use Rattle.sbp_journal.specs.Run.{Moment, asked, said}
-use Rattle.sbp_journal.specs.Transactions.{Kind, Sending, Transaction, begun_by, part_of, request}
-use Rattle.sbp_journal.specs.Wire.{Held, Terms, free, noted, terms, waits}
-use Rattle.sbp_journal.specs.declared.cause.Cause.{Cause}
-use Rattle.sbp_journal.specs.declared.cause.Cause.TheVariants as causes
-use Rattle.sbp_journal.specs.declared.cause.Judged.{Judged}
-use Rattle.sbp_journal.specs.declared.cause.Judged.TheVariants as judgements
+use Rattle.sbp_bus.specs.Generations.{GenerationsState, id_of, topology_at}
+use Rattle.sbp_journal.specs.Outgoings.{OutboxState}
+use Rattle.sbp_journal.specs.Run.{Moment, said}
+use Rattle.sbp_journal.specs.Transactions.{Kind, Transaction, part_of, request}
+use Rattle.sbp_journal.specs.Wire.{Terms, terms, waits}
 use Rattle.sbp_journal.specs.declared.note.Note.{Note}
-use Rattle.sbp_journal.specs.declared.note.Note.TheVariants as notes
 use Rattle.sbp_journal.specs.declared.outbox.Outgoing.{Outgoing}
-use Rattle.sbp_laws.specs.MediaLaw.{is_pending}
-use Rattle.sbp_laws.specs.Packets.{begun_in}
-use Rattle.sbp_laws.specs.Targets.{Target, for_nobody, over, purpose_of, target_at}
-use Rattle.sbp_target.specs.Calls.{Call, alone, lets_expire, receives}
+use Rattle.sbp_laws.specs.Targets.{for_nobody, over, purpose_of, target_at}
+use Rattle.sbp_target.specs.Calls.{Call, alone}
 use Rattle.sbp_target.specs.Histories.Transactions.{IsUnderWay}
 use Rattle.sbp_target.specs.Nodes.{NodeState}
 use Rattle.sbp_target.specs.Nodes as target
-use Rattle.sbp_target.specs.Receiving.{expired, received, received_as, removed, with_layer}
-use Rattle.sbp_target.specs.Replies.{Whole}
-use Rattle.sbp_target.specs.Units.{is_node, is_pending as is_listed}
 use Rattle.sbp_target.specs.declared.purpose.Purpose.{Purpose}
 use Rattle.sbp_target.specs.declared.purpose.Purpose.TheVariants as purposes
 use Rattle.sbp_target.proofs.Histories.Calling.{Good}
-use Rattle.sbp_target.proofs.Histories.Found.{IsFound, found as found_as}
-use Rattle.sbp_target.proofs.Histories.Primitives.{Known}
-use Rattle.sbp_target.proofs.Histories.Seats.{Lives}
 use Rattle.sbp_world.specs.Agents.Serials.{IsHanded}
-use Rattle.sbp_world.specs.Delivering.{marked, whole_of}
 use Rattle.sbp_world.specs.Handing.{handed_out}
 use Rattle.sbp_world.specs.Hosts.Handing.{AreOthers}
-use Rattle.sbp_world.specs.Wire.Wires.{Stands, StandsAt, layers_of}
-use Rattle.sbp_world.specs.Worlds.{Scene, WorldState, with_note, with_target}
+use Rattle.sbp_world.specs.Worlds.{Scene, WorldState}
 use Rattle.sbp_world.proofs.Agents.Handed.{are_handed}
-use Rattle.sbp_world.proofs.Agents.Management.Awaiting.{under_for}
-use Rattle.sbp_world.proofs.Agents.Management.Holding.{good_of, known_id, past_terms, was_sent}
+use Rattle.sbp_world.proofs.Agents.Management.Holding.{good_of, known_id, past_terms}
 use Rattle.sbp_world.proofs.Agents.Management.Still.{hist}
-use Rattle.sbp_world.proofs.Common.{untrue}
-use Rattle.sbp_world.proofs.Lists.SentOwned.{AllOwned, IsOwned, owned_here}
-use Rattle.sbp_world.proofs.Wire.Asks.{upd_own}
+use Rattle.sbp_world.proofs.Lists.SentOwned.{AllOwned, owned_here}
 use Rattle.sbp_world.proofs.Wire.Bus.{node_has}
 use Rattle.sbp_world.proofs.Wire.Nodes.{handed_alike}
 use Rattle.sbp_world.proofs.Wire.Starts.{laws_of}
-use Rattle.turn_laws.proofs.FoundLabels.{SameLabels, gets_same}
 use Rattle.turn_laws.proofs.Handed.{handed}
 use Rattle.turn_laws.proofs.LaterNotes.{AllLeave, ArePlain, others_handed}
 use Rattle.turn_laws.proofs.LaterTerms.{Clean, New, Own, Pushes}
-use Rattle.turn_laws.proofs.PendingEnded.{announced_rows, gone, row_back, row_kept}
-use Rattle.turn_laws.proofs.PendingEnds.{forgets}
-use Rattle.turn_laws.proofs.PendingFirsts.{Beside, got_frees, got_sent, leaves_same, less_beside, less_got, less_late, tied_at, tied_beside}
-use Rattle.turn_laws.proofs.PendingKept.{AreTied, Id, Less, Pending, Rows, WaitsFor, first_kept, row_waits}
-use Rattle.turn_laws.proofs.PendingTerms.{ignored_same, pending_not}
-use Rattle.turn_laws.proofs.PendingTurns.{Kept, beside_here, clean_here, note_clean, note_pushes, tied_here, turn_kept, turn_later}
+use Rattle.turn_laws.proofs.PendingKept.{Id, Pending, Rows}
+use Rattle.turn_laws.proofs.PendingTurns.{Kept, turn_kept, turn_later}
 use Rattle.turn_laws.proofs.Places.{Place}
 use Rattle.turn_laws.proofs.PushRows.{agent_not, manager_not}
 use Rattle.turn_laws.proofs.PushSerials.{Has, pushes_are_nobodys}
-use Rattle.turn_laws.proofs.StatusAnnounces.{Announced, still_announced}
-use Rattle.turn_laws.proofs.StatusCalls.{Closed, Got, Hears, hears}
-use Rattle.turn_laws.proofs.StatusOnce.{out_others}
-use Rattle.turn_laws.proofs.StatusRows.{Row, row_of}
-use Rattle.turn_laws.proofs.StatusStays.{Still}
-use Rattle.turn_laws.proofs.TurnWires.{Judges, judged_stands, late_stands, repeated}
+use Rattle.turn_laws.proofs.StatusRows.{Row}
 
 -- any FIFO
 abbrev pub Any : ℕ → ℕ → Type 0
@@ -123,7 +77,8 @@ module _ (units ready : ℕ) (has : 0 < units) (start : List Disk) (past : List 
   all_owned call = owned_here w here.holds has Any (λ place other is live. tt) call
 
   -- ---- behind what a call of the target hands out
-  module _ (note : Note) (outbox : OutboxState) (v : WorldState) (media : Media) (fresh_is : v.fresh ≡ note ∷ w.fresh) (there : Place units ready start past (record { world = handed_out 0 0 outbox v; media = media })) (others : AreOthers outbox.sides) (owned : AllOwned Any v.target.layer outbox.packets) (clean : Clean (terms (said note ∷ ms))) where
+  module _ (note : Note) (outbox : OutboxState) (v : WorldState) (media : Media) (fresh_is : v.fresh ≡ note ∷ w.fresh) (there : Place units ready start past (record { world = handed_out 0 0 outbox v; media = media }))
+      (others : AreOthers outbox.sides) (owned : AllOwned Any v.target.layer outbox.packets) (clean : Clean (terms (said note ∷ ms))) where
     abbrev behind : WorldState
     behind = handed_out 0 0 outbox v
 

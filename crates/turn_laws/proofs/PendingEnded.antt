@@ -1,11 +1,10 @@
 -- A transaction of the target that ends: the rows of its unsolicited statuses are those from before but for its own, and its label is under way no more.
-use Rattle.std.proofs.Common.{arith, ◌≡◌, ◌∙◌, refl, sym, ap, subst, ℕ, Bool, true, false, cond, List, ◌∷◌, Option, Some, None}
+use Rattle.std.proofs.Common.{◌≡◌, ◌∙◌, refl, sym, ap, subst, ℕ, Bool, true, false, cond, List, Option, Some}
 use Rattle.async_packet.specs.Labels.{LabelParts}
 use Rattle.label_table.specs.History as wire
 use Rattle.label_table.specs.History.{Life, ended, is_same, under_way}
 use Rattle.label_table.specs.Layer.{Layer}
 use Rattle.label_table.specs.Peers.{purpose_for, state_for}
-use Rattle.label_table.specs.declared.place.LabelState.{LabelState}
 use Rattle.label_table.specs.declared.place.LabelState.TheVariants as states
 use Rattle.label_table.specs.declared.reply.ReplyKind.{ReplyKind}
 use Rattle.label_table.proofs.Calls.{after_kept}

@@ -1,6 +1,6 @@
 -- Where a transaction of the wire ends: a response takes the unsolicited status that it closes away, and no other; one that times out leaves all pending as they are; and a reset that their
 -- sender sees takes all away.
-use Rattle.std.proofs.Common.{◌≡◌, ◌∙◌, refl, sym, ap, subst, ℕ, ◌==◌, ◌&&◌, ◌||◌, Bool, true, false, cond, Option, Some, None}
+use Rattle.std.proofs.Common.{◌≡◌, ◌∙◌, refl, sym, ap, subst, ℕ, ◌==◌, ◌&&◌, ◌||◌, Bool, true, false, Option, Some, None}
 use Rattle.sbp_journal.specs.Transactions.{Kind, Transaction, at, is_same}
 use Rattle.sbp_journal.specs.Wire.{Held, Terms, free, rests, waits}
 use Rattle.sbp_laws.specs.MediaLaw.{is_pending}

@@ -1,6 +1,5 @@
 -- The first note of a turn: one of another node leaves the transactions of the target as they are; a packet that the target got may close one, and a time-out ends one, whose label rests.
-use Rattle.std.proofs.Common.{arith, ◌≡◌, ◌∙◌, refl, sym, ap, subst, inl, inr, ◌⊎◌, ℕ, suc, ◌<◌, ◌≤◌, ◌==◌, nat_eq, Bool, true, false, cond, List, ◌∷◌, Option, Some, None}
-use Rattle.std.proofs.lemmas.Bool.Decides.{nat_tests}
+use Rattle.std.proofs.Common.{arith, ◌≡◌, ◌∙◌, refl, sym, ap, subst, inl, inr, ◌⊎◌, ℕ, suc, Bool, true, false, List, Option, Some, None}
 use Rattle.bus_transactions.specs.Bare.{bare}
 use Rattle.bus_transactions.specs.Rows.{shape, shape_of}
 use Rattle.bus_transactions.specs.Wire.{Due, Node}
@@ -8,7 +7,6 @@ use Rattle.bus_transactions.proofs.Facts.{asked_is, begun_asked}
 use Rattle.label_table.specs.Layer.{Layer}
 use Rattle.label_table.specs.Peers.{state_for}
 use Rattle.async_packet.specs.Fields.{rcode_of}
-use Rattle.sbp_base.specs.Update.{upd}
 use Rattle.sbp_journal.specs.Run.{Moment}
 use Rattle.sbp_journal.specs.Transactions.{Kind, Part, Sending, Transaction, asked_by, at, begun_by, between, is_same, is_same_kind, no_packet, part_of, request, response}
 use Rattle.sbp_journal.specs.Wire.{Held, Terms, arrives, closes, closes_if, free, gets, gets_as, is_news, is_served, judges, noted, rests, terms, times_out, waits}

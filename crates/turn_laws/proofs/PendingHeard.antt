@@ -1,14 +1,12 @@
 -- What is carried of the target's unsolicited statuses through a packet that comes to the target, a time-out of one of its transactions, a sight and a second.
-use Rattle.std.proofs.Common.{arith, ◌≡◌, ◌∙◌, refl, sym, ap, subst, inl, inr, ◌⊎◌, ℕ, zero, suc, ◌+◌, ◌<◌, ◌≤◌, ◌==◌, ◌||◌, not, nat_eq, nat_lt, is_some, Bool, true, false, cond, List, [], ◌∷◌, ◌++◌, length, map, position, Option, Some, None, Result, Ok, Err}
-use Rattle.std.proofs.lemmas.Bool.Decides.{nat_tests}
+use Rattle.std.proofs.Common.{◌≡◌, ◌∙◌, refl, sym, ap, subst, inl, inr, ◌⊎◌, ℕ, ◌<◌, ◌≤◌, ◌||◌, not, nat_eq, Bool, true, false, cond, List, ◌∷◌, length, position, Option, Some, None, Result, Ok, Err}
 use Rattle.async_packet.specs.Labels.{LabelParts}
 use Rattle.async_packet.specs.Packet.{Packet, header_in}
 use Rattle.bus_transactions.specs.Bare.{bare}
 use Rattle.bus_transactions.specs.Rows.{shape, shape_of}
-use Rattle.bus_transactions.specs.Wire.{Node, as_sending, transaction}
-use Rattle.bus_transactions.proofs.Facts.{AskedBy, asked_is, begun_asked}
+use Rattle.bus_transactions.specs.Wire.{as_sending, transaction}
 use Rattle.bus_transactions.proofs.Reaches.{goes_on}
-use Rattle.label_table.specs.Layer.{Finding, Layer, expiring_step, judging_step, of_again, of_generation, of_grammar, of_label, of_request, of_response, seeing_step}
+use Rattle.label_table.specs.Layer.{Finding, Layer, expiring_step, judging_step, of_again, of_generation, of_grammar, of_label, of_request, of_response}
 use Rattle.label_table.specs.Peers.{state_for}
 use Rattle.label_table.specs.declared.place.LabelState.{LabelState}
 use Rattle.label_table.specs.declared.place.LabelState.TheVariants as states
@@ -21,26 +19,22 @@ use Rattle.rbc_disk.specs.Disk.{Disk}
 use Rattle.rbc_disk.specs.Held.{Held as Media}
 use Rattle.rbc_disk.specs.Runs.{Told}
 use Rattle.sbp_base.specs.Update.{upd}
-use Rattle.sbp_bus.specs.Generations.{GenerationsState, id_of, node_of, topology_at}
 use Rattle.sbp_bus.specs.Packets.{judged_note}
 use Rattle.sbp_bus.specs.Requests.{find}
 use Rattle.sbp_bus.specs.declared.requests.Request.{Request}
-use Rattle.sbp_journal.specs.Outgoings.{OutboxState, empty_outbox}
+use Rattle.sbp_journal.specs.Outgoings.{empty_outbox}
 use Rattle.sbp_journal.specs.Run.{Moment, asked, said}
-use Rattle.sbp_journal.specs.Transactions.{Kind, Sending, Transaction, begun_by, part_of, request}
-use Rattle.sbp_journal.specs.Wire.{Held, Terms, free, noted, terms, times_out, waits}
+use Rattle.sbp_journal.specs.Transactions.{Kind, Transaction, request}
+use Rattle.sbp_journal.specs.Wire.{Terms, free, noted, terms, times_out, waits}
 use Rattle.sbp_journal.specs.declared.cause.Cause.{Cause}
 use Rattle.sbp_journal.specs.declared.cause.Cause.TheVariants as causes
 use Rattle.sbp_journal.specs.declared.cause.Judged.{Judged}
 use Rattle.sbp_journal.specs.declared.cause.Judged.TheVariants as judgements
 use Rattle.sbp_journal.specs.declared.note.Note.{Note}
 use Rattle.sbp_journal.specs.declared.note.Note.TheVariants as notes
-use Rattle.sbp_journal.specs.declared.outbox.Outgoing.{Outgoing}
 use Rattle.sbp_laws.specs.MediaLaw.{is_pending}
 use Rattle.sbp_laws.specs.Packets.{begun_in}
-use Rattle.sbp_laws.specs.Targets.{Target, for_nobody, over, purpose_of, target_at}
-use Rattle.sbp_target.specs.Calls.{Call, alone, lets_expire, receives}
-use Rattle.sbp_target.specs.Histories.Transactions.{IsUnderWay}
+use Rattle.sbp_target.specs.Calls.{lets_expire, receives}
 use Rattle.sbp_target.specs.Nodes.{NodeState}
 use Rattle.sbp_target.specs.Nodes as target
 use Rattle.sbp_target.specs.Receiving.{expired, expired_in, received, received_as, removed, with_layer}
@@ -50,39 +44,28 @@ use Rattle.sbp_target.specs.declared.purpose.Purpose.{Purpose}
 use Rattle.sbp_target.specs.declared.purpose.Purpose.TheVariants as purposes
 use Rattle.sbp_target.proofs.Histories.Calling.{Good}
 use Rattle.sbp_target.proofs.Histories.Found.{IsFound, found as found_as}
-use Rattle.sbp_target.proofs.Histories.Primitives.{Known}
 use Rattle.sbp_target.proofs.Histories.Seats.{Lives}
-use Rattle.sbp_world.specs.Agents.Serials.{IsHanded}
 use Rattle.sbp_world.specs.Delivering.{marked, whole_of}
 use Rattle.sbp_world.specs.Handing.{handed_out}
 use Rattle.sbp_world.specs.Hosts.Handing.{AreOthers}
-use Rattle.sbp_world.specs.Wire.Wires.{Stands, StandsAt, layers_of}
+use Rattle.sbp_world.specs.Wire.Wires.{layers_of}
 use Rattle.sbp_world.specs.Worlds.{Scene, WorldState, with_note, with_target, without_notes}
 use Rattle.sbp_world.proofs.Agents.CrewLapse.{asked as lapse_asked}
-use Rattle.sbp_world.proofs.Agents.Handed.{are_handed}
-use Rattle.sbp_world.proofs.Agents.Management.Awaiting.{under_for}
-use Rattle.sbp_world.proofs.Agents.Management.Holding.{good_of, known_id, past_terms, was_sent}
+use Rattle.sbp_world.proofs.Agents.Management.Holding.{good_of, past_terms, was_sent}
 use Rattle.sbp_world.proofs.Agents.Management.Still.{hist}
 use Rattle.sbp_world.proofs.Common.{equal_numbers, untrue}
-use Rattle.sbp_world.proofs.Lists.SentOwned.{AllOwned, IsOwned, owned_here}
+use Rattle.sbp_world.proofs.Lists.SentOwned.{AllOwned}
 use Rattle.sbp_world.proofs.Wire.Asks.{upd_own}
-use Rattle.sbp_world.proofs.Wire.Bus.{node_has}
-use Rattle.sbp_world.proofs.Wire.Nodes.{handed_alike}
-use Rattle.sbp_world.proofs.Wire.Starts.{laws_of}
 use Rattle.turn_laws.proofs.FoundLabels.{SameLabels, gets_same}
-use Rattle.turn_laws.proofs.Handed.{handed}
-use Rattle.turn_laws.proofs.LaterNotes.{AllLeave, ArePlain, others_handed}
-use Rattle.turn_laws.proofs.LaterTerms.{Clean, New, Own, Pushes}
+use Rattle.turn_laws.proofs.LaterTerms.{Clean, Own, Pushes}
 use Rattle.turn_laws.proofs.PendingCalls.{Any, all_owned, target_kept}
 use Rattle.turn_laws.proofs.PendingEnded.{announced_rows, gone, row_back, row_kept}
-use Rattle.turn_laws.proofs.PendingEnds.{forgets}
-use Rattle.turn_laws.proofs.PendingFirsts.{Beside, got_frees, got_injected, got_sent, leaves_same, less_beside, less_got, less_late, tied_at, tied_beside}
-use Rattle.turn_laws.proofs.PendingKept.{AreTied, Id, Less, Pending, Rows, WaitsFor, first_kept, row_waits, rows_same}
+use Rattle.turn_laws.proofs.PendingFirsts.{Beside, got_frees, got_injected, got_sent, leaves_same, less_got, less_late, tied_at}
+use Rattle.turn_laws.proofs.PendingKept.{Backs, Keeps, Lists, Needs, AreTied, Id, Less, Pending, Rows, WaitsFor, first_kept, rows_same}
 use Rattle.turn_laws.proofs.PendingTerms.{ignored_same, pending_not}
-use Rattle.turn_laws.proofs.PendingTurns.{Kept, beside_here, beside_kept, clean_here, note_clean, note_pushes, tied_here, turn_kept, turn_later}
+use Rattle.turn_laws.proofs.PendingTurns.{Kept, beside_here, beside_kept, note_clean, note_pushes, tied_here}
 use Rattle.turn_laws.proofs.Places.{Place}
-use Rattle.turn_laws.proofs.PushRows.{agent_not, manager_not}
-use Rattle.turn_laws.proofs.PushSerials.{Has, pushes_are_nobodys}
+use Rattle.turn_laws.proofs.PushSerials.{Has}
 use Rattle.turn_laws.proofs.SerialsStay.{IsNoSent}
 use Rattle.turn_laws.proofs.StatusAnnounces.{Announced, still_announced}
 use Rattle.turn_laws.proofs.StatusCalls.{Closed, Got, Hears, hears}
@@ -146,10 +129,17 @@ module _ (units ready : ℕ) (has : 0 < units) (start : List Disk) (past : List 
   beside_base note i b = beside_kept nodes start ms (said note ∷ ms) node.layer node.pending tied k b (note_pushes start note ms i)
 
   -- a note that may end a transaction, with a layer that is tied behind it
-  ends_base : (note : Note) → IsNoSent note → (left : Layer Purpose) (later : List ℕ) → Less t (noted note t) (Pushes start ms) → AreTied nodes (noted note t) left → ((n number : ℕ) → Row left (Id t n) number → Row node.layer (Id t n) number) → ((n number : ℕ) (kind : ReplyKind) (call : ℕ) → Row node.layer (Id t n) number → state_for left.peers (Id t n) number ≡ states.UnderWay kind call → Row left (Id t n) number) → ((n : ℕ) → n ≤ nodes → ((r : ℕ) × (Has (Pushes start ms) r × (is_pending (noted note t) n r ≡ true))) ⊎ ((number : ℕ) × Row left (Id t n) number) → is_listed (Id t n) node.pending ≡ true → is_listed (Id t n) later ≡ true) → Pending nodes (noted note t) (Pushes start (said note ∷ ms)) left later
-  ends_base note i left later l tied_then back kept lists =
-      subst (λ xs. Pending nodes (noted note t) xs left later) (sym (note_pushes start note ms i))
-      (first_kept nodes t (noted note t) (Pushes start ms) node.layer left node.pending later k l tied_then back kept lists)
+  module _ (note : Note) (i : IsNoSent note) where
+    abbrev Noted : Terms
+    Noted = noted note t
+
+    abbrev ListsStill : Layer Purpose → List ℕ → Type 0
+    ListsStill left later = Lists nodes t Noted (Pushes start ms) left node.pending later
+
+    ends_base : (left : Layer Purpose) (later : List ℕ) → Less t Noted (Pushes start ms) → AreTied nodes Noted left → Backs t node.layer left → Keeps t node.layer left → ListsStill left later → Pending nodes Noted (Pushes start (said note ∷ ms)) left later
+    ends_base left later l tied_then back kept lists =
+        subst (λ xs. Pending nodes Noted xs left later) (sym (note_pushes start note ms i))
+        (first_kept nodes t Noted (Pushes start ms) node.layer left node.pending later k l tied_then back kept lists)
 
   -- ---- a packet comes
   module _ (serial : ℕ) (again : Bool) (run : Option Told) (one : Sent) (found : found_sent serial w.store.kept ≡ Some one) (zero_to : one.to ≡ 0) where
@@ -166,10 +156,16 @@ module _ (units ready : ℕ) (has : 0 < units) (start : List Disk) (past : List 
     was = was_sent w here.holds.sound.stands serial one found
 
     module _ (media : Media) (there : Place units ready start past (record { world = handed_out 0 0 X.1.outbox (V X.0); media = media })) (others : AreOthers X.1.outbox.sides) where
-      abbrev Goal : Judged → Type 0
-      Goal judged = Place units ready start past (record { world = handed_out 0 0 X.1.outbox (V judged); media = media }) → Kept start (hist past (handed_out 0 0 X.1.outbox (V judged))) (record { world = handed_out 0 0 X.1.outbox (V judged); media = media })
+      abbrev After : Judged → Scene
+      After judged = record { world = handed_out 0 0 X.1.outbox (V judged); media = media }
 
-      behind_it : (judged : Judged) (layer : Layer Purpose) (pending : List ℕ) → Clean (terms (said (judged_note serial judged) ∷ ms)) → Pending nodes (terms (said (judged_note serial judged) ∷ ms)) (Pushes start (said (judged_note serial judged) ∷ ms)) layer pending → Rows layer X.1.node.layer pending X.1.node.pending → Goal judged
+      abbrev Goal : Judged → Type 0
+      Goal judged = Place units ready start past (After judged) → Kept start (hist past (After judged).world) (After judged)
+
+      abbrev First : Judged → List Moment
+      First judged = said (judged_note serial judged) ∷ ms
+
+      behind_it : (judged : Judged) (layer : Layer Purpose) (pending : List ℕ) → Clean (terms (First judged)) → Pending nodes (terms (First judged)) (Pushes start (First judged)) layer pending → Rows layer X.1.node.layer pending X.1.node.pending → Goal judged
       behind_it judged layer pending clean base rows place =
           let m = marked_same serial again (with_target X.1.node w) in
           target_kept units ready has start past s here (judged_note serial judged) X.1.outbox (V judged) media (ap (λ ns. judged_note serial judged ∷ ns) m.1.1) place others
@@ -186,7 +182,10 @@ module _ (units ready : ℕ) (has : 0 < units) (start : List Disk) (past : List 
       abbrev Stood : Finding Purpose × Layer Purpose → Type 0
       Stood f = Judges units ready start past s here serial one found zero_to f
 
-      got_tied : (f : Finding Purpose) (layer : Layer Purpose) → F ≡ (f, layer) → ((l : Layer Purpose) → Stood (f, l) → AreTied nodes (terms (said (notes.Got serial) ∷ repeated units ready start past s here serial one found zero_to)) l) → AreTied nodes (terms (said (notes.Got serial) ∷ ms)) layer
+      abbrev StoodTied : Finding Purpose → Type 0
+      StoodTied f = (l : Layer Purpose) → Stood (f, l) → AreTied nodes (terms (said (notes.Got serial) ∷ repeated units ready start past s here serial one found zero_to)) l
+
+      got_tied : (f : Finding Purpose) (layer : Layer Purpose) → F ≡ (f, layer) → StoodTied f → AreTied nodes (terms (said (notes.Got serial) ∷ ms)) layer
       got_tied f layer e h =
           let r = repeated units ready start past s here serial one found zero_to in
           tied_labels (terms (said (notes.Got serial) ∷ r)) (terms (said (notes.Got serial) ∷ ms)) (gets_same (t.sent serial) serial t) nodes layer
@@ -305,10 +304,10 @@ module _ (units ready : ℕ) (has : 0 < units) (start : List Disk) (past : List 
               let same_number = k.one n number label.number l b row_there in
               ended_now r.kind r.serial (ap (λ i. state_for layer.peers i label.number) (sym same) ∙ (ap (λ m. state_for layer.peers (Id t n) m) (sym same_number) ∙ r.waits))
 
-        left_listed : (n : ℕ) → n ≤ nodes → ((r : ℕ) × (Has (Pushes start ms) r × (is_pending (noted (notes.Got serial) t) n r ≡ true))) ⊎ ((number : ℕ) × Row layer (Id t n) number) → is_listed (Id t n) node.pending ≡ true → is_listed (Id t n) others_left ≡ true
+        left_listed : Lists nodes t (noted (notes.Got serial) t) (Pushes start ms) layer node.pending others_left
         left_listed n l why f = by (nat_eq (Id t n) from_node) refl
           where
-            here_none : Id t n ≡ from_node → ((r : ℕ) × (Has (Pushes start ms) r × (is_pending (noted (notes.Got serial) t) n r ≡ true))) ⊎ ((number : ℕ) × Row layer (Id t n) number) → ⊥
+            here_none : Id t n ≡ from_node → Needs t (noted (notes.Got serial) t) (Pushes start ms) layer n → ⊥
             here_none same (inl (r, (h, q))) = none_pends n l same r h q
             here_none same (inr (number, r)) = none_rows n l same number r
 

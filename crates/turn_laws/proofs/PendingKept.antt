@@ -1,7 +1,7 @@
--- What holds from place to place of the target's unsolicited statuses: to whom one of the terms is under way, or its label rests, he is among the nodes to which the target has one pending. It is kept by the
--- first note of a turn, and by what stands behind it.
-use Rattle.std.proofs.Common.{arith, ◌≡◌, ◌∙◌, refl, sym, ap, subst, inl, inr, ◌⊎◌, ℕ, ◌<◌, ◌≤◌, ◌==◌, ◌&&◌, ◌||◌, Bool, true, false, cond, List, Option, Some, None}
-use Rattle.bus_transactions.specs.Rows.{awaits, shape, shape_of}
+-- What holds from place to place of the target's unsolicited statuses: to whom one of the terms is under way, or its label rests, he is among the nodes to which the target has one
+-- pending. It is kept by the first note of a turn, and by what stands behind it.
+use Rattle.std.proofs.Common.{arith, ◌≡◌, ◌∙◌, refl, sym, ap, subst, inl, inr, ◌⊎◌, ℕ, ◌≤◌, ◌||◌, true, false, List}
+use Rattle.bus_transactions.specs.Rows.{shape, shape_of}
 use Rattle.label_table.specs.declared.place.LabelState.{LabelState}
 use Rattle.label_table.specs.declared.place.LabelState.TheVariants as states
 use Rattle.label_table.specs.declared.reply.ReplyKind.{ReplyKind}
@@ -9,16 +9,16 @@ use Rattle.label_table.specs.Layer.{Layer}
 use Rattle.label_table.specs.Peers.{state_for}
 use Rattle.rbc_disk.specs.Disk.{Disk}
 use Rattle.sbp_journal.specs.Run.{Moment}
-use Rattle.sbp_journal.specs.Transactions.{Kind, Sending, Transaction, begun_by}
+use Rattle.sbp_journal.specs.Transactions.{Kind, Transaction}
 use Rattle.sbp_journal.specs.Wire.{Held, Terms, free, rests, terms, waits}
 use Rattle.sbp_laws.specs.MediaLaw.{is_pending}
-use Rattle.sbp_laws.specs.Packets.{begun_in, has_resting_label, is_under_way, receiver_in}
+use Rattle.sbp_laws.specs.Packets.{has_resting_label, is_under_way, receiver_in}
 use Rattle.sbp_laws.specs.Targets.{is_serial}
 use Rattle.sbp_target.specs.Units.{is_pending as is_listed}
 use Rattle.sbp_target.specs.declared.purpose.Purpose.{Purpose}
 use Rattle.sbp_world.proofs.Agents.Purposes.{Waits, held_waits}
 use Rattle.sbp_world.proofs.Common.{and_first, equal, untrue}
-use Rattle.turn_laws.proofs.LaterTerms.{Later, New, Own, Pushes, free_waits, rests_waits, same_waits}
+use Rattle.turn_laws.proofs.LaterTerms.{Later, New, Own, Pushes, rests_waits, same_waits}
 use Rattle.turn_laws.proofs.PushSerials.{Has}
 use Rattle.turn_laws.proofs.StatusRows.{Row}
 
@@ -56,14 +56,29 @@ pub record Less (t now : Terms) (pushes : List ℕ) : Type 0 where
   pub held : (n number : ℕ) → (now.held (Own t n number) ≡ t.held (Own t n number)) ⊎ ((kind : Kind) (s : ℕ) → now.held (Own t n number) ≡ waits kind s → ⊥)
   pub pends : (n s : ℕ) → Has pushes s → is_pending now n s ≡ true → is_pending t n s ≡ true
 
-module _ (nodes : ℕ) (t now : Terms) (pushes : List ℕ) (layer left : Layer Purpose) (pending later : List ℕ) (k : Pending nodes t pushes layer pending) (l : Less t now pushes) (tied : AreTied nodes now left) where
+-- the rows behind the note are those from before that are under way still
+abbrev pub Backs : Terms → (layer left : Layer Purpose) → Type 0
+Backs t layer left = (n number : ℕ) → Row left (Id t n) number → Row layer (Id t n) number
+
+abbrev pub Keeps : Terms → (layer left : Layer Purpose) → Type 0
+Keeps t layer left = (n number : ℕ) (kind : ReplyKind) (call : ℕ) → Row layer (Id t n) number → state_for left.peers (Id t n) number ≡ states.UnderWay kind call → Row left (Id t n) number
+
+-- and who has one, or one pending by the terms, stands among the nodes still
+abbrev pub Needs : (t now : Terms) → (pushes : List ℕ) → Layer Purpose → ℕ → Type 0
+Needs t now pushes left n = ((s : ℕ) × (Has pushes s × (is_pending now n s ≡ true))) ⊎ ((number : ℕ) × Row left (Id t n) number)
+
+abbrev pub Lists : ℕ → (t now : Terms) → (pushes : List ℕ) → Layer Purpose → (pending later : List ℕ) → Type 0
+Lists nodes t now pushes left pending later = (n : ℕ) → n ≤ nodes → Needs t now pushes left n → is_listed (Id t n) pending ≡ true → is_listed (Id t n) later ≡ true
+
+module _ (nodes : ℕ) (t now : Terms) (pushes : List ℕ) (layer left : Layer Purpose) (pending later : List ℕ)
+    (k : Pending nodes t pushes layer pending) (l : Less t now pushes) (tied : AreTied nodes now left) where
   id_same : (n : ℕ) → Id now n ≡ Id t n
   id_same n = ap (λ g. now.ids g n) l.generation ∙ l.ids n
 
   own_same : (n number : ℕ) → Own now n number ≡ Own t n number
   own_same n number = ap (λ g. record { generation = g; requester = 0; responder = n; label = number }) l.generation
 
-  module _ (back : (n number : ℕ) → Row left (Id t n) number → Row layer (Id t n) number) (kept : (n number : ℕ) (kind : ReplyKind) (call : ℕ) → Row layer (Id t n) number → state_for left.peers (Id t n) number ≡ states.UnderWay kind call → Row left (Id t n) number) (lists : (n : ℕ) → n ≤ nodes → ((s : ℕ) × (Has pushes s × (is_pending now n s ≡ true))) ⊎ ((number : ℕ) × Row left (Id t n) number) → is_listed (Id t n) pending ≡ true → is_listed (Id t n) later ≡ true) where
+  module _ (back : Backs t layer left) (kept : Keeps t layer left) (lists : Lists nodes t now pushes left pending later) where
     was : (n number : ℕ) → Row left (Id now n) number → Row layer (Id t n) number
     was n number r = back n number (subst (λ p. Row left p number) (id_same n) r)
 
@@ -122,7 +137,19 @@ pub record Rows (layer left : Layer Purpose) (pending later : List ℕ) : Type 0
 pub rows_same : (layer : Layer Purpose) (pending : List ℕ) → Rows layer layer pending pending
 rows_same layer pending = record { stay = λ p number r. r; new = λ p number r. inl r; one = λ p a b r q. inl r; grows = λ p e. e }
 
-module _ (nodes : ℕ) (start : List Disk) (from : ℕ) (Q : ℕ → List ℕ → Type 0) (ms now : List Moment) (m : Later start from Q ms now) (layer left : Layer Purpose) (pending later : List ℕ) (k : Pending nodes (terms ms) (Pushes start ms) layer pending) (small : (s : ℕ) → Has (Pushes start ms) s → s ≤ (terms ms).count) (rows : Rows layer left pending later) (there : from ≡ 0 → (s : ℕ) → Has (Pushes start now) s → (x : New Q (terms ms) (terms now) s) → (x.packet.to ≤ nodes) × Row left (Id (terms now) x.packet.to) x.label) (once : (s : ℕ) (v w : Transaction) (kind other : Kind) → (terms now).held v ≡ waits kind s → (terms now).held w ≡ waits other s → v ≡ w) where
+-- each new unsolicited status of the terms has its row
+abbrev pub HaveRows : (nodes : ℕ) → List Disk → (from : ℕ) → (ℕ → List ℕ → Type 0) → (ms now : List Moment) → Layer Purpose → Type 0
+HaveRows nodes start from Q ms now left =
+    from ≡ 0 → (s : ℕ) → Has (Pushes start now) s → (x : New Q (terms ms) (terms now) s) → (x.packet.to ≤ nodes) × Row left (Id (terms now) x.packet.to) x.label
+
+-- and a serial that is waited for is of one transaction
+abbrev pub IsOnce : Terms → Type 0
+IsOnce t = (s : ℕ) (v w : Transaction) (kind other : Kind) → t.held v ≡ waits kind s → t.held w ≡ waits other s → v ≡ w
+
+module _ (nodes : ℕ) (start : List Disk) (from : ℕ) (Q : ℕ → List ℕ → Type 0) (ms now : List Moment) (m : Later start from Q ms now)
+    (layer left : Layer Purpose) (pending later : List ℕ) (k : Pending nodes (terms ms) (Pushes start ms) layer pending)
+    (small : (s : ℕ) → Has (Pushes start ms) s → s ≤ (terms ms).count) (rows : Rows layer left pending later)
+    (there : HaveRows nodes start from Q ms now left) (once : IsOnce (terms now)) where
   abbrev t : Terms
   t = terms ms
 

@@ -1,37 +1,26 @@
 -- What is carried of the target's unsolicited statuses through a sight and a second at the target, through each call of an initiator, and through each other line.
-use Rattle.std.proofs.Common.{arith, ◌≡◌, ◌∙◌, refl, sym, ap, subst, inl, inr, ◌⊎◌, ℕ, zero, suc, ◌+◌, ◌<◌, ◌≤◌, ◌==◌, ◌&&◌, ◌||◌, not, nat_eq, nat_lt, is_some, Bool, true, false, cond, List, [], ◌∷◌, ◌++◌, length, map, position, Option, Some, None, Result, Ok, Err}
+use Rattle.std.proofs.Common.{arith, ◌≡◌, ◌∙◌, refl, sym, ap, subst, inl, inr, ◌⊎◌, ℕ, zero, suc, ◌+◌, ◌<◌, ◌≤◌, ◌==◌, ◌&&◌, ◌||◌, nat_eq, nat_lt, Bool, true, false, cond, List, [], ◌∷◌, ◌++◌, length, map, Option, Some, None}
 use Rattle.std.proofs.lemmas.Bool.Decides.{nat_tests}
 use Rattle.async_packet.specs.Labels.{LabelParts}
-use Rattle.async_packet.specs.Packet.{Packet, header_in}
-use Rattle.bus_transactions.specs.Bare.{bare}
 use Rattle.bus_transactions.specs.Packets.{SerialsCount}
-use Rattle.bus_transactions.specs.Rows.{shape, shape_of}
-use Rattle.bus_transactions.specs.Wire.{Node, as_sending, transaction}
-use Rattle.bus_transactions.proofs.Facts.{AskedBy, asked_is, begun_asked, injected_begun}
+use Rattle.bus_transactions.specs.Wire.{as_sending, transaction}
+use Rattle.bus_transactions.proofs.Facts.{asked_is, begun_asked, injected_begun}
 use Rattle.bus_transactions.proofs.Reaches.{goes_on}
 use Rattle.label_table.specs.History.{Life, disowned, for_nobody, forgotten, is_same, under_way}
-use Rattle.label_table.specs.Layer.{Finding, Layer, disowning_step, expiring_step, seen_in_generation, judging_step, of_again, of_generation, of_grammar, of_label, of_request, of_response, seeing_step}
-use Rattle.label_table.specs.Peers.{state_for}
-use Rattle.label_table.specs.declared.place.LabelState.TheVariants as states
+use Rattle.label_table.specs.Layer.{Layer, disowning_step, seen_in_generation, seeing_step}
 use Rattle.label_table.specs.declared.reply.ReplyKind.{ReplyKind}
-use Rattle.label_table.specs.declared.reply.Stale.{Stale}
-use Rattle.packet_store.specs.Kept.{found_sent, is_flying}
-use Rattle.packet_store.specs.Stored.{deliver_step}
+use Rattle.packet_store.specs.Kept.{found_sent}
 use Rattle.packet_store.specs.declared.sent.Sent.{Sent}
 use Rattle.rbc_disk.specs.Disk.{Disk}
-use Rattle.rbc_disk.specs.Held.{Held as Media}
-use Rattle.rbc_disk.specs.Runs.{Told}
 use Rattle.sbp_base.specs.Update.{upd}
-use Rattle.sbp_bus.specs.Generations.{GenerationsState, id_of, node_of, topology_at}
+use Rattle.sbp_bus.specs.Generations.{GenerationsState, id_of}
 use Rattle.sbp_bus.specs.Packets.{judged_note}
 use Rattle.sbp_bus.specs.Requests.{find}
 use Rattle.sbp_bus.specs.declared.requests.Request.{Request}
 use Rattle.sbp_journal.specs.Outgoings.{OutboxState, empty_outbox}
 use Rattle.sbp_journal.specs.Run.{Moment, asked, said}
-use Rattle.sbp_journal.specs.Transactions.{Kind, Sending, Transaction, begun_by, part_of, request}
-use Rattle.sbp_journal.specs.Wire.{Held, Terms, begins, free, noted, opened, puts, terms, times_out, waits}
-use Rattle.sbp_journal.specs.declared.cause.Cause.{Cause}
-use Rattle.sbp_journal.specs.declared.cause.Cause.TheVariants as causes
+use Rattle.sbp_journal.specs.Transactions.{Kind, Sending, Transaction, begun_by, request}
+use Rattle.sbp_journal.specs.Wire.{Terms, begins, noted, opened, puts, terms, times_out, waits}
 use Rattle.sbp_journal.specs.declared.cause.Judged.{Judged}
 use Rattle.sbp_journal.specs.declared.cause.Judged.TheVariants as judgements
 use Rattle.sbp_journal.specs.declared.event.Event.{Event}
@@ -42,65 +31,50 @@ use Rattle.sbp_journal.specs.declared.outbox.Outgoing.{Outgoing}
 use Rattle.sbp_laws.specs.MediaLaw.{is_pending}
 use Rattle.sbp_laws.specs.Packets.{begun_in, receiver_in, rests_for, waits_for}
 use Rattle.sbp_laws.specs.Targets.{is_serial}
-use Rattle.sbp_target.specs.Calls.{Call, alone, lets_expire, receives, sees, ticks}
-use Rattle.sbp_target.specs.Histories.Transactions.{IsUnderWay}
+use Rattle.sbp_target.specs.Calls.{alone, sees, ticks}
 use Rattle.sbp_target.specs.Nodes.{NodeState}
 use Rattle.sbp_target.specs.Nodes as target
-use Rattle.sbp_target.specs.Receiving.{expired, reset_by, seen, received, received_as, removed, with_layer}
-use Rattle.sbp_target.specs.Replies.{Whole}
-use Rattle.sbp_target.specs.Units.{is_node, is_pending as is_listed}
+use Rattle.sbp_target.specs.Receiving.{reset_by, seen}
 use Rattle.sbp_target.specs.declared.purpose.Purpose.{Purpose}
 use Rattle.sbp_target.specs.declared.purpose.Purpose.TheVariants as purposes
 use Rattle.sbp_target.proofs.Histories.Calling.{Good}
-use Rattle.sbp_target.proofs.Histories.Found.{IsFound, found as found_as}
 use Rattle.sbp_target.proofs.Histories.Primitives.{Known, disowns_known, forgotten_at, live_on, nobody_is, seeing_known}
 use Rattle.sbp_target.proofs.Histories.Pass.{sees_by}
 use Rattle.sbp_target.proofs.Histories.Seats.{Lives}
-use Rattle.sbp_world.specs.Agents.Serials.{IsHanded}
-use Rattle.sbp_world.specs.Delivering.{marked, whole_of}
 use Rattle.sbp_world.specs.Handing.{handed_out}
 use Rattle.sbp_world.specs.Hosts.Handing.{AreOthers}
-use Rattle.sbp_world.specs.Wire.Wires.{Stands, StandsAt, layers_of}
+use Rattle.sbp_world.specs.Wire.Wires.{Stands}
 use Rattle.sbp_world.specs.Nodes.{told_seen, with_seen}
 use Rattle.sbp_world.specs.Settling.{settled_from}
 use Rattle.sbp_world.specs.Worlds.{Scene, WorldState, with_note, with_target}
-use Rattle.sbp_world.proofs.Agents.Handed.{are_handed}
-use Rattle.sbp_world.proofs.Agents.Management.Awaiting.{under_for}
-use Rattle.sbp_world.proofs.Agents.Management.Holding.{good_of, known_id, past_terms, was_sent}
+use Rattle.sbp_world.proofs.Agents.Management.Holding.{good_of, past_terms, was_sent}
 use Rattle.sbp_world.proofs.Agents.Management.Still.{hist}
 use Rattle.sbp_world.proofs.Agents.Management.Lapse.{from_asked}
 use Rattle.sbp_world.proofs.Agents.Management.Sights.{Ages, ages}
 use Rattle.sbp_world.proofs.Agents.Purposes.{g, law}
 use Rattle.sbp_world.proofs.Common.{itself, none_is, untrue}
 use Rattle.sbp_world.proofs.Formed.{AreOwn}
-use Rattle.sbp_world.proofs.Lists.SentOwned.{AllOwned, IsOwned, owned_here}
-use Rattle.sbp_world.proofs.Wire.Asks.{upd_own}
+use Rattle.sbp_world.proofs.Lists.SentOwned.{AllOwned}
 use Rattle.sbp_world.proofs.Wire.Agrees.{sends_agrees}
 use Rattle.sbp_world.proofs.Wire.Bus.{holds, sent_ids}
-use Rattle.sbp_world.proofs.Wire.Nodes.{handed_alike}
 use Rattle.sbp_world.proofs.Wire.Starts.{laws_of}
-use Rattle.turn_laws.proofs.FoundLabels.{SameLabels, gets_same}
 use Rattle.turn_laws.proofs.Calls.{Brings, Stays, calls, injects, loses, refuses, refuses_action, resets, sets_key}
-use Rattle.turn_laws.proofs.Handed.{handed, onto}
-use Rattle.turn_laws.proofs.LaterNotes.{AllLeave, ArePlain, others_handed, owns_handed}
-use Rattle.turn_laws.proofs.LaterTerms.{Clean, Grows, New, Own, Pushes, grown}
+use Rattle.turn_laws.proofs.Handed.{onto}
+use Rattle.turn_laws.proofs.LaterNotes.{AllLeave, owns_handed}
+use Rattle.turn_laws.proofs.LaterTerms.{Grows, Own, Pushes, grown}
 use Rattle.turn_laws.proofs.PendingCalls.{Any, all_owned, target_kept}
-use Rattle.turn_laws.proofs.PendingEnded.{announced_rows, gone, row_back, row_kept}
 use Rattle.turn_laws.proofs.PendingEnds.{forgets}
-use Rattle.turn_laws.proofs.PendingFirsts.{Beside, LeavesOwn, got_injected, own_gets, own_lapses, requester_is, got_frees, got_sent, leaves_same, less_beside, less_got, less_late, tied_at, tied_beside}
-use Rattle.turn_laws.proofs.PendingKept.{AreTied, Id, Less, Pending, Rows, WaitsFor, first_kept, row_waits, rows_same}
+use Rattle.turn_laws.proofs.PendingFirsts.{Beside, LeavesOwn, got_injected, own_gets, own_lapses, requester_is, leaves_same, tied_beside}
+use Rattle.turn_laws.proofs.PendingKept.{AreTied, Id, Pending, Rows, rows_same}
 use Rattle.turn_laws.proofs.PendingTerms.{Same, ignored_same, pending_sent, sends_terms, upd_other}
-use Rattle.turn_laws.proofs.PendingTurns.{Kept, beside_here, from_target, beside_kept, line_beside, line_clean, line_pushes, own_kept, clean_here, note_clean, note_pushes, tied_here, turn_kept, turn_later}
+use Rattle.turn_laws.proofs.PendingTurns.{Kept, beside_here, from_target, beside_kept, line_beside, line_clean, line_pushes, own_kept, note_clean, note_pushes, tied_here}
 use Rattle.turn_laws.proofs.Places.{Place}
-use Rattle.turn_laws.proofs.PushRows.{agent_not, manager_not}
 use Rattle.turn_laws.proofs.PushSerials.{Has, counted}
 use Rattle.turn_laws.proofs.SerialsStay.{IsNoSent}
-use Rattle.turn_laws.proofs.StatusAnnounces.{Announced, still_announced}
-use Rattle.turn_laws.proofs.StatusCalls.{Closed, Got, Hears, hears}
+use Rattle.turn_laws.proofs.StatusCalls.{Got}
 use Rattle.turn_laws.proofs.StatusLates.{seconds}
 use Rattle.turn_laws.proofs.StatusRows.{Row, life_of}
-use Rattle.turn_laws.proofs.StatusStays.{IsStatus, Still}
-use Rattle.turn_laws.proofs.TurnWires.{Judges, judged_stands, late_stands, repeated}
+use Rattle.turn_laws.proofs.StatusStays.{IsStatus}
 
 
 -- ---- an initiator has no such packets to tell of
@@ -164,7 +138,8 @@ module _ (units ready : ℕ) (has : 0 < units) (start : List Disk) (past : List 
   beside x l = beside_here units ready has start past s here x l
 
   -- ---- a call of an initiator
-  module _ (i weight : ℕ) (note : Note) (plain_note : IsNoSent note) (leaves : LeavesOwn t (noted note t)) (same : (noted note t).injected ≡ t.injected) (outbox : OutboxState) (v : WorldState) (fresh_is : v.fresh ≡ note ∷ w.fresh) (target_is : v.target ≡ node) (count : length v.initiators ≡ nodes) (own : AreOwn outbox.sides) where
+  module _ (i weight : ℕ) (note : Note) (plain_note : IsNoSent note) (leaves : LeavesOwn t (noted note t)) (same : (noted note t).injected ≡ t.injected)
+      (outbox : OutboxState) (v : WorldState) (fresh_is : v.fresh ≡ note ∷ w.fresh) (target_is : v.target ≡ node) (count : length v.initiators ≡ nodes) (own : AreOwn outbox.sides) where
     abbrev Then : Scene
     Then = record { world = handed_out (suc i) weight outbox v; media = s.media }
 
@@ -347,7 +322,10 @@ module _ (units ready : ℕ) (has : 0 < units) (start : List Disk) (past : List 
   line_tied line event = tied_beside nodes t (opened event t) (Pushes start ms) node.layer (line_beside units ready has start past s here event) (tied_here units ready has start past s here)
 
   -- and a note of it that is beside the target's transactions
-  pub noted_kept : (line : ℕ) (event : Event) (note : Note) → IsNoSent note → Beside (terms (asked line event ∷ ms)) (noted note (terms (asked line event ∷ ms))) (Pushes start (asked line event ∷ ms)) → Pending nodes (terms (said note ∷ asked line event ∷ ms)) (Pushes start (said note ∷ asked line event ∷ ms)) node.layer node.pending
+  abbrev pub BesideLine : (line : ℕ) → Event → Note → Type 0
+  BesideLine line event note = Beside (terms (asked line event ∷ ms)) (noted note (terms (asked line event ∷ ms))) (Pushes start (asked line event ∷ ms))
+
+  pub noted_kept : (line : ℕ) (event : Event) (note : Note) → IsNoSent note → BesideLine line event note → Pending nodes (terms (said note ∷ asked line event ∷ ms)) (Pushes start (said note ∷ asked line event ∷ ms)) node.layer node.pending
   noted_kept line event note i b =
       beside_kept nodes start (asked line event ∷ ms) (said note ∷ asked line event ∷ ms) node.layer node.pending (line_tied line event) (line_kept line event) b (note_pushes start note (asked line event ∷ ms) i)
 
@@ -355,7 +333,8 @@ module _ (units ready : ℕ) (has : 0 < units) (start : List Disk) (past : List 
   plain_beside x y pushes a b c d = record { generation = ap (λ f. f 0) a; ids = λ n. ap (λ f. f (x.generation 0) n) b; held = λ n number. ap (λ f. f (Own x n number)) c; pends = λ n r h. d n r }
 
   -- an action: its line has no first note
-  module _ (line i weight : ℕ) (event : Event) (outbox : OutboxState) (v : WorldState) (fresh_is : v.fresh ≡ []) (target_is : v.target ≡ node) (count : length v.initiators ≡ nodes) (own : AreOwn outbox.sides) where
+  module _ (line i weight : ℕ) (event : Event) (outbox : OutboxState) (v : WorldState) (fresh_is : v.fresh ≡ [])
+      (target_is : v.target ≡ node) (count : length v.initiators ≡ nodes) (own : AreOwn outbox.sides) where
     abbrev Acted : Scene
     Acted = record { world = handed_out (i + 1) weight outbox v; media = s.media }
 
@@ -367,8 +346,12 @@ module _ (units ready : ℕ) (has : 0 < units) (start : List Disk) (past : List 
 
   -- a line that settles ends
   pub end_kept : (done : Bool) → Kept start (hist past (settled_from done s).world) (settled_from done s)
-  end_kept true = beside_kept nodes start ms (said notes.Settled ∷ ms) node.layer node.pending (tied_here units ready has start past s here) k (plain_beside t t (Pushes start ms) refl refl refl (λ n r. refl)) (note_pushes start notes.Settled ms tt)
-  end_kept false = beside_kept nodes start ms (said notes.Stopped ∷ ms) node.layer node.pending (tied_here units ready has start past s here) k (plain_beside t t (Pushes start ms) refl refl refl (λ n r. refl)) (note_pushes start notes.Stopped ms tt)
+  end_kept true =
+      beside_kept nodes start ms (said notes.Settled ∷ ms) node.layer node.pending (tied_here units ready has start past s here) k
+      (plain_beside t t (Pushes start ms) refl refl refl (λ n r. refl)) (note_pushes start notes.Settled ms tt)
+  end_kept false =
+      beside_kept nodes start ms (said notes.Stopped ∷ ms) node.layer node.pending (tied_here units ready has start past s here) k
+      (plain_beside t t (Pushes start ms) refl refl refl (λ n r. refl)) (note_pushes start notes.Stopped ms tt)
 
   -- a packet is injected: it begins no transaction
   module _ (line : ℕ) (event : Event) (serial generation from to : ℕ) (bytes : List ℕ) where
@@ -435,7 +418,8 @@ module _ (units ready : ℕ) (has : 0 < units) (start : List Disk) (past : List 
           (noted_kept line event (notes.Injected serial) tt first_beside) second_beside pushes_same
 
   -- ---- what a line brings
-  module _ (line : ℕ) (event : Event) (rest : List Note) (behind : Scene) (fresh : behind.world.fresh ≡ onto rest []) (there : Place units ready start (asked line event ∷ ms) behind) (stays : Stays w behind.world) where
+  module _ (line : ℕ) (event : Event) (rest : List Note) (behind : Scene) (fresh : behind.world.fresh ≡ onto rest [])
+      (there : Place units ready start (asked line event ∷ ms) behind) (stays : Stays w behind.world) where
     abbrev Base : List Moment → Type 0
     Base h = Pending nodes (terms h) (Pushes start h) node.layer node.pending
 
@@ -463,15 +447,20 @@ module _ (units ready : ℕ) (has : 0 < units) (start : List Disk) (past : List 
   pub brought_kept : (line : ℕ) (event : Event) (rest : List Note) (behind : Scene) → Brings line s event rest → behind.world.fresh ≡ onto rest [] → Place units ready start (asked line event ∷ ms) behind → Stays w behind.world → Kept start (hist (asked line event ∷ ms) behind.world) behind
   brought_kept line event rest behind (calls is_event c) fresh there stays = moved_kept line event [] behind fresh there stays (line_kept line event)
   brought_kept line event rest behind (refuses is_event number) fresh there stays =
-      moved_kept line event (notes.Refused line number ∷ []) behind fresh there stays (noted_so line event (notes.Refused line number ∷ []) behind fresh there stays (notes.Refused line number) tt refl refl refl (λ n r. refl))
+      moved_kept line event (notes.Refused line number ∷ []) behind fresh there stays
+        (noted_so line event (notes.Refused line number ∷ []) behind fresh there stays (notes.Refused line number) tt refl refl refl (λ n r. refl))
   brought_kept line event rest behind (refuses_action i action number e) fresh there stays =
-      moved_kept line (events.Act i action) (notes.Refused line number ∷ []) behind fresh there stays (noted_so line (events.Act i action) (notes.Refused line number ∷ []) behind fresh there stays (notes.Refused line number) tt refl refl refl (λ n r. refl))
+      moved_kept line (events.Act i action) (notes.Refused line number ∷ []) behind fresh there stays
+        (noted_so line (events.Act i action) (notes.Refused line number ∷ []) behind fresh there stays (notes.Refused line number) tt refl refl refl (λ n r. refl))
   brought_kept line event rest behind (resets physical generation e) fresh there stays =
-      moved_kept line (events.Reset physical) (notes.Reset generation ∷ []) behind fresh there stays (noted_so line (events.Reset physical) (notes.Reset generation ∷ []) behind fresh there stays (notes.Reset generation) tt refl refl refl (λ n r. refl))
+      moved_kept line (events.Reset physical) (notes.Reset generation ∷ []) behind fresh there stays
+        (noted_so line (events.Reset physical) (notes.Reset generation ∷ []) behind fresh there stays (notes.Reset generation) tt refl refl refl (λ n r. refl))
   brought_kept line event rest behind (loses serial) fresh there stays =
-      moved_kept line (events.Lose serial) (notes.Lost serial ∷ []) behind fresh there stays (noted_so line (events.Lose serial) (notes.Lost serial ∷ []) behind fresh there stays (notes.Lost serial) tt refl refl refl (λ n r. refl))
+      moved_kept line (events.Lose serial) (notes.Lost serial ∷ []) behind fresh there stays
+        (noted_so line (events.Lose serial) (notes.Lost serial ∷ []) behind fresh there stays (notes.Lost serial) tt refl refl refl (λ n r. refl))
   brought_kept line event rest behind (sets_key unit key) fresh there stays =
-      moved_kept line (events.Key unit key) (notes.Key unit ∷ []) behind fresh there stays (noted_so line (events.Key unit key) (notes.Key unit ∷ []) behind fresh there stays (notes.Key unit) tt refl refl refl (λ n r. refl))
+      moved_kept line (events.Key unit key) (notes.Key unit ∷ []) behind fresh there stays
+        (noted_so line (events.Key unit key) (notes.Key unit ∷ []) behind fresh there stays (notes.Key unit) tt refl refl refl (λ n r. refl))
   brought_kept line event rest behind (injects i bytes serial generation from to) fresh there stays =
       let notes_then = notes.Injected serial ∷ notes.Sent serial generation from to bytes ∷ [] in
       let laws = there_laws line (events.Inject i bytes) notes_then behind fresh there stays (said (notes.Sent serial generation from to bytes) ∷ said (notes.Injected serial) ∷ asked line (events.Inject i bytes) ∷ ms) refl in

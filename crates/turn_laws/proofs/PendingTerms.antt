@@ -1,19 +1,14 @@
 -- Whether an unsolicited status is pending to a node, by the terms of the wire: it is so from its sending on, while it is under way and where its label rests, until its response is got or a
 -- reset is seen. What else is said of the wire leaves it so.
-use Rattle.std.proofs.Common.{arith, ◌≡◌, ◌≢◌, ◌∙◌, refl, sym, ap, subst, ℕ, suc, ◌+◌, ◌==◌, ◌&&◌, ◌||◌, nat_eq, Bool, true, false, cond, List, ◌∷◌, Option, Some, None}
+use Rattle.std.proofs.Common.{arith, ◌≡◌, ◌∙◌, refl, sym, ap, subst, ℕ, ◌==◌, ◌&&◌, ◌||◌, nat_eq, Bool, true, false, cond, Option, Some, None}
 use Rattle.std.proofs.lemmas.Bool.Decides.{nat_tests}
 use Rattle.sbp_base.specs.Update.{upd}
-use Rattle.async_packet.specs.Fields.{rcode_of}
-use Rattle.sbp_journal.specs.Transactions.{Kind, Part, Sending, Transaction, at, begun_by, between, is_same, is_same_kind, no_packet, part_of, request, response}
-use Rattle.sbp_journal.specs.Wire.{Held, Owed, Terms, arrives, begins, closes, closes_if, free, gets, gets_as, gives, ignores, ignores_that, is_news, is_served, judges, judges_if, kind_in, noted, opened, pays, puts, rests, sends, times_out, waits}
+use Rattle.sbp_journal.specs.Transactions.{Kind, Sending, Transaction, at, begun_by, is_same, part_of}
+use Rattle.sbp_journal.specs.Wire.{Held, Owed, Terms, arrives, begins, free, gives, ignores, ignores_that, is_news, is_served, judges, judges_if, kind_in, pays, puts, rests, sends, waits}
 use Rattle.sbp_journal.specs.declared.cause.Cause.{Cause}
 use Rattle.sbp_journal.specs.declared.cause.Cause.TheVariants as causes
-use Rattle.sbp_journal.specs.declared.event.Event.{Event}
-use Rattle.sbp_journal.specs.declared.event.Event.TheVariants as events
-use Rattle.sbp_journal.specs.declared.note.Note.{Note}
-use Rattle.sbp_journal.specs.declared.note.Note.TheVariants as notes
 use Rattle.sbp_laws.specs.MediaLaw.{is_pending}
-use Rattle.sbp_laws.specs.Packets.{begun_in, has_resting_label, is_of_now, is_resting, is_under_way, is_waiting_for, receiver_in, rests_for, waits_for}
+use Rattle.sbp_laws.specs.Packets.{begun_in, is_resting, is_waiting_for, receiver_in, rests_for, waits_for}
 use Rattle.sbp_laws.specs.Targets.{is_serial}
 
 -- ---- one transaction

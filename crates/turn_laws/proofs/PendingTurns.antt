@@ -1,42 +1,37 @@
--- What is carried of the target's unsolicited statuses from place to place: it holds where a run begins, a call of another node leaves it, and a call of the target keeps it where each packet that it hands out
--- has its row.
-use Rattle.std.proofs.Common.{arith, ◌≡◌, ◌∙◌, refl, sym, ap, subst, inl, inr, ◌⊎◌, ℕ, suc, ◌+◌, ◌<◌, ◌≤◌, ◌==◌, nat_eq, Bool, true, false, cond, List, [], ◌∷◌, ◌++◌, length, map, Option, Some, None}
+-- What is carried of the target's unsolicited statuses from place to place: it holds where a run begins, a call of another node leaves it, and a call of the target keeps it where
+-- each packet that it hands out has its row.
+use Rattle.std.proofs.Common.{arith, ◌≡◌, ◌∙◌, refl, sym, ap, subst, ℕ, ◌+◌, ◌<◌, ◌≤◌, nat_eq, false, List, [], ◌∷◌, ◌++◌, length, map, Some}
 use Rattle.std.proofs.lemmas.Bool.Decides.{nat_tests}
 use Rattle.bus_transactions.specs.Packets.{SerialsCount}
 use Rattle.bus_transactions.specs.Sent.{AreSent}
-use Rattle.bus_transactions.proofs.Facts.{injected_begun}
 use Rattle.bus_transactions.proofs.Reaches.{goes_on}
 use Rattle.label_table.specs.Layer.{Layer}
 use Rattle.rbc_disk.specs.Disk.{Disk}
 use Rattle.rbc_disk.specs.Held.{Held as Media}
-use Rattle.sbp_base.specs.Update.{upd}
 use Rattle.sbp_journal.specs.Outgoings.{OutboxState}
 use Rattle.sbp_journal.specs.Run.{Moment, asked, said}
-use Rattle.sbp_journal.specs.Transactions.{Kind, Sending, Transaction, begun_by}
+use Rattle.sbp_journal.specs.Transactions.{Kind, Transaction, begun_by}
 use Rattle.sbp_journal.specs.Wire.{Terms, ids_of, noted, opened, terms, waits}
 use Rattle.sbp_journal.specs.declared.event.Event.{Event}
 use Rattle.sbp_journal.specs.declared.event.Event.TheVariants as events
 use Rattle.sbp_journal.specs.declared.note.Note.{Note}
-use Rattle.sbp_journal.specs.declared.note.Note.TheVariants as notes
 use Rattle.sbp_laws.specs.Targets.{known_at, target_at}
 use Rattle.sbp_target.specs.declared.purpose.Purpose.{Purpose}
 use Rattle.sbp_world.specs.Handing.{handed_out}
 use Rattle.sbp_world.specs.Worlds.{Scene, WorldState}
-use Rattle.sbp_world.proofs.Agents.Management.Holding.{Holding, past_terms}
+use Rattle.sbp_world.proofs.Agents.Management.Holding.{past_terms}
 use Rattle.sbp_world.proofs.Agents.Management.Still.{hist}
 use Rattle.sbp_world.proofs.Agents.Purposes.{labels}
-use Rattle.sbp_world.proofs.Common.{none_is, untrue}
 use Rattle.sbp_world.proofs.Lists.IdsOwned.{aged_at}
-use Rattle.sbp_world.proofs.Wire.Agrees.{sends_agrees}
 use Rattle.sbp_world.proofs.Wire.Bus.{holds}
 use Rattle.sbp_world.proofs.Wire.Nodes.{handed_alike}
 use Rattle.sbp_world.proofs.Wire.Starts.{laws_of}
 use Rattle.sbp_world.specs.Wire.Wires.{Stands}
 use Rattle.turn_laws.proofs.Handed.{handed, handed_fresh, onto}
 use Rattle.turn_laws.proofs.LaterNotes.{ArePlain, FromTarget, counts_before, notes_later, pushed_from}
-use Rattle.turn_laws.proofs.LaterTerms.{Clean, Grows, Later, New, Own, Pushes, free_waits, grown}
+use Rattle.turn_laws.proofs.LaterTerms.{Clean, Later, New, Own, Pushes, free_waits}
 use Rattle.turn_laws.proofs.PendingFirsts.{Beside, LeavesOwn, beside_of, less_beside, tied_beside}
-use Rattle.turn_laws.proofs.PendingKept.{AreTied, Id, Pending, Rows, first_kept, row_waits, rows_same, step_kept}
+use Rattle.turn_laws.proofs.PendingKept.{AreTied, HaveRows, Id, IsOnce, Pending, Rows, first_kept, row_waits, rows_same, step_kept}
 use Rattle.turn_laws.proofs.PendingTerms.{upd_other}
 use Rattle.turn_laws.proofs.Places.{Place}
 use Rattle.turn_laws.proofs.PushSerials.{Apart, Has, counted, line_count, note_count}
@@ -47,7 +42,7 @@ abbrev pub Kept : List Disk → List Moment → Scene → Type 0
 Kept start ms s = Pending (length s.world.initiators) (terms ms) (Pushes start ms) s.world.target.layer s.world.target.pending
 
 -- ---- a serial that is waited for is of one transaction
-pub once_at : {past : List Moment} (w : WorldState) → Stands past w → (s : ℕ) (v x : Transaction) (kind other : Kind) → (terms (hist past w)).held v ≡ waits kind s → (terms (hist past w)).held x ≡ waits other s → v ≡ x
+pub once_at : {past : List Moment} (w : WorldState) → Stands past w → IsOnce (terms (hist past w))
 once_at w stands s v x kind other e f =
     let a = goes_on.awaited stands.wire v kind s stands.reached (ap (λ (y : Terms). y.held v) (past_terms w stands) ∙ e) in
     let b = goes_on.awaited stands.wire x other s stands.reached (ap (λ (y : Terms). y.held x) (past_terms w stands) ∙ f) in
@@ -57,11 +52,13 @@ once_at w stands s v x kind other e f =
     cc
 
 -- ---- a moment that is beside the target
-module _ (nodes : ℕ) (start : List Disk) (ms now : List Moment) (layer : Layer Purpose) (pending : List ℕ) (tied : AreTied nodes (terms ms) layer) (k : Pending nodes (terms ms) (Pushes start ms) layer pending) where
+module _ (nodes : ℕ) (start : List Disk) (ms now : List Moment) (layer : Layer Purpose) (pending : List ℕ)
+    (tied : AreTied nodes (terms ms) layer) (k : Pending nodes (terms ms) (Pushes start ms) layer pending) where
   pub beside_kept : Beside (terms ms) (terms now) (Pushes start ms) → Pushes start now ≡ Pushes start ms → Pending nodes (terms now) (Pushes start now) layer pending
   beside_kept b e =
       subst (λ xs. Pending nodes (terms now) xs layer pending) (sym e)
-      (first_kept nodes (terms ms) (terms now) (Pushes start ms) layer layer pending pending k (less_beside (terms ms) (terms now) (Pushes start ms) b) (tied_beside nodes (terms ms) (terms now) (Pushes start ms) layer b tied)
+      (first_kept nodes (terms ms) (terms now) (Pushes start ms) layer layer pending pending k (less_beside (terms ms) (terms now) (Pushes start ms) b)
+      (tied_beside nodes (terms ms) (terms now) (Pushes start ms) layer b tied)
       (λ n number r. r) (λ n number kind call r e. r) (λ n l why e. e))
 
 pub note_pushes : (start : List Disk) (note : Note) (past : List Moment) → IsNoSent note → Pushes start (said note ∷ past) ≡ Pushes start past
@@ -71,7 +68,8 @@ pub line_pushes : (start : List Disk) (line : ℕ) (event : Event) (past : List 
 line_pushes start line event past = (ends_turn (Apart 0) refl (target_at start past)).pushes
 
 -- ---- behind what is handed out, on a history
-module _ (units ready : ℕ) (has : 0 < units) (start : List Disk) (past : List Moment) (old : List Note) (from weight : ℕ) (outbox : OutboxState) (v : WorldState) (media : Media) (fresh_is : v.fresh ≡ old) (there : Place units ready start past (record { world = handed_out from weight outbox v; media = media })) where
+module _ (units ready : ℕ) (has : 0 < units) (start : List Disk) (past : List Moment) (old : List Note)
+    (from weight : ℕ) (outbox : OutboxState) (v : WorldState) (media : Media) (fresh_is : v.fresh ≡ old) (there : Place units ready start past (record { world = handed_out from weight outbox v; media = media })) where
   abbrev behind : WorldState
   behind = handed_out from weight outbox v
 
@@ -96,7 +94,13 @@ module _ (units ready : ℕ) (has : 0 < units) (start : List Disk) (past : List 
     small : (s : ℕ) → Has (Pushes start base) s → s ≤ (terms base).count
     small s h = (counted start base (counts_before (handed from weight outbox v) old past serials)).pushes s h
 
-    pub turn_kept : (nodes : ℕ) → length behind.initiators ≡ nodes → (layer : Layer Purpose) (pending : List ℕ) → Pending nodes (terms base) (Pushes start base) layer pending → Rows layer behind.target.layer pending behind.target.pending → (from ≡ 0 → (s : ℕ) → Has (Pushes start now) s → (x : New Q (terms base) (terms now) s) → (x.packet.to ≤ nodes) × Row behind.target.layer (Id (terms now) x.packet.to) x.label) → Kept start now (record { world = behind; media = media })
+    abbrev Done : Type 0
+    Done = Kept start now (record { world = behind; media = media })
+
+    abbrev Owned : ℕ → Type 0
+    Owned nodes = HaveRows nodes start from Q base now behind.target.layer
+
+    pub turn_kept : (nodes : ℕ) → length behind.initiators ≡ nodes → (layer : Layer Purpose) (pending : List ℕ) → Pending nodes (terms base) (Pushes start base) layer pending → Rows layer behind.target.layer pending behind.target.pending → Owned nodes → Done
     turn_kept nodes e layer pending k rows owned =
         subst (λ n. Pending n (terms now) (Pushes start now) behind.target.layer behind.target.pending) (sym e)
         (step_kept nodes start from Q base now turn_later layer behind.target.layer pending behind.target.pending k small rows owned (once_at behind there.holds.sound.stands))
@@ -157,28 +161,44 @@ module _ (units ready : ℕ) (has : 0 < units) (start : List Disk) (past : List 
   note_clean note i e r l = ap (λ f. f r) e ∙ clean_here r (let c = note_count note t i in omega (arith, c, l))
 
   -- ---- a call of another node, behind its first note
-  module _ (k : Kept start ms s) (old : List Note) (then : List Moment) (from weight : ℕ) (other : from ≡ 0 → ⊥) (outbox : OutboxState) (v : WorldState) (fresh_is : v.fresh ≡ old) (there : Place units ready start then (record { world = handed_out from weight outbox v; media = s.media })) where
-    pub own_kept : ArePlain (λ to bytes. Unit {0}) from (handed from weight outbox v) → Clean (terms (map said old ++ then)) → Beside t (terms (map said old ++ then)) (Pushes start ms) → Pushes start (map said old ++ then) ≡ Pushes start ms → v.target ≡ w.target → length v.initiators ≡ nodes → Kept start (hist then (handed_out from weight outbox v)) (record { world = handed_out from weight outbox v; media = s.media })
+  module _ (k : Kept start ms s) (old : List Note) (then : List Moment) (from weight : ℕ) (other : from ≡ 0 → ⊥)
+      (outbox : OutboxState) (v : WorldState) (fresh_is : v.fresh ≡ old) (there : Place units ready start then (record { world = handed_out from weight outbox v; media = s.media })) where
+    abbrev First : List Moment
+    First = map said old ++ then
+
+    abbrev Behind : Scene
+    Behind = record { world = handed_out from weight outbox v; media = s.media }
+
+    abbrev AllPlain : Type 0
+    AllPlain = ArePlain (λ to bytes. Unit {0}) from (handed from weight outbox v)
+
+    pub own_kept : AllPlain → Clean (terms First) → Beside t (terms First) (Pushes start ms) → Pushes start First ≡ Pushes start ms → v.target ≡ w.target → length v.initiators ≡ nodes → Kept start (hist then Behind.world) Behind
     own_kept plain clean b pushes target count =
         let base = map said old ++ then in
         let alike = handed_alike from weight outbox v in
         let same = alike.target ∙ target in
-        turn_kept units ready has start then old from weight outbox v s.media fresh_is there (λ to bytes. Unit {0}) plain clean nodes (ap (λ xs. length xs) alike.initiators ∙ count) w.target.layer w.target.pending
+        turn_kept units ready has start then old from weight outbox v s.media fresh_is there (λ to bytes. Unit {0}) plain clean
+        nodes (ap (λ xs. length xs) alike.initiators ∙ count) w.target.layer w.target.pending
         (beside_kept nodes start ms base w.target.layer w.target.pending tied_here k b pushes)
         (subst (λ x. Rows w.target.layer x.layer w.target.pending x.pending) (sym same) (rows_same w.target.layer w.target.pending))
         (λ z. absurd (other z))
 
 -- ---- where a run begins
-pub begun_kept : (units ready : ℕ) (has : 0 < units) (start : List Disk) (past : List Moment) (s : Scene) (here : Place units ready start past s) → Pushes start (hist past s.world) ≡ [] → ((v : Transaction) → (terms (hist past s.world)).held v ≡ (terms []).held v) → Kept start (hist past s.world) s
-begun_kept units ready has start past s here none free_all =
+-- nothing was sent yet
+pub record IsNew (start : List Disk) (ms : List Moment) : Type 0 where
+  pub none : Pushes start ms ≡ []
+  pub free_all : (v : Transaction) → (terms ms).held v ≡ (terms []).held v
+
+pub begun_kept : (units ready : ℕ) (has : 0 < units) (start : List Disk) (past : List Moment) (s : Scene) → Place units ready start past s → IsNew start (hist past s.world) → Kept start (hist past s.world) s
+begun_kept units ready has start past s here new =
     let tied = tied_here units ready has start past s here in
     let nodes = length s.world.initiators in
     let t = terms (hist past s.world) in
     let layer = s.world.target.layer in
-    let no_row : (n number : ℕ) → n ≤ nodes → Row layer (Id t n) number → ⊥ = λ n number l r. (let x = row_waits nodes t layer tied n number l r in free_waits (t.held (Own t n number)) x.kind x.serial (free_all (Own t n number)) x.is) in
+    let no_row : (n number : ℕ) → n ≤ nodes → Row layer (Id t n) number → ⊥ = λ n number l r. (let x = row_waits nodes t layer tied n number l r in free_waits (t.held (Own t n number)) x.kind x.serial (new.free_all (Own t n number)) x.is) in
     record {
-      pends = λ n r l h. absurd (subst (λ xs. Has xs r) none h);
-      push = λ n number kind r l e h. absurd (subst (λ xs. Has xs r) none h);
+      pends = λ n r l h. absurd (subst (λ xs. Has xs r) new.none h);
+      push = λ n number kind r l e h. absurd (subst (λ xs. Has xs r) new.none h);
       full = λ n number l r. absurd (no_row n number l r);
       one = λ n a b l r q. absurd (no_row n a l r);
       calm = λ n number r l q h. absurd (no_row n number l q);

@@ -1,6 +1,5 @@
 -- At each place of a run an unsolicited status of the terms that is under way is under way at the target as one, or for nobody: for no agent and not for the management operation.
-use Rattle.std.proofs.Common.{◌≡◌, ◌∙◌, refl, sym, ap, subst, inl, inr, ◌⊎◌, ◌<◌, ℕ, List, Option, Some, None}
-use Rattle.bus_transactions.specs.Packets.{SerialsCount}
+use Rattle.std.proofs.Common.{◌≡◌, ◌∙◌, refl, sym, inl, inr, ◌⊎◌, ◌<◌, ℕ, List, Option, Some, None}
 use Rattle.bus_transactions.specs.Wire.{transaction}
 use Rattle.command_agent.specs.declared.step.Which.{Which}
 use Rattle.rbc_disk.specs.Disk.{Disk}

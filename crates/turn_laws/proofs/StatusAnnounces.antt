@@ -1,6 +1,5 @@
 -- A disc that came: each unsolicited status that leaves goes to a node to which none was under way, and from then on one is; and there is one new one at most for each node.
-use Rattle.std.proofs.Common.{arith, ◌≡◌, ◌∙◌, refl, sym, ap, subst, inl, inr, ◌⊎◌, ℕ, zero, suc, ◌+◌, ◌==◌, ◌||◌, nat_eq, Bool, true, false, cond, List, [], ◌∷◌, ◌++◌, Option, Some, None}
-use Rattle.std.proofs.lemmas.Bool.Decides.{nat_tests}
+use Rattle.std.proofs.Common.{◌≡◌, ◌∙◌, refl, sym, ap, subst, inl, inr, ◌⊎◌, ℕ, zero, suc, ◌+◌, Bool, true, false, cond, List, [], ◌∷◌, ◌++◌, Option, Some, None}
 use Rattle.async_packet.specs.Labels.{LabelParts}
 use Rattle.command_agent.specs.Machine.{Machine}
 use Rattle.command_agent.specs.Steps.{reply_step}
@@ -21,8 +20,8 @@ use Rattle.rbc_disk.specs.Runs.{Told}
 use Rattle.sbp_journal.specs.declared.side.Side.TheVariants as sides
 use Rattle.sbp_target.specs.Agents.{follow}
 use Rattle.sbp_target.specs.Desks.{taken, which_in}
-use Rattle.sbp_target.specs.Nodes.{NodeState, Scene, desk_at, login_at, scene, with_desk}
-use Rattle.sbp_target.specs.Replies.{Stage, Whole, advance, advanced_with, announced_by, came, changed_by, follow_all, plain_at, replied, replied_by, replied_to, replied_with, scene_of, served_login, stage}
+use Rattle.sbp_target.specs.Nodes.{NodeState, Scene, desk_at, login_at, scene}
+use Rattle.sbp_target.specs.Replies.{Stage, Whole, advance, advanced_with, announced_by, came, changed_by, follow_all, plain_at, replied, replied_by, replied_to, replied_with, served_login, stage}
 use Rattle.sbp_target.specs.Sending.{request_step, sent_by, with_side}
 use Rattle.sbp_target.specs.Units.{announce_at, announce_from, announce_in, announce_to, hears, is_pending, unsolicited_by}
 use Rattle.sbp_target.specs.declared.desk.Desk.{Desk}

@@ -1,6 +1,6 @@
 -- What each call of the target makes of its unsolicited statuses: a response closes one, and its node has none under way then; a reply to an agent may bring a disc, and with it new ones; all
 -- other calls leave them and their nodes as they are, but for a sight of a later generation.
-use Rattle.std.proofs.Common.{arith, ◌≡◌, ◌∙◌, refl, sym, ap, subst, ℕ, ◌≤◌, ◌<◌, nat_lt, is_some, Bool, true, false, cond, List, [], length, take, drop, position, Option, Some, None, Result, Ok, Err}
+use Rattle.std.proofs.Common.{arith, ◌≡◌, ◌∙◌, refl, sym, subst, ℕ, ◌≤◌, nat_lt, Bool, true, false, cond, List, [], length, take, drop, position, Option, Some, None, Result, Ok, Err}
 use Rattle.std.specs.Prelude.{slice_index_or}
 use Rattle.std.proofs.lemmas.Bool.Decides.{nat_tests}
 use Rattle.std.proofs.lemmas.Grind.{common_steps}
@@ -16,13 +16,12 @@ use Rattle.command_agent.specs.declared.step.Which.{Which}
 use Rattle.command_agent.specs.declared.step.Which.TheVariants.{Ahead, Main}
 use Rattle.label_table.specs.History as wire
 use Rattle.label_table.specs.History.{Life, ended, is_same, under_way}
-use Rattle.label_table.specs.Layer.{Finding, Layer, answering_step, expiring_step, judging_step, of_again, of_generation, of_grammar, of_label, of_request, of_response}
+use Rattle.label_table.specs.Layer.{Finding, Layer, answering_step, judging_step, of_again, of_generation, of_grammar, of_label, of_request, of_response}
 use Rattle.label_table.specs.declared.reply.ReplyKind.{ReplyKind}
-use Rattle.label_table.specs.declared.reply.Stale.{Stale}
 use Rattle.login_table.specs.declared.login.Login.{Login}
 use Rattle.mgmt_agent.specs.Machine as management
 use Rattle.mgmt_agent.specs.declared.operation.Busy.{Busy}
-use Rattle.orb_layout.specs.Replies.{Answer, Expired}
+use Rattle.orb_layout.specs.Replies.{Expired}
 use Rattle.orb_layout.specs.declared.ask.Ask.{Ask}
 use Rattle.orb_layout.specs.declared.pointer.OrbPointer.{OrbPointer}
 use Rattle.rbc_disk.specs.Disk.{Disk}
@@ -34,10 +33,10 @@ use Rattle.sbp_journal.specs.declared.cause.Judged.{Judged}
 use Rattle.sbp_journal.specs.declared.cause.Judged.TheVariants as judgements
 use Rattle.sbp_journal.specs.declared.side.Side.TheVariants as sides
 use Rattle.sbp_target.specs.Agents.{cut}
-use Rattle.sbp_target.specs.Desks.{expired_desk, new_desk, point_desk, pointed_desk, taken, which_in}
+use Rattle.sbp_target.specs.Desks.{expired_desk, new_desk, point_desk, pointed_desk, which_in}
 use Rattle.sbp_target.specs.Nodes.{NodeState, Scene, desk_at, login_at, scene, with_desk}
 use Rattle.sbp_target.specs.Receiving.{answer_in, concluded, expire_agent, expired_by, expired_with, judged_scene, received, received_as, removed, timed_out, with_layer}
-use Rattle.sbp_target.specs.Replies.{Whole, scene_of, whole}
+use Rattle.sbp_target.specs.Replies.{Whole, whole}
 use Rattle.sbp_target.specs.Sending.{answer_step, with_side}
 use Rattle.sbp_target.specs.Serving.{accessed_by, answered, asked_in, enabled, is_barred, last_pointer, point, pointed_by, pointer_bytes, rcode_of, request_step, ring, rung_by, serve, served_as, start, started_by, state_number}
 use Rattle.sbp_target.specs.Telling.{orb_of}
@@ -45,7 +44,6 @@ use Rattle.sbp_target.specs.Units.{is_node}
 use Rattle.sbp_target.specs.declared.desk.Desk.{Desk}
 use Rattle.sbp_target.specs.declared.purpose.Purpose.{Purpose}
 use Rattle.sbp_target.specs.declared.purpose.Purpose.TheVariants as purposes
-use Rattle.sbp_target.specs.declared.purpose.Sent.{Sent}
 use Rattle.target_base.specs.Addresses.{address_error, complete, conflict_error, demand_of}
 use Rattle.target_base.specs.declared.address.Access.{Access as Register}
 use Rattle.target_base.specs.declared.address.Access.TheVariants as accesses
@@ -53,10 +51,10 @@ use Rattle.target_base.specs.declared.address.Demand.{Demand}
 use Rattle.target_base.specs.declared.address.Demand.TheVariants as demands
 use Rattle.sbp_target.proofs.Histories.Calling.{Good}
 use Rattle.sbp_target.proofs.Histories.Found.{IsFound, found}
-use Rattle.sbp_target.proofs.Histories.Primitives.{Known, closing_known, expiring_known, live_on, stale_known}
-use Rattle.sbp_target.proofs.Histories.Seats.{IsFor, Lives}
+use Rattle.sbp_target.proofs.Histories.Primitives.{Known, closing_known, live_on}
+use Rattle.sbp_target.proofs.Histories.Seats.{Lives}
 use Rattle.turn_laws.proofs.StatusAnnounces.{Announced, replies, taken_seated}
-use Rattle.turn_laws.proofs.StatusStays.{IsOther, IsStatus, Lines, Seated, Still, agent_set, cuts_one, desk_set, follows, layer_set, lines_answer, manage_still, manager_asks, none_some}
+use Rattle.turn_laws.proofs.StatusStays.{IsStatus, Lines, Seated, Still, agent_set, cuts_one, desk_set, follows, layer_set, lines_answer, manage_still, manager_asks, none_some}
 
 module _ (old : Lives) (first : List ℕ) where
   abbrev Here : Scene → Type 0

@@ -1,6 +1,6 @@
 -- A time-out leaves the target's unsolicited statuses and their nodes as they are, but for the transaction that it ends, whose node keeps its place among them; a second and a key leave all;
 -- and behind a sight of a later generation no node has one.
-use Rattle.std.proofs.Common.{◌≡◌, refl, ap, subst, ℕ, Bool, true, false, cond, List, [], Option, Some, None, Result, Ok, Err}
+use Rattle.std.proofs.Common.{◌≡◌, refl, ℕ, Bool, true, false, List, [], Option, Result, Ok, Err}
 use Rattle.async_packet.specs.Labels.{LabelParts}
 use Rattle.label_table.specs.History as wire
 use Rattle.label_table.specs.History.{is_same, under_way}
@@ -17,7 +17,7 @@ use Rattle.sbp_target.proofs.Histories.Calling.{Good}
 use Rattle.sbp_target.proofs.Histories.Primitives.{Known, expiring_known, live_on, stale_known}
 use Rattle.sbp_target.proofs.Histories.Seats.{Lives}
 use Rattle.turn_laws.proofs.StatusCalls.{ended_if, starts_still, times_out}
-use Rattle.turn_laws.proofs.StatusStays.{IsStatus, Still}
+use Rattle.turn_laws.proofs.StatusStays.{Still}
 
 module _ (node : NodeState) (g : Good node) where
   -- ---- a time-out

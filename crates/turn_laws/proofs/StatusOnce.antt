@@ -1,5 +1,5 @@
 -- The list of the nodes to which an unsolicited status is under way: each stands in it once at most, so it is gone from it behind one answer.
-use Rattle.std.proofs.Common.{arith, ◌≡◌, ◌∙◌, refl, sym, ap, subst, inl, inr, ◌⊎◌, ℕ, zero, suc, ◌+◌, ◌<◌, ◌==◌, ◌||◌, not, nat_eq, nat_lt, Bool, true, false, cond, List, [], ◌∷◌, ◌++◌, drop, length, position, take, Option, Some, None}
+use Rattle.std.proofs.Common.{arith, ◌≡◌, ◌∙◌, refl, sym, ap, subst, inl, inr, ◌⊎◌, ℕ, suc, ◌+◌, ◌==◌, ◌||◌, not, nat_eq, nat_lt, Bool, true, false, cond, List, [], ◌∷◌, ◌++◌, length, position, Some, None}
 use Rattle.std.specs.List.{position_or_len}
 use Rattle.std.proofs.lemmas.Bool.Decides.{nat_tests}
 use Rattle.sbp_target.specs.Receiving.{removed}
@@ -75,12 +75,10 @@ out_later p x xs e =
     let k = position_or_len (is_node p) xs in
     let up : 1 + k ≡ suc k = omega arith in
     let next : position_or_len (is_node p) (x ∷ xs) ≡ suc k = ap (λ b. cond (not b) (1 + k) 0) e ∙ up in
-    ap (λ n. removed (cond (nat_lt n (suc (length xs))) (Some n) None) (x ∷ xs)) next ∙ by (nat_lt k (length xs)) refl
+    ap (λ n. removed (cond (nat_lt n (suc (length xs))) (Some n) None) (x ∷ xs)) next ∙ by k
   where
-    by : (b : Bool) → nat_lt (position_or_len (is_node p) xs) (length xs) ≡ b → removed (cond (nat_lt (suc (position_or_len (is_node p) xs)) (suc (length xs))) (Some (suc (position_or_len (is_node p) xs))) None) (x ∷ xs) ≡ x ∷ removed (cond (nat_lt (position_or_len (is_node p) xs) (length xs)) (Some (position_or_len (is_node p) xs)) None) xs
-    by b f =
-        let n = position_or_len (is_node p) xs in
-        ap (λ c. removed (cond c (Some (suc n)) None) (x ∷ xs)) (same n (length xs)) ∙ (each (nat_lt n (length xs)) n)
+    by : (n : ℕ) → removed (cond (nat_lt (suc n) (suc (length xs))) (Some (suc n)) None) (x ∷ xs) ≡ x ∷ removed (cond (nat_lt n (length xs)) (Some n) None) xs
+    by n = ap (λ c. removed (cond c (Some (suc n)) None) (x ∷ xs)) (same n (length xs)) ∙ each (nat_lt n (length xs)) n
       where
         same : (n m : ℕ) → nat_lt (suc n) (suc m) ≡ nat_lt n m
         same n m = grind (arith, nat_tests)

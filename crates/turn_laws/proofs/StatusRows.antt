@@ -1,6 +1,6 @@
 -- The unsolicited statuses that are under way in a layer, by peer and label: in a call that brings no disc they are the same behind it; and where one came, each new one is to a node that
 -- joined those that have one.
-use Rattle.std.proofs.Common.{◌≡◌, ◌∙◌, refl, sym, ap, subst, inl, inr, ◌⊎◌, ℕ, true, List, Option, Some, None}
+use Rattle.std.proofs.Common.{◌≡◌, ◌∙◌, refl, sym, ap, subst, inl, inr, ◌⊎◌, ℕ, true, List, Option, Some}
 use Rattle.async_packet.specs.Labels.{LabelParts}
 use Rattle.label_table.specs.History as wire
 use Rattle.label_table.specs.History.{under_way}

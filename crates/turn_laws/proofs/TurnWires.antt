@@ -1,5 +1,5 @@
 -- The wires that stand right behind the first note of a turn of the target: behind the time-out of one of its transactions, and behind the judgement of a packet that came to it.
-use Rattle.std.proofs.Common.{arith, ◌≡◌, ◌∙◌, refl, sym, ap, subst, ℕ, ◌<◌, ◌≤◌, true, false, List, ◌∷◌, length, Option, Some, None, Ok}
+use Rattle.std.proofs.Common.{arith, ◌≡◌, ◌∙◌, refl, sym, ap, ℕ, ◌≤◌, true, false, List, ◌∷◌, length, Option, Some, None, Ok}
 use Rattle.sbp_base.specs.Update.{upd}
 use Rattle.bus_transactions.specs.Bare.{bare, bare_finding}
 use Rattle.bus_transactions.specs.Wire.{as_sending, due_for, first_note}
@@ -32,13 +32,17 @@ module _ (units ready : ℕ) (start : List Disk) (past : List Moment) (s : Scene
   node = w.target
 
   -- ---- a time-out
-  pub late_stands : (serial : ℕ) (request : Request) → find w.requests serial ≡ Some request → request.node ≡ 0 → (purpose : Option Purpose) (new : Layer Purpose) → expiring_step node.layer request.peer request.label ≡ (Ok purpose, new) → StandsAt past (upd (layers_of w) request.node (bare new)) None (with_note (notes.TimedOut serial) w)
-  late_stands serial request found zero_is purpose new e =
-      let h = here.holds.sound.stands in
-      let low : request.node ≤ length w.initiators = let z = zero_is in omega (arith, z) in
-      let own : layers_of w request.node ≡ bare node.layer = ap (λ n. layers_of w n) zero_is in
-      let last = latest w h serial request found low node.layer own request.peer in
-      timed_out_as w h serial request found low node.layer own request.peer (λ same. ap (λ g. (terms h.wire.past).ids g last.to) (sym same) ∙ sym last.peer_is) purpose new e
+  module _ (serial : ℕ) (request : Request) (found : find w.requests serial ≡ Some request) (zero_is : request.node ≡ 0) where
+    abbrev pub Late : Layer Purpose → Type 0
+    Late new = StandsAt past (upd (layers_of w) request.node (bare new)) None (with_note (notes.TimedOut serial) w)
+
+    pub late_stands : (purpose : Option Purpose) (new : Layer Purpose) → expiring_step node.layer request.peer request.label ≡ (Ok purpose, new) → Late new
+    late_stands purpose new e =
+        let h = here.holds.sound.stands in
+        let low : request.node ≤ length w.initiators = let z = zero_is in omega (arith, z) in
+        let own : layers_of w request.node ≡ bare node.layer = ap (λ n. layers_of w n) zero_is in
+        let last = latest w h serial request found low node.layer own request.peer in
+        timed_out_as w h serial request found low node.layer own request.peer (λ same. ap (λ g. (terms h.wire.past).ids g last.to) (sym same) ∙ sym last.peer_is) purpose new e
 
   -- ---- a packet that comes: in a line that repeats it it need not be in flight
   module _ (serial : ℕ) (one : Sent) (found : found_sent serial w.store.kept ≡ Some one) (zero_to : one.to ≡ 0) where
