@@ -42,7 +42,7 @@ use Rattle.sbp_laws.specs.Targets.{over, target_at}
 use Rattle.sbp_laws.specs.Turns.{turn}
 use Rattle.sbp_target.specs.Calls.{receives}
 use Rattle.sbp_target.specs.Histories.Layers.{first_of, layer_after}
-use Rattle.sbp_target.specs.Histories.Sides.{Announced, Announces, agent_tells, announced_as, announced_at, announced_from, announced_if, announced_to, decision_changes, delivery_tells, operation_tells, reply_tells, request_changes, unsent_then}
+use Rattle.sbp_target.specs.Histories.Sides.{Announced, Announces, agent_tells, announced_as, announced_at, announced_from, announced_if, announced_to, decision_changes, delivery_tells, operation_tells, request_changes, unsent_then}
 use Rattle.sbp_target.specs.Management.{with_manager}
 use Rattle.sbp_target.specs.Nodes.{NodeState, desk_at, login_at}
 use Rattle.sbp_target.specs.Nodes as target

@@ -1,6 +1,7 @@
 -- What the notes behind the first one of a turn make of the terms, as far as unsolicited statuses hang on them: a transaction that is under way stays so, a label that rests
 -- goes on to rest, and each new unsolicited status is a packet of the target under a label that was free.
 use Rattle.std.proofs.Common.{arith, ◌≡◌, ◌∙◌, refl, sym, ap, subst, inl, inr, ◌⊎◌, ℕ, ◌+◌, ◌<◌, ◌≤◌, ◌==◌, nat_eq, Bool, true, false, cond, List, ◌∷◌, not, ◌&&◌, ◌||◌, Option, Some, None}
+use Rattle.std.proofs.lemmas.Option.{same_Some}
 use Rattle.std.specs.Prelude.{position}
 use Rattle.std.proofs.lemmas.Bool.Decides.{nat_tests}
 use Rattle.bus_transactions.specs.Packets.{SerialsCount}
@@ -39,16 +40,13 @@ both_first false b e = e
 none_there : {A : Type 0} (u : Transaction) → None ≡ Some u → A
 none_there u e = absurd (let x : None ≡ Some u = e in cc)
 
-same_there : (a b : Transaction) → Some a ≡ Some b → a ≡ b
-same_there a b e = cc
-
 module _ (t : Terms) (q : Sending) (own : q.injected ≡ false → bus.IsOwn t q.generation q.from q.to q.bytes) where
   asked_free : (part : Part) → part_of q.bytes ≡ part → q.injected ≡ false → (v : Transaction) → asked_as part q ≡ Some v → t.held v ≡ free
   asked_free (request label kind) e honest v f =
       let o = own honest in
       let low = o.lowest label kind e in
       let u : Transaction = transaction (t.generation q.from) q.from q.to label in
-      let same : u ≡ v = ap (λ g. transaction g q.from q.to label) (sym o.now) ∙ same_there (between q q.from q.to label) v f in
+      let same : u ≡ v = ap (λ g. transaction g q.from q.to label) (sym o.now) ∙ same_Some (between q q.from q.to label) v f in
       subst (λ (x : Transaction). t.held x ≡ free) same (free_held (t.held u) (both_first (bus.is_free (t.held u)) (not (is_write q.bytes) || not (is_last (t.last u) q.bytes)) low.takes))
   asked_free (response label kind) e honest v f = none_there v f
   asked_free no_packet e honest v f = none_there v f

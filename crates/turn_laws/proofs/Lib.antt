@@ -80,7 +80,6 @@ pub mod PendingHeard
 pub mod PendingCalls
 pub mod PendingEnded
 pub mod PendingTurns
-pub mod PushRows
 pub mod TurnWires
 pub mod PendingFirsts
 pub mod PendingKept

@@ -3,6 +3,7 @@ use Rattle.std.proofs.Common.{◌≡◌, ◌∙◌, refl, sym, ap, subst, ℕ, �
 use Rattle.bus_transactions.specs.Wire.{transaction}
 use Rattle.bus_transactions.proofs.Facts.{AskedBy, asked_is, begun_asked}
 use Rattle.label_table.specs.Layer.{Layer}
+use Rattle.command_agent.specs.declared.step.Which.{Which}
 use Rattle.rbc_disk.specs.Disk.{Disk}
 use Rattle.rbc_disk.specs.Held.{Held as Media}
 use Rattle.sbp_bus.specs.Generations.{GenerationsState, id_of, topology_at}
@@ -12,20 +13,19 @@ use Rattle.sbp_journal.specs.Transactions.{Kind, Transaction, part_of, request}
 use Rattle.sbp_journal.specs.Wire.{Terms, terms, waits}
 use Rattle.sbp_journal.specs.declared.note.Note.{Note}
 use Rattle.sbp_journal.specs.declared.outbox.Outgoing.{Outgoing}
-use Rattle.sbp_laws.specs.Targets.{for_nobody, over, purpose_of, target_at}
+use Rattle.sbp_laws.specs.Targets.{for_agent, for_manager, for_nobody, over, purpose_of, target_at}
 use Rattle.sbp_target.specs.Calls.{Call, alone}
 use Rattle.sbp_target.specs.Histories.Transactions.{IsUnderWay}
 use Rattle.sbp_target.specs.Nodes.{NodeState}
 use Rattle.sbp_target.specs.Nodes as target
 use Rattle.sbp_target.specs.declared.purpose.Purpose.{Purpose}
 use Rattle.sbp_target.specs.declared.purpose.Purpose.TheVariants as purposes
-use Rattle.sbp_target.proofs.Histories.Calling.{Good}
 use Rattle.sbp_world.specs.Agents.Serials.{IsHanded}
 use Rattle.sbp_world.specs.Handing.{handed_out}
 use Rattle.sbp_world.specs.Hosts.Handing.{AreOthers}
 use Rattle.sbp_world.specs.Worlds.{Scene, WorldState}
 use Rattle.sbp_world.proofs.Agents.Handed.{are_handed}
-use Rattle.sbp_world.proofs.Agents.Management.Holding.{good_of, known_id, past_terms}
+use Rattle.sbp_world.proofs.Agents.Management.Holding.{known_id, past_terms}
 use Rattle.sbp_world.proofs.Agents.Management.Still.{hist}
 use Rattle.sbp_world.proofs.Lists.SentOwned.{AllOwned, owned_here}
 use Rattle.sbp_world.proofs.Wire.Bus.{node_has}
@@ -37,9 +37,15 @@ use Rattle.turn_laws.proofs.LaterTerms.{Clean, New, Own, Pushes}
 use Rattle.turn_laws.proofs.PendingKept.{Id, Pending, Rows}
 use Rattle.turn_laws.proofs.PendingTurns.{Kept, turn_kept, turn_later}
 use Rattle.turn_laws.proofs.Places.{Place}
-use Rattle.turn_laws.proofs.PushRows.{agent_not, manager_not}
 use Rattle.turn_laws.proofs.PushSerials.{Has, pushes_are_nobodys}
 use Rattle.turn_laws.proofs.StatusRows.{Row}
+
+-- whom a packet is for
+agent_not : {A : Type 0} (place : ℕ) (which : Which) → for_agent place which ≡ for_nobody → A
+agent_not place which e = absurd (let x : for_agent place which ≡ for_nobody = e in cc)
+
+manager_not : {A : Type 0} → for_manager ≡ for_nobody → A
+manager_not e = absurd (let x : for_manager ≡ for_nobody = e in cc)
 
 -- any FIFO
 abbrev pub Any : ℕ → ℕ → Type 0
@@ -61,17 +67,11 @@ module _ (units ready : ℕ) (has : 0 < units) (start : List Disk) (past : List 
   abbrev ms : List Moment
   ms = hist past w
 
-  abbrev t : Terms
-  t = terms ms
-
   abbrev node : NodeState
   node = w.target
 
   abbrev nodes : ℕ
   nodes = length w.initiators
-
-  good : Good node
-  good = good_of units ready here.holds.calls node has here.holds.made
 
   pub all_owned : (call : Call) → AllOwned Any (alone call node).node.layer (alone call node).outbox.packets
   all_owned call = owned_here w here.holds has Any (λ place other is live. tt) call

@@ -1,12 +1,11 @@
--- Where a transaction of the wire ends: a response takes the unsolicited status that it closes away, and no other; one that times out leaves all pending as they are; and a reset that their
--- sender sees takes all away.
+-- Where a transaction of the wire ends: one that times out leaves all unsolicited statuses pending as they are, and a reset that their sender sees takes all away.
 use Rattle.std.proofs.Common.{◌≡◌, ◌∙◌, refl, sym, ap, subst, ℕ, ◌==◌, ◌&&◌, ◌||◌, Bool, true, false, Option, Some, None}
 use Rattle.sbp_journal.specs.Transactions.{Kind, Transaction, at, is_same}
-use Rattle.sbp_journal.specs.Wire.{Held, Terms, free, rests, waits}
+use Rattle.sbp_journal.specs.Wire.{Held, Terms, rests, waits}
 use Rattle.sbp_laws.specs.MediaLaw.{is_pending}
 use Rattle.sbp_laws.specs.Packets.{begun_in, is_resting, is_waiting_for, receiver_in, rests_for, waits_for}
 use Rattle.sbp_laws.specs.Targets.{is_serial}
-use Rattle.turn_laws.proofs.PendingTerms.{Lasts, at_it, beside, none_lasts, other_lasts, pending_alike, pending_late, pending_not, pending_other, same_is}
+use Rattle.turn_laws.proofs.PendingTerms.{and_false, at_it, beside, pending_alike, pending_late, same_is}
 
 -- the terms differ in one transaction's label
 pub record Moved (v : Transaction) (held : Held) (t now : Terms) : Type 0 where
@@ -55,14 +54,6 @@ module _ (v : Transaction) (t now : Terms) (kind : Kind) (own : ℕ) (was : t.he
   was_there : (u : Transaction) → is_same u v ≡ true → t.held u ≡ waits kind own
   was_there u e = ap t.held (sym (same_is v u e)) ∙ was
 
-  -- another is closed
-  pub closes_other : Moved v free t now → (own == s) ≡ false → is_pending now node s ≡ is_pending t node s
-  closes_other m other =
-      by_begun v free t now m node s (λ u b e.
-      pending_other node s t now u (same_sent v free t now m node s) b
-      (ap (λ h. Lasts (now.generation u.requester) h (now.current u) u s) (held_there v free t now m node s u e) ∙ none_lasts (now.generation u.requester) (now.current u) u s)
-      (ap (λ h. Lasts (t.generation u.requester) h (t.current u) u s) (was_there u e) ∙ other_lasts (t.generation u.requester) (t.current u) kind own u s other))
-
   -- one times out
   pub lapses : Moved v rests t now → t.current v ≡ own → is_pending now node s ≡ is_pending t node s
   lapses m c =
@@ -70,17 +61,9 @@ module _ (v : Transaction) (t now : Terms) (kind : Kind) (own : ℕ) (was : t.he
       pending_late node s t now u (same_sent v rests t now m node s) b kind own (ap (λ f. f u.requester) m.generation) (was_there u e) (held_there v rests t now m node s u e)
       (ap (λ f. f u) m.current ∙ (ap t.current (sym (same_is v u e)) ∙ c)))
 
--- it is closed itself
-pub closes_own : (v : Transaction) (t now : Terms) (node own : ℕ) → Moved v free t now → is_same v v ≡ true → begun_in (t.sent own) ≡ Some v → is_pending now node own ≡ false
-closes_own v t now node own m self b = pending_not node own t now v (same_sent v free t now m node own) b (held_there v free t now m node own v self)
-
 -- its sender is in a later generation
 pub forgets : (t now : Terms) (node s : ℕ) (u : Transaction) → now.sent s ≡ t.sent s → begun_in (t.sent s) ≡ Some u → (now.generation u.requester == u.generation) ≡ false → is_pending now node s ≡ false
 forgets t now node s u sent begun e =
     ap (λ q. is_serial (receiver_in q) node && (waits_for now (begun_in q) s || rests_for now (begun_in q) s)) sent
     ∙ (ap (λ b. is_serial (receiver_in (t.sent s)) node && (waits_for now b s || rests_for now b s)) begun
     ∙ (ap (λ g. is_serial (receiver_in (t.sent s)) node && ((g && is_waiting_for (now.held u) s) || ((g && is_resting (now.held u)) && (now.current u == s)))) e ∙ and_false (is_serial (receiver_in (t.sent s)) node)))
-  where
-    and_false : (b : Bool) → (b && false) ≡ false
-    and_false true = refl
-    and_false false = refl

@@ -1,5 +1,6 @@
 -- The first note of a turn: one of another node leaves the transactions of the target as they are; a packet that the target got may close one, and a time-out ends one, whose label rests.
 use Rattle.std.proofs.Common.{arith, ◌≡◌, ◌∙◌, refl, sym, ap, subst, inl, inr, ◌⊎◌, ℕ, suc, Bool, true, false, List, Option, Some, None}
+use Rattle.std.proofs.lemmas.Option.{same_Some}
 use Rattle.bus_transactions.specs.Bare.{bare}
 use Rattle.bus_transactions.specs.Rows.{shape, shape_of}
 use Rattle.bus_transactions.specs.Wire.{Due, Node}
@@ -56,9 +57,6 @@ pub record LeavesOwn (t now : Terms) : Type 0 where
   pub sent : now.sent ≡ t.sent
   pub held : (v : Transaction) → v.requester ≡ 0 → now.held v ≡ t.held v
   pub current : (v : Transaction) → v.requester ≡ 0 → now.current v ≡ t.current v
-
-same_there : (a b : Transaction) → Some a ≡ Some b → a ≡ b
-same_there a b e = cc
 
 pub requester_is : (q : Sending) (u : Transaction) → begun_by q ≡ Some u → u.requester ≡ q.from
 requester_is q u e = ap (λ (v : Transaction). v.requester) (asked_is q u (begun_asked q u e).1).is
@@ -194,10 +192,14 @@ module _ (s : ℕ) (q : Sending) (t : Terms) where
           pends n r (Some v) b k = by (f.held v)
             where
               by : (now.held v ≡ t.held v) ⊎ (now.held v ≡ free) → is_pending t n r ≡ true
-              by (inl g) = alike n r (λ u c. subst (λ (x : Transaction). now.held x ≡ t.held x) (same_there v u (sym b ∙ c)) g) k
+              by (inl g) = alike n r (λ u c. subst (λ (x : Transaction). now.held x ≡ t.held x) (same_Some v u (sym b ∙ c)) g) k
               by (inr g) = untrue (sym (pending_not n r t now v (sent_same r) b g) ∙ k)
 
 -- ---- a time-out
+pub late_injected : (o : Option Transaction) (t : Terms) → (times_out o t).injected ≡ t.injected
+late_injected None t = refl
+late_injected (Some v) t = refl
+
 module _ (s : ℕ) (t : Terms) (v : Transaction) (begun : begun_in (t.sent s) ≡ Some v) where
   abbrev late : Terms
   late = record t { held = at t.held v rests }

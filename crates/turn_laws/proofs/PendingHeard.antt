@@ -25,7 +25,7 @@ use Rattle.sbp_bus.specs.declared.requests.Request.{Request}
 use Rattle.sbp_journal.specs.Outgoings.{empty_outbox}
 use Rattle.sbp_journal.specs.Run.{Moment, asked, said}
 use Rattle.sbp_journal.specs.Transactions.{Kind, Transaction, request}
-use Rattle.sbp_journal.specs.Wire.{Terms, free, noted, terms, times_out, waits}
+use Rattle.sbp_journal.specs.Wire.{Terms, free, noted, terms, waits}
 use Rattle.sbp_journal.specs.declared.cause.Cause.{Cause}
 use Rattle.sbp_journal.specs.declared.cause.Cause.TheVariants as causes
 use Rattle.sbp_journal.specs.declared.cause.Judged.{Judged}
@@ -60,7 +60,7 @@ use Rattle.turn_laws.proofs.FoundLabels.{SameLabels, gets_same}
 use Rattle.turn_laws.proofs.LaterTerms.{Clean, Own, Pushes}
 use Rattle.turn_laws.proofs.PendingCalls.{Any, all_owned, target_kept}
 use Rattle.turn_laws.proofs.PendingEnded.{announced_rows, gone, row_back, row_kept}
-use Rattle.turn_laws.proofs.PendingFirsts.{Beside, got_frees, got_injected, got_sent, leaves_same, less_got, less_late, tied_at}
+use Rattle.turn_laws.proofs.PendingFirsts.{late_injected, Beside, got_frees, got_injected, got_sent, leaves_same, less_got, less_late, tied_at}
 use Rattle.turn_laws.proofs.PendingKept.{Backs, Keeps, Lists, Needs, AreTied, Id, Less, Pending, Rows, WaitsFor, first_kept, rows_same}
 use Rattle.turn_laws.proofs.PendingTerms.{ignored_same, pending_not}
 use Rattle.turn_laws.proofs.PendingTurns.{Kept, beside_here, beside_kept, note_clean, note_pushes, tied_here}
@@ -352,10 +352,6 @@ module _ (units ready : ℕ) (has : 0 < units) (start : List Disk) (past : List 
       abbrev Late_goal : Type 0
       Late_goal = Kept start (hist past (handed_out 0 0 x.outbox lapsed)) (record { world = handed_out 0 0 x.outbox lapsed; media = s.media })
 
-      late_injected : (o : Option Transaction) → (times_out o t).injected ≡ t.injected
-      late_injected None = refl
-      late_injected (Some u) = refl
-
       late_less : (u : Transaction) (kind : Kind) → t.held u ≡ waits kind serial → Less t (noted (notes.TimedOut serial) t) (Pushes start ms)
       late_less u kind f =
           let stands = here.holds.sound.stands in
@@ -379,7 +375,7 @@ module _ (units ready : ℕ) (has : 0 < units) (start : List Disk) (past : List 
           (λ n number kind call r z. row_kept good.lives lives request.peer request.label (λ q l. refl) node.layer layer good.mid.known h.known (Id t n) number kind call r z) (λ n l why z. z) in
           target_kept units ready has start past s here (notes.TimedOut serial) x.outbox lapsed s.media refl there others
           (subst (λ (y : target.Scene). AllOwned Any y.node.layer y.outbox.packets) (ap (λ (z : Result (Unit {0}) Stale × target.Scene). z.1) e) (all_owned units ready has start past s here (lets_expire request.peer request.label)))
-          (note_clean units ready has start past s here (notes.TimedOut serial) tt (late_injected (begun_in (t.sent serial)))) refl layer node.pending base
+          (note_clean units ready has start past s here (notes.TimedOut serial) tt (late_injected (begun_in (t.sent serial)) t)) refl layer node.pending base
           (announced_rows lives node.pending layer h.known x.node (still_announced lives node.pending x.node h.still))
       by_expiring (Err stale, layer) f h = absurd (stale_not stale done (sym (expired_is stale layer f) ∙ ap (λ (z : Result (Unit {0}) Stale × target.Scene). z.0) e))
         where

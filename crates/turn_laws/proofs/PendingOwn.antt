@@ -6,7 +6,7 @@ use Rattle.bus_transactions.specs.Packets.{SerialsCount}
 use Rattle.bus_transactions.specs.Wire.{as_sending, transaction}
 use Rattle.bus_transactions.proofs.Facts.{asked_is, begun_asked, injected_begun}
 use Rattle.bus_transactions.proofs.Reaches.{goes_on}
-use Rattle.label_table.specs.History.{Life, disowned, for_nobody, forgotten, is_same, under_way}
+use Rattle.label_table.specs.History.{disowned, forgotten, is_same}
 use Rattle.label_table.specs.Layer.{Layer, disowning_step, seen_in_generation, seeing_step}
 use Rattle.label_table.specs.declared.reply.ReplyKind.{ReplyKind}
 use Rattle.packet_store.specs.Kept.{found_sent}
@@ -38,7 +38,7 @@ use Rattle.sbp_target.specs.Receiving.{reset_by, seen}
 use Rattle.sbp_target.specs.declared.purpose.Purpose.{Purpose}
 use Rattle.sbp_target.specs.declared.purpose.Purpose.TheVariants as purposes
 use Rattle.sbp_target.proofs.Histories.Calling.{Good}
-use Rattle.sbp_target.proofs.Histories.Primitives.{Known, disowns_known, forgotten_at, live_on, nobody_is, seeing_known}
+use Rattle.sbp_target.proofs.Histories.Primitives.{Known, disowns_known, forgotten_at, live_on, seeing_known}
 use Rattle.sbp_target.proofs.Histories.Pass.{sees_by}
 use Rattle.sbp_target.proofs.Histories.Seats.{Lives}
 use Rattle.sbp_world.specs.Handing.{handed_out}
@@ -64,9 +64,9 @@ use Rattle.turn_laws.proofs.LaterNotes.{AllLeave, owns_handed}
 use Rattle.turn_laws.proofs.LaterTerms.{Grows, Own, Pushes, grown}
 use Rattle.turn_laws.proofs.PendingCalls.{Any, all_owned, target_kept}
 use Rattle.turn_laws.proofs.PendingEnds.{forgets}
-use Rattle.turn_laws.proofs.PendingFirsts.{Beside, LeavesOwn, got_injected, own_gets, own_lapses, requester_is, leaves_same, tied_beside}
+use Rattle.turn_laws.proofs.PendingFirsts.{late_injected, Beside, LeavesOwn, got_injected, own_gets, own_lapses, requester_is, leaves_same, tied_beside}
 use Rattle.turn_laws.proofs.PendingKept.{AreTied, Id, Pending, Rows, rows_same}
-use Rattle.turn_laws.proofs.PendingTerms.{Same, ignored_same, pending_sent, sends_terms, upd_other}
+use Rattle.turn_laws.proofs.PendingTerms.{and_false, Same, ignored_same, pending_sent, sends_terms, upd_other}
 use Rattle.turn_laws.proofs.PendingTurns.{Kept, beside_here, from_target, beside_kept, line_beside, line_clean, line_pushes, own_kept, note_clean, note_pushes, tied_here}
 use Rattle.turn_laws.proofs.Places.{Place}
 use Rattle.turn_laws.proofs.PushSerials.{Has, counted}
@@ -74,7 +74,7 @@ use Rattle.turn_laws.proofs.SerialsStay.{IsNoSent}
 use Rattle.turn_laws.proofs.StatusCalls.{Got}
 use Rattle.turn_laws.proofs.StatusLates.{seconds}
 use Rattle.turn_laws.proofs.StatusRows.{Row, life_of}
-use Rattle.turn_laws.proofs.StatusStays.{IsStatus}
+use Rattle.turn_laws.proofs.StatusStays.{IsStatus, left_if}
 
 
 -- ---- an initiator has no such packets to tell of
@@ -82,24 +82,17 @@ all_leave : (from : ℕ) (g : GenerationsState) (packets : List Outgoing) → Al
 all_leave from g [] = tt
 all_leave from g (packet ∷ later) = ((λ to e. tt), all_leave from g later)
 
-none_leave : (from : ℕ) (g : GenerationsState) (packets : List Outgoing) → packets ≡ [] → AllLeave (λ to bytes. ⊥) from g packets
-none_leave from g packets e = subst (AllLeave (λ to bytes. ⊥) from g) (sym e) tt
-
 -- a layer that has forgotten all
 record Forgot (layer : Layer Purpose) (packets : List Outgoing) : Type 0 where
   lives : Lives
   known : Known layer lives
   none : (p : ℕ) (l : LabelParts) (kind : ReplyKind) → IsStatus lives p l kind → ⊥
 
-nobody_if : (b : Bool) (kind : ReplyKind) (life : Life Purpose) → cond b (for_nobody life) life ≡ under_way kind (Some purposes.Unsolicited) → life ≡ under_way kind (Some purposes.Unsolicited)
-nobody_if true kind life e = absurd (nobody_is life purposes.Unsolicited kind e)
-nobody_if false kind life e = e
-
 forgot_more : (layer : Layer Purpose) (packets : List Outgoing) (peer : ℕ) (label : LabelParts) → Forgot layer packets → Forgot (disowning_step layer peer label) packets
 forgot_more layer packets peer label h = record {
   lives = live_on (disowned peer label) h.lives;
   known = disowns_known layer h.lives peer label h.known;
-  none = λ p l kind e. h.none p l kind (nobody_if (is_same peer label p l) kind (h.lives p l) e);
+  none = λ p l kind e. h.none p l kind (left_if (is_same peer label p l) kind (h.lives p l) e);
 }
 
 no_row : (layer : Layer Purpose) (packets : List Outgoing) → Forgot layer packets → (p number : ℕ) → Row layer p number → ⊥
@@ -107,10 +100,6 @@ no_row layer packets f p number r = let l = life_of layer f.lives p number f.kno
 
 none_pends : (n r : ℕ) (t : Terms) → begun_in (t.sent r) ≡ None → is_pending t n r ≡ false
 none_pends n r t e = ap (λ o. is_serial (receiver_in (t.sent r)) n && (waits_for t o r || rests_for t o r)) e ∙ and_false (is_serial (receiver_in (t.sent r)) n)
-  where
-    and_false : (b : Bool) → (b && false) ≡ false
-    and_false true = refl
-    and_false false = refl
 
 later_not_zero : (i : ℕ) → suc i ≡ 0 → ⊥
 later_not_zero i e = absurd (omega (arith, e))
@@ -134,9 +123,6 @@ module _ (units ready : ℕ) (has : 0 < units) (start : List Disk) (past : List 
   good : Good node
   good = good_of units ready here.holds.calls node has here.holds.made
 
-  beside : (x : Terms) → LeavesOwn t x → Beside t x (Pushes start ms)
-  beside x l = beside_here units ready has start past s here x l
-
   -- ---- a call of an initiator
   module _ (i weight : ℕ) (note : Note) (plain_note : IsNoSent note) (leaves : LeavesOwn t (noted note t)) (same : (noted note t).injected ≡ t.injected)
       (outbox : OutboxState) (v : WorldState) (fresh_is : v.fresh ≡ note ∷ w.fresh) (target_is : v.target ≡ node) (count : length v.initiators ≡ nodes) (own : AreOwn outbox.sides) where
@@ -147,7 +133,7 @@ module _ (units ready : ℕ) (has : 0 < units) (start : List Disk) (past : List 
     own_turn there =
         own_kept units ready has start past s here k (note ∷ w.fresh) past (suc i) weight (later_not_zero i) outbox v fresh_is there
         (owns_handed (λ to bytes. Unit {0}) (suc i) weight outbox v own (all_leave (suc i) v.generations outbox.packets))
-        (note_clean units ready has start past s here note plain_note same) (beside (noted note t) leaves) (note_pushes start note ms plain_note) target_is count
+        (note_clean units ready has start past s here note plain_note same) (beside_here units ready has start past s here (noted note t) leaves) (note_pushes start note ms plain_note) target_is count
 
   -- a packet comes to it
   module _ (serial : ℕ) (one : Sent) (found : found_sent serial w.store.kept ≡ Some one) (i : ℕ) (to_is : one.to ≡ suc i) where
@@ -176,12 +162,8 @@ module _ (units ready : ℕ) (has : 0 < units) (start : List Disk) (past : List 
     pub late_leaves : LeavesOwn t (noted (notes.TimedOut serial) t)
     late_leaves = leaves_by (begun_in (t.sent serial)) refl
 
-    by_begun : (o : Option Transaction) → (times_out o t).injected ≡ t.injected
-    by_begun None = refl
-    by_begun (Some u) = refl
-
     pub late_same : (noted (notes.TimedOut serial) t).injected ≡ t.injected
-    late_same = by_begun (begun_in (t.sent serial))
+    late_same = late_injected (begun_in (t.sent serial)) t
 
   -- it sees a generation
   pub sight_leaves : (i generation : ℕ) → LeavesOwn t (noted (notes.Seen (suc i) generation) t)
@@ -197,7 +179,7 @@ module _ (units ready : ℕ) (has : 0 < units) (start : List Disk) (past : List 
 
     pub tick_kept : Place units ready start past Ticked → Kept start (hist past Ticked.world) Ticked
     tick_kept there =
-        let b = beside (noted notes.Tick t) (record { generation = refl; ids = λ n. refl; sent = refl; held = λ v z. refl; current = λ v z. refl }) in
+        let b = beside_here units ready has start past s here (noted notes.Tick t) (record { generation = refl; ids = λ n. refl; sent = refl; held = λ v z. refl; current = λ v z. refl }) in
         let same = seconds node good in
         let rows : Rows node.layer (alone ticks node).node.layer node.pending (alone ticks node).node.pending =
         subst (λ l. Rows node.layer l node.pending (alone ticks node).node.pending) (sym same.1) (subst (λ p. Rows node.layer node.layer node.pending p) (sym same.0) (rows_same node.layer node.pending)) in
@@ -253,7 +235,7 @@ module _ (units ready : ℕ) (has : 0 < units) (start : List Disk) (past : List 
         let below = aged.below in
         let same = aged.same in
         let now_is : now ≡ t.generation 0 = grind (arith, nat_tests) in
-        let b = beside z (record { generation = now_is; ids = λ n. refl; sent = refl; held = λ v y. refl; current = λ v y. refl }) in
+        let b = beside_here units ready has start past s here z (record { generation = now_is; ids = λ n. refl; sent = refl; held = λ v y. refl; current = λ v y. refl }) in
         let step : (alone (sees now own_id) node).node ≡ node = ap (λ c. (reset_by (cond c (true, seen_in_generation node.layer now own_id) (false, node.layer)) (target.scene node empty_outbox)).1.node) e in
         seen_kept there node.layer node.pending
         (beside_kept nodes start ms (said note ∷ ms) node.layer node.pending (tied_here units ready has start past s here) k b (note_pushes start note ms tt))

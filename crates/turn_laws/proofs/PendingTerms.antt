@@ -35,7 +35,7 @@ pending_alike node s t now a = by_parts node s t now a.sent (by (begun_in (t.sen
         ap (λ g. Lasts g (now.held u) (now.current u) u s) (a.generation u e)
         ∙ (ap (λ h. Lasts (t.generation u.requester) h (now.current u) u s) (a.held u e) ∙ ap (λ c. Lasts (t.generation u.requester) (t.held u) c u s) (a.current u e))
 
-and_false : (b : Bool) → (b && false) ≡ false
+pub and_false : (b : Bool) → (b && false) ≡ false
 and_false true = refl
 and_false false = refl
 

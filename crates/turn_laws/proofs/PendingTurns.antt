@@ -10,8 +10,8 @@ use Rattle.rbc_disk.specs.Disk.{Disk}
 use Rattle.rbc_disk.specs.Held.{Held as Media}
 use Rattle.sbp_journal.specs.Outgoings.{OutboxState}
 use Rattle.sbp_journal.specs.Run.{Moment, asked, said}
-use Rattle.sbp_journal.specs.Transactions.{Kind, Transaction, begun_by}
-use Rattle.sbp_journal.specs.Wire.{Terms, ids_of, noted, opened, terms, waits}
+use Rattle.sbp_journal.specs.Transactions.{Transaction, begun_by}
+use Rattle.sbp_journal.specs.Wire.{Terms, ids_of, noted, opened, terms}
 use Rattle.sbp_journal.specs.declared.event.Event.{Event}
 use Rattle.sbp_journal.specs.declared.event.Event.TheVariants as events
 use Rattle.sbp_journal.specs.declared.note.Note.{Note}
@@ -29,7 +29,7 @@ use Rattle.sbp_world.proofs.Wire.Starts.{laws_of}
 use Rattle.sbp_world.specs.Wire.Wires.{Stands}
 use Rattle.turn_laws.proofs.Handed.{handed, handed_fresh, onto}
 use Rattle.turn_laws.proofs.LaterNotes.{ArePlain, FromTarget, counts_before, notes_later, pushed_from}
-use Rattle.turn_laws.proofs.LaterTerms.{Clean, Later, New, Own, Pushes, free_waits}
+use Rattle.turn_laws.proofs.LaterTerms.{Clean, Later, Own, Pushes, free_waits}
 use Rattle.turn_laws.proofs.PendingFirsts.{Beside, LeavesOwn, beside_of, less_beside, tied_beside}
 use Rattle.turn_laws.proofs.PendingKept.{AreTied, HaveRows, Id, IsOnce, Pending, Rows, first_kept, row_waits, rows_same, step_kept}
 use Rattle.turn_laws.proofs.PendingTerms.{upd_other}

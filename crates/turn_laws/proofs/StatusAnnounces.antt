@@ -31,9 +31,7 @@ use Rattle.sbp_target.proofs.Histories.Primitives.{Known, asks_known, began_at, 
 use Rattle.sbp_target.proofs.Histories.Seats.{Lives, OffOne, same_is, split}
 use Rattle.turn_laws.proofs.StatusOnce.{Distinct, distinct_more, keeps_pending, more_pending, self_pending}
 use Rattle.turn_laws.proofs.StatusStays.{IsStatus, Seated, Still, desk_set, follows, life_stays, none_some, not_under}
-
-no : {A : Type 0} → false ≡ true → A
-no e = absurd (let x : false ≡ true = e in cc)
+use Rattle.sbp_world.proofs.Common.{untrue}
 
 module _ (old : Lives) (first : List ℕ) where
   -- a node has one under way that it did not have before
@@ -74,11 +72,11 @@ module _ (old : Lives) (first : List ℕ) where
     idle_first = by (is_pending peer first) refl
       where
         by : (b : Bool) → is_pending peer first ≡ b → b ≡ false
-        by true e = no (sym idle ∙ a.grows peer e)
+        by true e = untrue (sym idle ∙ a.grows peer e)
         by false e = refl
 
     not_joined : {A : Type 0} (p : ℕ) → peer ≡ p → Joined s.node.pending p → A
-    not_joined p e j = no (sym idle ∙ (ap (λ n. is_pending n s.node.pending) e ∙ j.1))
+    not_joined p e j = untrue (sym idle ∙ (ap (λ n. is_pending n s.node.pending) e ∙ j.1))
 
     more_joined : (A : Type 0) (p : ℕ) → A ⊎ Joined s.node.pending p → A ⊎ Joined (s.node.pending ++ peer ∷ []) p
     more_joined A p (inl x) = inl x
@@ -151,9 +149,6 @@ module _ (old : Lives) (first : List ℕ) where
           sent = sent_then now asked.label off b.fresh b.kind (began_at peer asked.label b.kind purposes.Unsolicited a.lives);
           once = λ d. distinct_more s.node.pending peer idle (a.once d);
         }
-
-  unsent : (place : ℕ) (s : Scene) → Announced s.node → Announced (scene s.node (with_side s.outbox (sides.Unsent place))).node
-  unsent place s a = a
 
   announces_to : (place : ℕ) (login : Login) (s : Scene) → Announced s.node → Announced (announce_to place login s).node
   unfolding announce_to request_step

@@ -207,9 +207,6 @@ module _ (node : NodeState) (g : Good node) where
   abbrev pub Closed : (peer : ℕ) → LabelParts → ReplyKind → Option Purpose → Lives
   Closed peer label kind purpose = live_on (wire.closed peer label kind purpose) g.lives
 
-  abbrev pub Expired_at : (peer : ℕ) → LabelParts → Option Purpose → Lives
-  Expired_at peer label purpose = live_on (wire.expired peer label purpose) g.lives
-
   -- what a response that is got makes of them, by what it is for
   abbrev pub Concludes : Packet → LabelParts → ReplyKind → Option Purpose → Layer Purpose → NodeState → Type 0
   Concludes p label kind (Some (purposes.Agent place)) layer later = Announced (Closed (header_in p).source label kind (Some (purposes.Agent place))) node.pending later

@@ -1,17 +1,16 @@
--- A time-out leaves the target's unsolicited statuses and their nodes as they are, but for the transaction that it ends, whose node keeps its place among them; a second and a key leave all;
--- and behind a sight of a later generation no node has one.
-use Rattle.std.proofs.Common.{◌≡◌, refl, ℕ, Bool, true, false, List, [], Option, Result, Ok, Err}
+-- A time-out leaves the target's unsolicited statuses and their nodes as they are, but for the transaction that it ends, whose node keeps its place among them; a second leaves all.
+use Rattle.std.proofs.Common.{◌≡◌, refl, ℕ, List, Option, Result, Ok, Err}
 use Rattle.async_packet.specs.Labels.{LabelParts}
 use Rattle.label_table.specs.History as wire
 use Rattle.label_table.specs.History.{is_same, under_way}
-use Rattle.label_table.specs.Layer.{Layer, expiring_step, seeing_step}
+use Rattle.label_table.specs.Layer.{Layer, expiring_step}
 use Rattle.label_table.specs.declared.reply.ReplyKind.{ReplyKind}
 use Rattle.label_table.specs.declared.reply.Stale.{Stale}
 use Rattle.login_table.specs.Table.{Table, tick_step}
 use Rattle.sbp_journal.specs.Outgoings.{empty_outbox}
-use Rattle.sbp_target.specs.Calls.{alone, lets_expire, sees, sets_key, ticks}
+use Rattle.sbp_target.specs.Calls.{alone, lets_expire, ticks}
 use Rattle.sbp_target.specs.Nodes.{NodeState, scene}
-use Rattle.sbp_target.specs.Receiving.{expired, expired_in, reset_by, seen, ticked, ticked_by}
+use Rattle.sbp_target.specs.Receiving.{expired, expired_in, ticked, ticked_by}
 use Rattle.sbp_target.specs.declared.purpose.Purpose.{Purpose}
 use Rattle.sbp_target.proofs.Histories.Calling.{Good}
 use Rattle.sbp_target.proofs.Histories.Primitives.{Known, expiring_known, live_on, stale_known}
@@ -50,26 +49,10 @@ module _ (node : NodeState) (g : Good node) where
   unfolding expired
   lapses peer label = lapse_as (expiring_step node.layer peer label) peer label refl
 
-  -- ---- a sight
-  abbrev pub Sees : Bool → List ℕ → Type 0
-  Sees true pending = pending ≡ []
-  Sees false pending = pending ≡ node.pending
-
-  sight_as : (r : Bool × Layer Purpose) → Sees r.0 (reset_by r (scene node empty_outbox)).1.node.pending
-  sight_as (false, layer) = refl
-  sight_as (true, layer) = refl
-
-  pub sights : (generation id : ℕ) → Sees (seeing_step node.layer generation id).0 (alone (sees generation id) node).node.pending
-  unfolding seen
-  sights generation id = sight_as (seeing_step node.layer generation id)
-
-  -- ---- a second, and a key
+  -- ---- a second
   second_as : (r : List ℕ × Table) → ((ticked_by r (scene node empty_outbox)).node.pending ≡ node.pending) × ((ticked_by r (scene node empty_outbox)).node.layer ≡ node.layer)
   second_as (logins, table) = (refl, refl)
 
   pub seconds : ((alone ticks node).node.pending ≡ node.pending) × ((alone ticks node).node.layer ≡ node.layer)
   unfolding ticked
   seconds = second_as (tick_step node.logins)
-
-  pub keys : (unit : ℕ) (key : List ℕ) → ((alone (sets_key unit key) node).node.pending ≡ node.pending) × ((alone (sets_key unit key) node).node.layer ≡ node.layer)
-  keys unit key = (refl, refl)

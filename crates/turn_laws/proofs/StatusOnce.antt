@@ -1,16 +1,14 @@
 -- The list of the nodes to which an unsolicited status is under way: each stands in it once at most, so it is gone from it behind one answer.
-use Rattle.std.proofs.Common.{arith, ◌≡◌, ◌∙◌, refl, sym, ap, subst, inl, inr, ◌⊎◌, ℕ, suc, ◌+◌, ◌==◌, ◌||◌, not, nat_eq, nat_lt, Bool, true, false, cond, List, [], ◌∷◌, ◌++◌, length, position, Some, None}
+use Rattle.std.proofs.Common.{arith, ◌≡◌, ◌∙◌, refl, sym, ap, inl, inr, ◌⊎◌, ℕ, suc, ◌+◌, ◌==◌, ◌||◌, not, nat_eq, nat_lt, Bool, true, false, cond, List, [], ◌∷◌, ◌++◌, length, position, Some, None}
 use Rattle.std.specs.List.{position_or_len}
 use Rattle.std.proofs.lemmas.Bool.Decides.{nat_tests}
 use Rattle.sbp_target.specs.Receiving.{removed}
 use Rattle.sbp_target.specs.Units.{is_node, is_pending}
-
-no : {A : Type 0} → false ≡ true → A
-no e = absurd (let x : false ≡ true = e in cc)
+use Rattle.sbp_world.proofs.Common.{untrue}
 
 -- ---- one node more
 pub keeps_pending : (p y : ℕ) (xs : List ℕ) → is_pending p xs ≡ true → is_pending p (xs ++ y ∷ []) ≡ true
-keeps_pending p y [] e = no e
+keeps_pending p y [] e = untrue e
 keeps_pending p y (x ∷ xs) e = by (λ f. keeps_pending p y xs f) (p == x) e
   where
     by : (is_pending p xs ≡ true → is_pending p (xs ++ y ∷ []) ≡ true) → (b : Bool) → (b || is_pending p xs) ≡ true → (b || is_pending p (xs ++ y ∷ [])) ≡ true
@@ -30,7 +28,7 @@ more_pending p y [] e = by (nat_eq p y) refl e
   where
     by : (b : Bool) → nat_eq p y ≡ b → (b || false) ≡ true → (false ≡ true) ⊎ (p ≡ y)
     by true f g = inr (grind (arith, nat_tests))
-    by false f g = no g
+    by false f g = untrue g
 more_pending p y (x ∷ xs) e = by (λ f. more_pending p y xs f) (p == x) e
   where
     by : (is_pending p (xs ++ y ∷ []) ≡ true → (is_pending p xs ≡ true) ⊎ (p ≡ y)) → (b : Bool) → (b || is_pending p (xs ++ y ∷ [])) ≡ true → ((b || is_pending p xs) ≡ true) ⊎ (p ≡ y)
@@ -43,11 +41,11 @@ Distinct [] = Unit {0}
 Distinct (x ∷ xs) = (is_pending x xs ≡ false) × Distinct xs
 
 either : (a b : Bool) → (a || b) ≡ false → (a ≡ false) × (b ≡ false)
-either true b e = (e, no (sym e))
+either true b e = (e, untrue (sym e))
 either false b e = (refl, e)
 
 not_true : (b : Bool) → (b ≡ true → false ≡ true) → b ≡ false
-not_true true f = no (f refl)
+not_true true f = untrue (f refl)
 not_true false f = refl
 
 pub distinct_more : (xs : List ℕ) (y : ℕ) → is_pending y xs ≡ false → Distinct xs → Distinct (xs ++ y ∷ [])
@@ -87,14 +85,6 @@ out_later p x xs e =
         each true n = refl
         each false n = refl
 
-pub out_none : (p : ℕ) (xs : List ℕ) → Distinct xs → is_pending p (removed (position (is_node p) xs) xs) ≡ false
-out_none p [] d = refl
-out_none p (x ∷ xs) d = by (out_none p xs d.1) (nat_eq p x) refl
-  where
-    by : is_pending p (Out p xs) ≡ false → (b : Bool) → nat_eq p x ≡ b → is_pending p (Out p (x ∷ xs)) ≡ false
-    by more true e = let same : p ≡ x = grind (arith, nat_tests) in ap (is_pending p) (out_first p x xs e) ∙ (ap (λ n. is_pending n xs) same ∙ d.0)
-    by more false e = ap (is_pending p) (out_later p x xs e) ∙ (ap (λ b. b || is_pending p (Out p xs)) e ∙ more)
-
 pub out_others : (p q : ℕ) (xs : List ℕ) → nat_eq q p ≡ false → is_pending q (removed (position (is_node p) xs) xs) ≡ is_pending q xs
 out_others p q [] f = refl
 out_others p q (x ∷ xs) f = by (out_others p q xs f) (nat_eq p x) refl
@@ -104,25 +94,3 @@ out_others p q (x ∷ xs) f = by (out_others p q xs f) (nat_eq p x) refl
         let other : nat_eq q x ≡ false = grind (arith, nat_tests) in
         ap (is_pending q) (out_first p x xs e) ∙ sym (ap (λ b. b || is_pending q xs) other)
     by more false e = ap (is_pending q) (out_later p x xs e) ∙ ap (λ b. (q == x) || b) more
-
-gone : (p n : ℕ) (ys : List ℕ) → is_pending n ys ≡ false → n ≡ p → is_pending n (Out p ys) ≡ false
-gone p n [] g s = refl
-gone p n (y ∷ ys) g s =
-    let h = either (n == y) (is_pending n ys) g in
-    let other : nat_eq p y ≡ false = subst (λ m. nat_eq m y ≡ false) s h.0 in
-    ap (is_pending n) (out_later p y ys other) ∙ (ap (λ b. b || is_pending n (Out p ys)) h.0 ∙ gone p n ys h.1 s)
-
-out_less : (p q : ℕ) (xs : List ℕ) → is_pending q xs ≡ false → is_pending q (Out p xs) ≡ false
-out_less p q xs e = by (nat_eq q p) refl
-  where
-    by : (b : Bool) → nat_eq q p ≡ b → is_pending q (Out p xs) ≡ false
-    by false f = out_others p q xs f ∙ e
-    by true f = gone p q xs e (grind (arith, nat_tests))
-
-pub distinct_out : (p : ℕ) (xs : List ℕ) → Distinct xs → Distinct (removed (position (is_node p) xs) xs)
-distinct_out p [] d = tt
-distinct_out p (x ∷ xs) d = by (distinct_out p xs d.1) (nat_eq p x) refl
-  where
-    by : Distinct (Out p xs) → (b : Bool) → nat_eq p x ≡ b → Distinct (Out p (x ∷ xs))
-    by more true e = subst Distinct (sym (out_first p x xs e)) d.1
-    by more false e = subst Distinct (sym (out_later p x xs e)) (out_less p x xs d.0, more)

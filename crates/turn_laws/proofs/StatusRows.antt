@@ -1,6 +1,6 @@
 -- The unsolicited statuses that are under way in a layer, by peer and label: in a call that brings no disc they are the same behind it; and where one came, each new one is to a node that
 -- joined those that have one.
-use Rattle.std.proofs.Common.{◌≡◌, ◌∙◌, refl, sym, ap, subst, inl, inr, ◌⊎◌, ℕ, true, List, Option, Some}
+use Rattle.std.proofs.Common.{◌≡◌, ◌∙◌, refl, sym, ap, subst, inl, inr, ◌⊎◌, ℕ, List, Option, Some}
 use Rattle.async_packet.specs.Labels.{LabelParts}
 use Rattle.label_table.specs.History as wire
 use Rattle.label_table.specs.History.{under_way}
@@ -10,14 +10,13 @@ use Rattle.label_table.specs.declared.reply.ReplyKind.{ReplyKind}
 use Rattle.label_table.proofs.Calls.{after_kept}
 use Rattle.sbp_target.specs.Histories.Transactions.{IsUnderWay}
 use Rattle.sbp_target.specs.Nodes.{NodeState}
-use Rattle.sbp_target.specs.Units.{is_pending}
 use Rattle.sbp_target.specs.declared.purpose.Purpose.{Purpose}
 use Rattle.sbp_target.specs.declared.purpose.Purpose.TheVariants as purposes
 use Rattle.sbp_target.proofs.Histories.Primitives.{Known}
 use Rattle.sbp_target.proofs.Histories.Seats.{Lives}
 use Rattle.sbp_world.proofs.Agents.Management.Awaiting.{under_for}
-use Rattle.turn_laws.proofs.StatusAnnounces.{Announced, HasNew, Joined}
-use Rattle.turn_laws.proofs.StatusStays.{IsStatus, Still}
+use Rattle.turn_laws.proofs.StatusAnnounces.{Announced, Joined}
+use Rattle.turn_laws.proofs.StatusStays.{IsStatus}
 
 abbrev pub Row : Layer Purpose → ℕ → ℕ → Type 0
 Row layer peer number = IsUnderWay layer (Some purposes.Unsolicited) peer number
@@ -46,18 +45,6 @@ pub row_of : (layer : Layer Purpose) (lives : Lives) (peer number : ℕ) → Kno
 row_of layer lives peer number k l = subst (Row layer peer) l.numbered (under_for layer lives (Some purposes.Unsolicited) peer l.label l.kind k l.life)
 
 module _ (old : Lives) (first : List ℕ) (layer : Layer Purpose) (known : Known layer old) (later : NodeState) where
-  -- ---- no disc came
-  module _ (h : Still old first later) where
-    pub rows_stay : (peer number : ℕ) → Row layer peer number → Row later.layer peer number
-    rows_stay peer number u =
-        let l = life_of layer old peer number known u in
-        row_of later.layer h.lines.lives peer number h.lines.known (record { label = l.label; kind = l.kind; numbered = l.numbered; life = h.lines.stays peer l.label l.kind l.life })
-
-    pub rows_were : (peer number : ℕ) → Row later.layer peer number → Row layer peer number
-    rows_were peer number u =
-        let l = life_of later.layer h.lines.lives peer number h.lines.known u in
-        row_of layer old peer number known (record { label = l.label; kind = l.kind; numbered = l.numbered; life = h.lines.before peer l.label l.kind l.life })
-
   -- ---- a disc may have come
   module _ (a : Announced old first later) where
     was_row : (peer number : ℕ) (l : Lived a.lives peer number) → IsStatus old peer l.label l.kind → Row layer peer number
@@ -91,15 +78,3 @@ module _ (old : Lives) (first : List ℕ) (layer : Layer Purpose) (known : Known
         by (inl s) = inl (was_row peer number l s)
         by (inr (inl s)) = inr (inl (was_row peer other m s))
         by (inr (inr e)) = inr (inr (sym l.numbered ∙ (ap (λ (x : LabelParts). x.number) e ∙ m.numbered)))
-
-    -- a node that has one now and had none has a row
-    pub record NewRow (peer : ℕ) : Type 0 where
-      pub number : ℕ
-      pub row : Row later.layer peer number
-
-    pub joined_row : (peer : ℕ) → is_pending peer later.pending ≡ true → (is_pending peer first ≡ true) ⊎ NewRow peer
-    joined_row peer e = by (a.sent peer e)
-      where
-        by : (is_pending peer first ≡ true) ⊎ HasNew old first a.lives peer → (is_pending peer first ≡ true) ⊎ NewRow peer
-        by (inl f) = inl f
-        by (inr n) = inr (record { number = n.label.number; row = under_for later.layer a.lives (Some purposes.Unsolicited) peer n.label n.kind a.known n.is })

@@ -56,7 +56,7 @@ manager_no e = cc
 pub not_under : {kind : ReplyKind} {purpose : Option Purpose} → not_begun ≡ under_way kind purpose → ⊥
 not_under e = cc
 
-left_if : (b : Bool) (kind : ReplyKind) (life : Life Purpose) → cond b (for_nobody life) life ≡ under_way kind (Some purposes.Unsolicited) → life ≡ under_way kind (Some purposes.Unsolicited)
+pub left_if : (b : Bool) (kind : ReplyKind) (life : Life Purpose) → cond b (for_nobody life) life ≡ under_way kind (Some purposes.Unsolicited) → life ≡ under_way kind (Some purposes.Unsolicited)
 left_if true kind life e = absurd (nobody_is life purposes.Unsolicited kind e)
 left_if false kind life e = e
 
