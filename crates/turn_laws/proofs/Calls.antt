@@ -137,6 +137,10 @@ module _ (units ready : ℕ) (start : List Disk) (R N : Scene → Turn → List 
   abbrev pub ActsSo : Scene → (i : ℕ) → Action → OutboxState → InitiatorState → Type 0
   ActsSo s i action outbox state = act_step action empty_outbox (initiator_at s.world i) ≡ (None, (outbox, state))
 
+  -- a line brings these notes
+  abbrev pub Brought : List Moment → Scene → (line : ℕ) → Event → List Note → Scene → Type 0
+  Brought past s line event rest behind = behind.world.fresh ≡ onto rest [] → At past s → At (asked line event ∷ hist past s.world) behind → N s (turn (hist past s.world) (asked line event) rest) (hist (asked line event ∷ hist past s.world) behind.world) behind
+
   pub record CasesOf : Type 0 where
     pub heard : (past : List Moment) (s : Scene) (serial : ℕ) (again : Bool) (run : Option Told) (one : Sent) → found_sent serial s.world.store.kept ≡ Some one → one.to ≡ 0 → MayTell run one s.world.target s.media → Heard past s serial again run one
     pub heard_own : (past : List Moment) (s : Scene) (serial : ℕ) (again : Bool) (one : Sent) (i : ℕ) → found_sent serial s.world.store.kept ≡ Some one → one.to ≡ suc i → i < length s.world.initiators → HeardOwn past s serial again one i
@@ -149,7 +153,7 @@ module _ (units ready : ℕ) (start : List Disk) (R N : Scene → Turn → List 
     pub ends : (past : List Moment) (s : Scene) (done : Bool) → At past s → At past (settled_from done s) → R s (turn (hist past s.world) (said (end_note done)) []) (hist past (settled_from done s).world) (settled_from done s)
     pub acts : (past : List Moment) (s : Scene) (line i : ℕ) (action : Action) (outbox : OutboxState) (state : InitiatorState) → i < length s.world.initiators → ActsSo s i action outbox state → Acts past s line i action outbox state
     -- every other line; and the line that begins a run
-    pub lines : (past : List Moment) (s : Scene) (line : ℕ) (event : Event) (rest : List Note) (behind : Scene) → Brings line s event rest → behind.world.fresh ≡ onto rest [] → At past s → At (asked line event ∷ hist past s.world) behind → N s (turn (hist past s.world) (asked line event) rest) (hist (asked line event ∷ hist past s.world) behind.world) behind
+    pub lines : (past : List Moment) (s : Scene) (line : ℕ) (event : Event) (rest : List Note) (behind : Scene) → Brings line s event rest → Brought past s line event rest behind
     pub begins : (line initiators : ℕ) (is_ready : Bool) → F line initiators is_ready
 
 abbrev Begins : (Turn → Type 0) → (line initiators : ℕ) → Bool → Type 0

@@ -1,5 +1,5 @@
 -- The notes that a node hands out behind the first one of a turn: what is told says nothing of the wire, and each packet is its own. So the terms behind them go on from those before.
-use Rattle.std.proofs.Common.{arith, ◌≡◌, ◌∙◌, refl, sym, ap, subst, inl, inr, ◌⊎◌, ℕ, ◌+◌, List, [], ◌∷◌, ◌++◌, map, Option, Some, None}
+use Rattle.std.proofs.Common.{arith, ◌≡◌, ◌∙◌, refl, sym, ap, subst, inl, inr, ◌⊎◌, ℕ, List, [], ◌∷◌, ◌++◌, map, Option, Some, None}
 use Rattle.std.proofs.lemmas.Bool.Decides.{nat_tests}
 use Rattle.bus_transactions.specs.Packets.{SerialsCount}
 use Rattle.bus_transactions.specs.Sent.{AreSent}

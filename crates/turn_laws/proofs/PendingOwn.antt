@@ -1,5 +1,5 @@
 -- What is carried of the target's unsolicited statuses through a sight and a second at the target, through each call of an initiator, and through each other line.
-use Rattle.std.proofs.Common.{arith, ◌≡◌, ◌∙◌, refl, sym, ap, subst, inl, inr, ◌⊎◌, ℕ, zero, suc, ◌+◌, ◌<◌, ◌≤◌, ◌==◌, ◌&&◌, ◌||◌, nat_eq, nat_lt, Bool, true, false, cond, List, [], ◌∷◌, ◌++◌, length, map, Option, Some, None}
+use Rattle.std.proofs.Common.{arith, ◌≡◌, ◌∙◌, refl, sym, ap, subst, inl, inr, ◌⊎◌, ℕ, suc, ◌+◌, ◌<◌, ◌≤◌, ◌==◌, ◌&&◌, ◌||◌, nat_eq, nat_lt, Bool, true, false, cond, List, [], ◌∷◌, ◌++◌, length, map, Option, Some, None}
 use Rattle.std.proofs.lemmas.Bool.Decides.{nat_tests}
 use Rattle.async_packet.specs.Labels.{LabelParts}
 use Rattle.bus_transactions.specs.Packets.{SerialsCount}
@@ -71,7 +71,6 @@ use Rattle.turn_laws.proofs.PendingTurns.{Kept, beside_here, from_target, beside
 use Rattle.turn_laws.proofs.Places.{Place}
 use Rattle.turn_laws.proofs.PushSerials.{Has, counted}
 use Rattle.turn_laws.proofs.SerialsStay.{IsNoSent}
-use Rattle.turn_laws.proofs.StatusCalls.{Got}
 use Rattle.turn_laws.proofs.StatusLates.{seconds}
 use Rattle.turn_laws.proofs.StatusRows.{Row, life_of}
 use Rattle.turn_laws.proofs.StatusStays.{IsStatus, left_if}

@@ -5,7 +5,7 @@ use Rattle.std.specs.Prelude.{slice_index_or, slice_set}
 use Rattle.async_packet.specs.Labels.{LabelParts}
 use Rattle.async_packet.specs.Packet.{Packet}
 use Rattle.command_agent.specs.Machine.{Machine, is_under_way}
-use Rattle.command_agent.specs.Steps.{lost_step, reply_step}
+use Rattle.command_agent.specs.Steps.{lost_step}
 use Rattle.command_agent.specs.Steps as steps
 use Rattle.command_agent.specs.declared.step.AgentStep.{AgentStep}
 use Rattle.command_agent.specs.declared.step.Which.{Which}
