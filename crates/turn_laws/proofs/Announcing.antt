@@ -104,13 +104,13 @@ use Rattle.turn_laws.proofs.Cuts.{marked_holder}
 use Rattle.sbp_world.proofs.Common.{and_first, and_second}
 
 -- ---- kinds of notes that the target tells
-push_kind : IsToldKind is_push_note
+pub push_kind : IsToldKind is_push_note
 push_kind = record { no_packet = λ serial generation from to bytes. refl }
 
 ran_kind : IsToldKind is_ran_note
 ran_kind = record { no_packet = λ serial generation from to bytes. refl }
 
-own_push : (note : Note) → IsNoRun note → is_push_note note ≡ false
+pub own_push : (note : Note) → IsNoRun note → is_push_note note ≡ false
 own_push (notes.Unsolicited i) h = absurd h
 own_push (notes.Unsent i) h = absurd h
 own_push note h = refl

@@ -62,14 +62,15 @@ pub data Brings (line : ℕ) (s : Scene) : Event → List Note → Type 0 where
 abbrev pub in_scene : WorldState → Scene → Scene
 in_scene w s = record s { world = w }
 
-module _ (units ready : ℕ) (start : List Disk) (L : Turn → Type 0) where
+-- R is what holds of a turn, by the scenes before and behind it and the history behind it; N the same where no node is called; and F of the turn that begins a run.
+module _ (units ready : ℕ) (start : List Disk) (R N : Scene → Turn → List Moment → Scene → Type 0) (F : (line initiators : ℕ) → Bool → Type 0) where
   abbrev At : List Moment → Scene → Type 0
   At past s = Place units ready start past s
 
   -- a call of a node behind the first note of its turn: what it handed out, from a world with this note
   abbrev pub Turned : List Moment → Scene → Note → (node : ℕ) → OutboxState → WorldState → Scene → Type 0
   Turned past s note node outbox w behind =
-      At past s → At past behind → AreJudged (said note ∷ hist past s.world) → L (turn (hist past s.world) (said note) (handed node 0 outbox w))
+      At past s → At past behind → AreJudged (said note ∷ hist past s.world) → R s (turn (hist past s.world) (said note) (handed node 0 outbox w)) (hist past behind.world) behind
 
   -- the target tells no note of an initiator, and an initiator nothing else
   abbrev pub ByTarget : List Moment → Scene → Note → OutboxState → WorldState → Scene → Type 0
@@ -130,12 +131,17 @@ module _ (units ready : ℕ) (start : List Disk) (L : Turn → Type 0) where
   Acts past s line i action outbox state =
       let w = with_initiator i state (without_notes s.world) in
       let asks = asked line (events.Act i action) in
-      AreOwn outbox.sides → At past s → At (asks ∷ hist past s.world) (in_scene (handed_out (i + 1) (weight_in action) outbox w) s) → L (turn (hist past s.world) asks (handed (i + 1) (weight_in action) outbox w))
+      let behind = in_scene (handed_out (i + 1) (weight_in action) outbox w) s in
+      AreOwn outbox.sides → At past s → At (asks ∷ hist past s.world) behind → R s (turn (hist past s.world) asks (handed (i + 1) (weight_in action) outbox w)) (hist (asks ∷ hist past s.world) behind.world) behind
 
   abbrev pub ActsSo : Scene → (i : ℕ) → Action → OutboxState → InitiatorState → Type 0
   ActsSo s i action outbox state = act_step action empty_outbox (initiator_at s.world i) ≡ (None, (outbox, state))
 
-  pub record Cases : Type 0 where
+  -- a line brings these notes
+  abbrev pub Brought : List Moment → Scene → (line : ℕ) → Event → List Note → Scene → Type 0
+  Brought past s line event rest behind = behind.world.fresh ≡ onto rest [] → At past s → At (asked line event ∷ hist past s.world) behind → N s (turn (hist past s.world) (asked line event) rest) (hist (asked line event ∷ hist past s.world) behind.world) behind
+
+  pub record CasesOf : Type 0 where
     pub heard : (past : List Moment) (s : Scene) (serial : ℕ) (again : Bool) (run : Option Told) (one : Sent) → found_sent serial s.world.store.kept ≡ Some one → one.to ≡ 0 → MayTell run one s.world.target s.media → Heard past s serial again run one
     pub heard_own : (past : List Moment) (s : Scene) (serial : ℕ) (again : Bool) (one : Sent) (i : ℕ) → found_sent serial s.world.store.kept ≡ Some one → one.to ≡ suc i → i < length s.world.initiators → HeardOwn past s serial again one i
     pub late : (past : List Moment) (s : Scene) (serial : ℕ) (request : Request) (done : Unit {0}) (t : target.Scene) → find s.world.requests serial ≡ Some request → request.node ≡ 0 → Expires s request done t → Late past s serial t
@@ -144,8 +150,24 @@ module _ (units ready : ℕ) (start : List Disk) (L : Turn → Type 0) where
     pub sees_own : (past : List Moment) (s : Scene) (i : ℕ) → i < length s.world.initiators → SeesOwn past s i
     pub ticks : (past : List Moment) (s : Scene) → Ticks past s
     -- a line that settles ends
-    pub ends : (past : List Moment) (s : Scene) (done : Bool) → At past s → At past (settled_from done s) → L (turn (hist past s.world) (said (end_note done)) [])
+    pub ends : (past : List Moment) (s : Scene) (done : Bool) → At past s → At past (settled_from done s) → R s (turn (hist past s.world) (said (end_note done)) []) (hist past (settled_from done s).world) (settled_from done s)
     pub acts : (past : List Moment) (s : Scene) (line i : ℕ) (action : Action) (outbox : OutboxState) (state : InitiatorState) → i < length s.world.initiators → ActsSo s i action outbox state → Acts past s line i action outbox state
     -- every other line; and the line that begins a run
-    pub lines : (past : List Moment) (s : Scene) (line : ℕ) (event : Event) (rest : List Note) (behind : Scene) → Brings line s event rest → behind.world.fresh ≡ onto rest [] → At past s → At (asked line event ∷ hist past s.world) behind → L (turn (hist past s.world) (asked line event) rest)
-    pub begins : (line initiators : ℕ) (is_ready : Bool) → L (turn [] (asked line (events.Begin initiators is_ready)) (notes_begin initiators is_ready ∷ []))
+    pub lines : (past : List Moment) (s : Scene) (line : ℕ) (event : Event) (rest : List Note) (behind : Scene) → Brings line s event rest → Brought past s line event rest behind
+    pub begins : (line initiators : ℕ) (is_ready : Bool) → F line initiators is_ready
+
+abbrev Begins : (Turn → Type 0) → (line initiators : ℕ) → Bool → Type 0
+Begins L line initiators is_ready = L (turn [] (asked line (events.Begin initiators is_ready)) (notes_begin initiators is_ready ∷ []))
+
+-- a law of turns
+abbrev pub Cases : (units ready : ℕ) → List Disk → (Turn → Type 0) → Type 0
+Cases units ready start L = CasesOf units ready start (λ s t now behind. L t) (λ s t now behind. L t) (Begins L)
+
+-- where no node is called the target has its transactions and the nodes that an unsolicited status is pending to
+abbrev pub Stays : WorldState → WorldState → Type 0
+Stays w v = (v.target.layer ≡ w.target.layer) × ((v.target.pending ≡ w.target.pending) × (length v.initiators ≡ length w.initiators))
+
+-- a law of turns, where something is carried from place to place
+abbrev pub CarriedCases : (units ready : ℕ) → List Disk → (List Moment → Scene → Type 0) → (Turn → Type 0) → Type 0
+CarriedCases units ready start K L =
+    CasesOf units ready start (λ s t now behind. K t.past s → L t × K now behind) (λ s t now behind. Stays s.world behind.world → K t.past s → L t × K now behind) (Begins L)

@@ -5,9 +5,9 @@ use Rattle.sbp_base.specs.Update.{upd}
 use Rattle.async_packet.specs.Canon.{IsValid}
 use Rattle.async_packet.specs.Labels.{LabelParts}
 use Rattle.async_packet.specs.Packet.{Packet}
-use Rattle.bus_transactions.specs.Bare.{bare, bare_finding}
+use Rattle.bus_transactions.specs.Bare.{bare}
 use Rattle.bus_transactions.specs.Fitting.{FitsRequest}
-use Rattle.bus_transactions.specs.Wire.{Node, as_sending, due_for, first_note, id_for}
+use Rattle.bus_transactions.specs.Wire.{Node, as_sending, id_for}
 use Rattle.bus_transactions.proofs.FitSteps.{expires_same, judges_same}
 use Rattle.bus_transactions.proofs.Fits.{request_fits}
 use Rattle.label_table.specs.Bodies.{Body, header_to, request_with}
@@ -21,11 +21,10 @@ use Rattle.rbc_disk.specs.Disk.{Disk}
 use Rattle.sbp_bus.specs.declared.requests.Request.{Request}
 use Rattle.sbp_bus.specs.Generations.{id_of, topology_at}
 use Rattle.sbp_bus.specs.Requests.{find}
-use Rattle.sbp_journal.specs.Run.{Moment, asked, said}
+use Rattle.sbp_journal.specs.Run.{Moment, said}
 use Rattle.sbp_journal.specs.Transactions.{Kind, Part, Sending, Transaction, asked_by, at, between, is_same_kind, no_packet, part_of, request, response}
 use Rattle.async_packet.specs.Fields.{rcode_of}
 use Rattle.sbp_journal.specs.Wire.{Held, Terms, arrives, closes, closes_if, free, gets, gets_as, is_news, is_served, judges, rests, terms, waits}
-use Rattle.sbp_journal.specs.declared.event.Event.TheVariants as events
 use Rattle.sbp_journal.specs.declared.note.Note.TheVariants as notes
 use Rattle.sbp_laws.specs.Packets.{finds_label, label_for}
 use Rattle.sbp_laws.specs.Targets.{target_at}
@@ -33,19 +32,16 @@ use Rattle.sbp_target.specs.declared.purpose.Purpose.{Purpose}
 use Rattle.sbp_target.specs.declared.purpose.Purpose.TheVariants as purposes
 use Rattle.sbp_target.specs.Nodes.{NodeState, login_at}
 use Rattle.sbp_world.specs.Agents.Holders.{IsHeld, IsLiveOf}
-use Rattle.sbp_world.specs.Wire.Wires.{Stands, StandsAt, layers_of}
-use Rattle.sbp_world.specs.Delivering.{marked}
-use Rattle.sbp_world.specs.Worlds.{Scene, WorldState, with_note, without_notes}
+use Rattle.sbp_world.specs.Wire.Wires.{StandsAt, layers_of}
+use Rattle.sbp_world.specs.Worlds.{Scene, WorldState, with_note}
 use Rattle.sbp_world.proofs.Agents.Management.Holding.{known_id, was_sent}
 use Rattle.sbp_world.proofs.Agents.Management.Still.{hist}
 use Rattle.sbp_world.proofs.Wire.Asks.{upd_own}
-use Rattle.sbp_world.proofs.Wire.Deliver.{judged_marked}
-use Rattle.sbp_world.proofs.Wire.Expires.{latest, timed_out_as}
 use Rattle.sbp_world.proofs.Wire.Holding.{latest_small}
-use Rattle.sbp_world.proofs.Wire.Sound.{opens}
 use Rattle.turn_laws.proofs.RequestLabels.{finds_at}
 use Rattle.turn_laws.proofs.StepLabels.{finds_in, peers_ask}
 use Rattle.turn_laws.proofs.Places.{Place}
+use Rattle.turn_laws.proofs.TurnWires.{Judges, alone, judged_stands, late_stands, repeated}
 
 -- ---- what a label hangs on
 pub record SameLabels (a b : Terms) : Type 0 where
@@ -102,7 +98,7 @@ part_same (response label kind) s q t =
     let u = between q q.to q.from label in closes_same (t.held u) u kind (rcode_of q.bytes) (arrived s (repeating t)) (arrived s t) (arrived_same s t)
 part_same no_packet s q t = arrived_same s t
 
-gets_same : (o : Option Sending) (s : ℕ) (t : Terms) → SameLabels (gets o s (repeating t)) (gets o s t)
+pub gets_same : (o : Option Sending) (s : ℕ) (t : Terms) → SameLabels (gets o s (repeating t)) (gets o s t)
 gets_same None s t = record { generation = refl; ids = refl; held = refl; last = refl }
 gets_same (Some q) s t = part_same (part_of q.bytes) s q t
 
@@ -175,12 +171,7 @@ module _ (units ready : ℕ) (start : List Disk) (past : List Moment) (s : Scene
         subst (λ n. n < 2 ^ 16) (sym (expires_same node.layer request.peer request.label).node ∙ ap (λ (r : Result (Option Purpose) Stale × Layer Purpose). r.1.node) e) small_here
 
     stands_late : StandsAt past (upd (layers_of w) request.node (bare new)) None (with_note (notes.TimedOut serial) w)
-    stands_late =
-        let h = here.holds.sound.stands in
-        let low : request.node ≤ length w.initiators = let z = zero_is in omega (arith, z) in
-        let own : layers_of w request.node ≡ bare node.layer = ap (λ n. layers_of w n) zero_is in
-        let last = latest w h serial request found low node.layer own request.peer in
-        timed_out_as w h serial request found low node.layer own request.peer (λ same. ap (λ g. (terms h.wire.past).ids g last.to) (sym same) ∙ sym last.peer_is) purpose new e
+    stands_late = late_stands units ready start past s here serial request found zero_is purpose new e
 
     pub late_finds : (body : Body) → FitsRequest body → finds_in q new login body ≡ finds_label (terms (said (notes.TimedOut serial) ∷ ms)) 0 (suc i) body
     late_finds body fit =
@@ -195,24 +186,13 @@ module _ (units ready : ℕ) (start : List Disk) (past : List Moment) (s : Scene
     -- a response: in a line that repeats it need not be in flight
     module _ (p : Packet) (label : LabelParts) (purpose : Option Purpose) (new : Layer Purpose) (e : judging_step node.layer one.generation one.bytes ≡ (of_response p label purpose, new)) where
       abbrev line : List Moment
-      line = asked 0 (events.Repeat serial) ∷ ms
+      line = repeated units ready start past s here serial one found zero_to
 
       abbrev v : WorldState
-      v = without_notes w
+      v = alone units ready start past s here serial one found zero_to
 
-      begun : Stands line v
-      begun = (opens 0 (events.Repeat serial) w refl here.holds.sound).stands
-
-      repeats : (terms begun.wire.past).repeats ≡ true
-      repeats = ap (λ x. (terms x).repeats) begun.is.past_is
-
-      abbrev Behind : Finding Purpose × Layer Purpose → Type 0
-      Behind f = StandsAt line (upd (layers_of v) one.to (bare f.1)) (due_for (bare_finding f.0) None serial (as_sending one)) (with_note (first_note (bare_finding f.0) None serial) (marked serial true v))
-
-      stands_got : Behind (of_response p label purpose, new)
-      stands_got =
-          let low : one.to ≤ length v.initiators = let z = zero_to in omega (arith, z) in
-          subst Behind e (judged_marked v begun serial one low node.layer (ap (λ n. layers_of v n) zero_to) None refl found true repeats (λ f. absurd (let no : true ≡ false = f in cc)))
+      stands_got : Judges units ready start past s here serial one found zero_to (of_response p label purpose, new)
+      stands_got = subst (Judges units ready start past s here serial one found zero_to) e (judged_stands units ready start past s here serial one found zero_to)
 
       small_got : new.node < 2 ^ 16
       small_got =

@@ -1,6 +1,7 @@
 -- A law of turns holds of every turn of every run where it holds of the turn of each call. This is the one place where a line, a delivery and what a world does of them are
--- opened for such laws.
+-- opened for such laws. With a law something may be carried from place to place: it holds where a run begins, and of the place behind each turn where it held before.
 use Rattle.std.proofs.Common.{arith, ◌≡◌, ◌∙◌, refl, sym, ap, subst, ℕ, zero, suc, ◌+◌, ◌-◌, ◌==◌, ◌^◌, ◌<◌, ◌≤◌, nat_lt, Bool, true, false, cond, List, [], ◌∷◌, ◌++◌, map, length, Option, Some, None, Result, Ok, Err}
+use Rattle.std.proofs.Math.ListN.{length-set}
 use Rattle.std.proofs.lemmas.Bool.Decides.{nat_tests}
 use Rattle.bus_transactions.specs.Judging.{AreJudged}
 use Rattle.bus_transactions.specs.May.{is_reset}
@@ -15,6 +16,7 @@ use Rattle.sbp_bus.specs.Generations.{id_of, topology_at}
 use Rattle.sbp_bus.specs.Packets.{judged_note, no_node, no_packet}
 use Rattle.sbp_bus.specs.Requests.{find}
 use Rattle.sbp_initiator.specs.Acting.{act_step}
+use Rattle.sbp_initiator.specs.declared.state.InitiatorState.{InitiatorState}
 use Rattle.sbp_initiator.specs.Effects.{Turn as Called}
 use Rattle.sbp_initiator.specs.Receiving.{expire_step, receive_step}
 use Rattle.sbp_initiator.specs.Seeing.{see_step}
@@ -57,26 +59,29 @@ use Rattle.sbp_world.proofs.Wire.Comes.{own_inside, own_outside, received_is, to
 use Rattle.sbp_world.proofs.Wire.Starts.{laws_of}
 use Rattle.sbp_world.proofs.Wire.ToldBytes.{happened_fits}
 use Rattle.turn_laws.specs.Runs.{OfEveryRun}
-use Rattle.turn_laws.proofs.Calls.{Brings, Cases, calls, calls_nodes, in_scene, injects, loses, refuses, refuses_action, resets, sets_key}
+use Rattle.turn_laws.proofs.Calls.{Brings, CarriedCases, Cases, Stays, calls, calls_nodes, in_scene, injects, loses, refuses, refuses_action, resets, sets_key}
 use Rattle.turn_laws.proofs.Handed.{AllInner, AreInner, handed, handed_fresh, handed_inner, onto, others_inner, own_inner}
 use Rattle.turn_laws.proofs.Places.{Place, begun_place, between_place, ended_place}
 use Rattle.turn_laws.proofs.Turns.{Turns, by_line, by_note, judged_before}
 
-module _ (units ready : ℕ) (start : List Disk) (L : Turn → Type 0) (cases : Cases units ready start L) where
+module _ (units ready : ℕ) (start : List Disk) (K : List Moment → Scene → Type 0) (L : Turn → Type 0) (cases : CarriedCases units ready start K L) where
   abbrev At : List Moment → Scene → Type 0
   At past s = Place units ready start past s
 
-  abbrev E : List Moment → Type 0
-  E ms = Turns L ms []
+  abbrev Each : List Moment → Type 0
+  Each ms = Turns L ms []
+
+  abbrev E : List Moment → Scene → Type 0
+  E ms s = Each ms × K ms s
 
   -- ---- the calls of nodes behind the first note of a turn
-  module _ (past : List Moment) (s : Scene) (here : At past s) (before : E (hist past s.world)) where
+  module _ (past : List Moment) (s : Scene) (here : At past s) (before : E (hist past s.world) s) where
     abbrev w : WorldState
     w = s.world
 
     -- each turn of the history is so, where this is the next place
     abbrev Q : Scene → Type 0
-    Q t = At past t → E (hist past t.world)
+    Q t = At past t → E (hist past t.world) t
 
     module _ (note : Note) (starts : IsStart note) (node : ℕ) (outbox : OutboxState) (v : WorldState) (media : Held) (fresh_is : v.fresh ≡ note ∷ w.fresh) (inner : AreInner outbox.sides) where
       abbrev rest : List Note
@@ -91,9 +96,10 @@ module _ (units ready : ℕ) (start : List Disk) (L : Turn → Type 0) (cases : 
       judged : At past later → AreJudged (said note ∷ hist past w)
       judged there = judged_before rest (note ∷ w.fresh) past (subst (λ ns. AreJudged (map said ns ++ past)) all_is (laws_of past later.world there.holds.sound.stands).judged)
 
-      turned : (At past s → At past later → AreJudged (said note ∷ hist past w) → L (turn (hist past w) (said note) rest)) → Q later
+      turned : (At past s → At past later → AreJudged (said note ∷ hist past w) → K (hist past w) s → L (turn (hist past w) (said note) rest) × K (hist past later.world) later) → Q later
       turned law there =
-          subst (λ ns. E (map said ns ++ past)) (sym all_is) (by_note L note starts rest w.fresh past (handed_inner node 0 outbox v inner) (law here there (judged there)) before)
+          let r = law here there (judged there) before.1 in
+          (subst (λ ns. Each (map said ns ++ past)) (sym all_is) (by_note L note starts rest w.fresh past (handed_inner node 0 outbox v inner) r.0 before.0), r.1)
 
     -- a packet is delivered
     module _ (serial : ℕ) (again : Bool) (run : Option Told) where
@@ -130,7 +136,7 @@ module _ (units ready : ℕ) (start : List Disk) (L : Turn → Type 0) (cases : 
         none_comes : (i : ℕ) → one.to ≡ suc i → length w.initiators ≤ i → Q (delivered serial again run s)
         unfolding delivered
         none_comes i to_is outside there =
-            subst (λ (t : Scene). E (hist past t.world)) (sym (ap (delivered_by serial again) (to_own run serial i s one found to_is ∙ own_outside one i s outside))) before
+            subst (λ (t : Scene). E (hist past t.world) t) (sym (ap (delivered_by serial again) (to_own run serial i s one found to_is ∙ own_outside one i s outside))) before
 
         comes_at : (to : ℕ) → one.to ≡ to → (one.to ≡ 0 → MayTold true run one s) → Q (delivered serial again run s)
         comes_at zero e may = target_comes e (may e)
@@ -142,7 +148,7 @@ module _ (units ready : ℕ) (start : List Disk) (L : Turn → Type 0) (cases : 
 
       comes_by : (found : Option Sent) → found_sent serial w.store.kept ≡ found → MayCome run found s → Q (delivered serial again run s)
       unfolding delivered received_step
-      comes_by None e may = λ there. subst (λ (t : Scene). E (hist past t.world)) (sym (ap (λ o. delivered_by serial again (received_by run o s)) e)) before
+      comes_by None e may = λ there. subst (λ (t : Scene). E (hist past t.world) t) (sym (ap (λ o. delivered_by serial again (received_by run o s)) e)) before
       comes_by (Some one) e may = comes_at one e one.to refl (λ z. subst (λ b. MayTold b run one s) (to_zero one.to z) may)
 
       pub comes : MayReceive run serial s → Q (delivered serial again run s)
@@ -159,8 +165,8 @@ module _ (units ready : ℕ) (start : List Disk) (L : Turn → Type 0) (cases : 
 
     -- a line that settles ends
     pub settles : (done : Bool) → Q (settled_from done s)
-    settles true there = (cases.ends past s true here there, before)
-    settles false there = (cases.ends past s false here there, before)
+    settles true there = let r = cases.ends past s true here there before.1 in ((r.0, before.0), r.1)
+    settles false there = let r = cases.ends past s false here there before.1 in ((r.0, before.0), r.1)
 
     -- a generation is seen
     target_sight : Q (in_scene (see_line 0 w) s)
@@ -198,7 +204,13 @@ module _ (units ready : ℕ) (start : List Disk) (L : Turn → Type 0) (cases : 
         turned notes.Tick tt 0 x.outbox (with_target x.node (with_note notes.Tick w)) s.media refl (others_inner x.outbox.sides (hand_law.ticks w.target)) (cases.ticks past s (hand_law.ticks w.target))
 
     -- a transaction times out, or the line is refused
-    module _ (line serial : ℕ) (refusal : (v : WorldState) → v.fresh ≡ w.fresh → Q (in_scene (refused line no_packet v) s)) where
+    module _ (line serial : ℕ) (refusal : (v : WorldState) → v.fresh ≡ w.fresh → Stays w v → Q (in_scene (refused line no_packet v) s)) where
+      unchanged : Stays w w
+      unchanged = (refl, (refl, refl))
+
+      of_initiator : (i : ℕ) (state : InitiatorState) → Stays w (with_initiator i state w)
+      of_initiator i state = (refl, (refl, length-set w.initiators i state))
+
       abbrev W : WorldState → Type 0
       W v = Q (in_scene v s)
 
@@ -210,7 +222,7 @@ module _ (units ready : ℕ) (start : List Disk) (L : Turn → Type 0) (cases : 
             subst (λ n. W (handed_out n 0 t.outbox v)) (sym zero_node)
             (turned (notes.TimedOut serial) tt 0 t.outbox v s.media refl
             (others_inner t.outbox.sides told) (cases.late past s serial request done t found zero_node e told))
-        target_lapse zero_node (Err stale, t) e = refusal (with_target w.target w) refl
+        target_lapse zero_node (Err stale, t) e = refusal (with_target w.target w) refl unchanged
 
         own_lapse : (i : ℕ) → request.node ≡ suc i → i < length w.initiators → (x : Bool × Called) → expire_step request.label empty_outbox (initiator_at w i) ≡ x → W (timed_out line serial (suc i) (packets.at_initiator i x w))
         own_lapse i node_is inside (true, (outbox, state)) e =
@@ -218,7 +230,7 @@ module _ (units ready : ℕ) (start : List Disk) (L : Turn → Type 0) (cases : 
             let told : AreOwn outbox.sides = subst (λ (z : Bool × Called). own.At z.1) e (own.expires request.label empty_outbox (initiator_at w i) tt) in
             turned (notes.TimedOut serial) tt (suc i) outbox v s.media refl
             (own_inner outbox.sides told) (cases.late_own past s serial request i outbox state found node_is inside e told)
-        own_lapse i node_is inside (false, (outbox, state)) e = refusal (with_initiator i state w) refl
+        own_lapse i node_is inside (false, (outbox, state)) e = refusal (with_initiator i state w) refl (of_initiator i state)
 
         abbrev ExpiredAt : ℕ → ℕ → WorldState
         ExpiredAt n j = timed_out line serial n (cond (nat_lt j (length w.initiators)) (packets.at_initiator j (expire_step request.label empty_outbox (initiator_at w j)) w) (false, (empty_outbox, w)))
@@ -231,7 +243,7 @@ module _ (units ready : ℕ) (start : List Disk) (L : Turn → Type 0) (cases : 
 
             by : (b : Bool) → nat_lt i (length w.initiators) ≡ b → W (timed_out line serial (suc i) (cond b (packets.at_initiator i (expire_step request.label empty_outbox (initiator_at w i)) w) (false, (empty_outbox, w))))
             by true f = own_lapse i node_is (grind (arith, nat_tests)) (expire_step request.label empty_outbox (initiator_at w i)) refl
-            by false f = refusal w refl
+            by false f = refusal w refl unchanged
 
         lapses_at : (node : ℕ) → request.node ≡ node → W (timed_out line serial request.node (expires request w))
         unfolding expires target_expired
@@ -243,7 +255,7 @@ module _ (units ready : ℕ) (start : List Disk) (L : Turn → Type 0) (cases : 
             subst (λ b. W (timed_out line serial request.node (cond b (packets.at_target (target_expired request w.target) w) (initiator_expires request w)))) (sym other) (own_lapses i e)
 
       late_by : (request : Option Request) → find w.requests serial ≡ request → W (timeout_of request line serial w)
-      late_by None e = refusal w refl
+      late_by None e = refusal w refl unchanged
       late_by (Some request) e = lapses_at request e request.node refl
 
       pub late : W (timeout_line line serial w)
@@ -251,7 +263,7 @@ module _ (units ready : ℕ) (start : List Disk) (L : Turn → Type 0) (cases : 
       late = late_by (find w.requests serial) refl
 
   -- ---- a line
-  module _ (past : List Moment) (s : Scene) (here : At past s) (before : E (hist past s.world)) (line : ℕ) where
+  module _ (past : List Moment) (s : Scene) (here : At past s) (before : E (hist past s.world) s) (line : ℕ) where
     abbrev first : WorldState
     first = without_notes s.world
 
@@ -260,22 +272,23 @@ module _ (units ready : ℕ) (start : List Disk) (L : Turn → Type 0) (cases : 
       now = asked line event ∷ hist past s.world
 
       abbrev Goes : Scene → Type 0
-      Goes t = At now t → E (hist now t.world)
+      Goes t = At now t → E (hist now t.world) t
 
-      plain : (rest : List Note) (t : Scene) → Brings line s event rest → t.world.fresh ≡ onto rest [] → AllInner rest → Goes t
-      plain rest t brings fresh inner there =
-          subst (λ ns. E (map said ns ++ now)) (sym fresh) (by_line L line event rest (hist past s.world) inner (cases.lines past s line event rest t brings fresh here there) before)
+      plain : (rest : List Note) (t : Scene) → Brings line s event rest → t.world.fresh ≡ onto rest [] → AllInner rest → Stays s.world t.world → Goes t
+      plain rest t brings fresh inner stays there =
+          let r = cases.lines past s line event rest t brings fresh here there stays before.1 in
+          (subst (λ ns. Each (map said ns ++ now)) (sym fresh) (by_line L line event rest (hist past s.world) inner r.0 before.0), r.1)
 
-      refuses_in : (number : ℕ) (v : WorldState) → v.fresh ≡ [] → Goes (in_scene (refused line number v) s)
-      refuses_in number v none = plain (notes.Refused line number ∷ []) (in_scene (refused line number v) s) (refuses event number) (ap (λ ns. notes.Refused line number ∷ ns) none) (tt, tt)
+      refuses_in : (number : ℕ) (v : WorldState) → v.fresh ≡ [] → Stays s.world v → Goes (in_scene (refused line number v) s)
+      refuses_in number v none stays = plain (notes.Refused line number ∷ []) (in_scene (refused line number v) s) (refuses event number) (ap (λ ns. notes.Refused line number ∷ ns) none) (tt, tt) stays
 
       refuses_line : (number : ℕ) → Goes (in_scene (refused line number first) s)
-      refuses_line number = refuses_in number first refl
+      refuses_line number = refuses_in number first refl (refl, (refl, refl))
 
       -- a node is called: the line has no notes of its own
       module _ (is_call : calls_nodes event ≡ true) (opened : At now (begun s)) where
-        begins_now : E (hist now (begun s).world)
-        begins_now = plain [] (begun s) (calls event is_call) refl tt opened
+        begins_now : E (hist now (begun s).world) (begun s)
+        begins_now = plain [] (begun s) (calls event is_call) refl tt (refl, (refl, refl)) opened
 
         one_comes : (serial : ℕ) (again : Bool) (b : Bool) (run : List (Option Told)) → MayIf b serial run (begun s) → Goes (delivered_if b line serial again run (begun s))
         one_comes serial again true [] may = absurd may
@@ -287,15 +300,16 @@ module _ (units ready : ℕ) (start : List Disk) (L : Turn → Type 0) (cases : 
     module _ (i : ℕ) (action : Action) (inside : i < length s.world.initiators) where
       acts_by : (x : Option ℕ × Called) → act_step action empty_outbox (initiator_at s.world i) ≡ x → Goes (events.Act i action) (in_scene (acted_by x line i action first) s)
       acts_by (Some number, (outbox, state)) e =
-          plain (events.Act i action) (notes.Refused line number ∷ []) (in_scene (refused line number (with_initiator i state first)) s) (refuses_action i action number (ap (λ (z : Option ℕ × Called). z.0) e)) refl (tt, tt)
+          plain (events.Act i action) (notes.Refused line number ∷ []) (in_scene (refused line number (with_initiator i state first)) s) (refuses_action i action number (ap (λ (z : Option ℕ × Called). z.0) e)) refl (tt, tt) (refl, (refl, length-set first.initiators i state))
       acts_by (None, (outbox, state)) e =
           let v = with_initiator i state first in
           let rest = handed (i + 1) (weight_in action) outbox v in
           let told : AreOwn outbox.sides = subst (λ (z : Option ℕ × Called). own.At z.1) e (own.acts action empty_outbox (initiator_at s.world i) tt) in
           let inner = handed_inner (i + 1) (weight_in action) outbox v (own_inner outbox.sides told) in
           λ there.
-          subst (λ ns. E (map said ns ++ now (events.Act i action))) (sym (handed_fresh (i + 1) (weight_in action) outbox v))
-          (by_line L line (events.Act i action) rest (hist past s.world) inner (cases.acts past s line i action outbox state inside e told here there) before)
+          let r = cases.acts past s line i action outbox state inside e told here there before.1 in
+          (subst (λ ns. Each (map said ns ++ now (events.Act i action))) (sym (handed_fresh (i + 1) (weight_in action) outbox v))
+          (by_line L line (events.Act i action) rest (hist past s.world) inner r.0 before.0), r.1)
 
       acts : Goes (events.Act i action) (in_scene (acted line i action first) s)
       unfolding acted
@@ -304,14 +318,14 @@ module _ (units ready : ℕ) (start : List Disk) (L : Turn → Type 0) (cases : 
     -- the lines of the bus
     resets_bus : (physical : List ℕ) → Goes (events.Reset physical) (in_scene (reset_line physical first) s)
     unfolding reset_line
-    resets_bus physical = plain (events.Reset physical) (notes.Reset _ ∷ []) (in_scene (reset_line physical first) s) (resets physical _ refl) refl (tt, tt)
+    resets_bus physical = plain (events.Reset physical) (notes.Reset _ ∷ []) (in_scene (reset_line physical first) s) (resets physical _ refl) refl (tt, tt) (refl, (refl, refl))
 
     loses_packet : (serial : ℕ) → Goes (events.Lose serial) (in_scene (lose_line line serial first) s)
     unfolding lose_line
     loses_packet serial = by (is_in_flight serial first)
       where
         by : (b : Bool) → Goes (events.Lose serial) (in_scene (cond b (lost serial first) (refused line no_packet first)) s)
-        by true = plain (events.Lose serial) (notes.Lost serial ∷ []) (in_scene (lost serial first) s) (loses serial) refl (tt, tt)
+        by true = plain (events.Lose serial) (notes.Lost serial ∷ []) (in_scene (lost serial first) s) (loses serial) refl (tt, tt) (refl, (refl, refl))
         by false = refuses_line (events.Lose serial) no_packet
 
     injects_to : (i : ℕ) (bytes : List ℕ) (to : Option ℕ) → Goes (events.Inject i bytes) (in_scene (injected to line (i + 1) bytes first) s)
@@ -320,7 +334,7 @@ module _ (units ready : ℕ) (start : List Disk) (L : Turn → Type 0) (cases : 
     injects_to i bytes (Some to) =
         let n = first.store.last + 1 in
         let g = (topology_at first.generations (i + 1)).generation in
-        plain (events.Inject i bytes) (notes.Injected n ∷ notes.Sent n g (i + 1) to bytes ∷ []) (in_scene (posted (i + 1) to true bytes first) s) (injects i bytes n g (i + 1) to) refl (tt, (tt, tt))
+        plain (events.Inject i bytes) (notes.Injected n ∷ notes.Sent n g (i + 1) to bytes ∷ []) (in_scene (posted (i + 1) to true bytes first) s) (injects i bytes n g (i + 1) to) refl (tt, (tt, tt)) (refl, (refl, refl))
 
     injects_packet : (i : ℕ) (bytes : List ℕ) → Goes (events.Inject i bytes) (in_scene (inject_line line i bytes first) s)
     unfolding inject_line
@@ -331,12 +345,12 @@ module _ (units ready : ℕ) (start : List Disk) (L : Turn → Type 0) (cases : 
     sets_a_key unit key = by (nat_lt unit (length first.target.units))
       where
         by : (b : Bool) → Goes (events.Key unit key) (in_scene (cond b (with_note (notes.Key unit) (with_target (with_key unit key first.target) first)) (refused line no_unit first)) s)
-        by true = plain (events.Key unit key) (notes.Key unit ∷ []) (in_scene (with_note (notes.Key unit) (with_target (with_key unit key first.target) first)) s) (sets_key unit key) refl (tt, tt)
+        by true = plain (events.Key unit key) (notes.Key unit ∷ []) (in_scene (with_note (notes.Key unit) (with_target (with_key unit key first.target) first)) s) (sets_key unit key) refl (tt, tt) (refl, (refl, refl))
         by false = refuses_line (events.Key unit key) no_unit
 
     -- deliveries one after the other
     module _ (most : Option ℕ) (is_call : calls_nodes (more_deliveries most) ≡ true) (between : (told : List (Option Told)) → MayAll told (begun s) → At (now (more_deliveries most)) (after_all told (begun s))) where
-      pub all_come : (told : List (Option Told)) → MayAll told (begun s) → E (hist (now (more_deliveries most)) (after_all told (begun s)).world)
+      pub all_come : (told : List (Option Told)) → MayAll told (begun s) → E (hist (now (more_deliveries most)) (after_all told (begun s)).world) (after_all told (begun s))
       all_come [] may = begins_now (more_deliveries most) is_call (between [] tt)
       all_come (one ∷ told) may =
           next_comes (now (more_deliveries most)) (after_all told (begun s)) (between told may.1) (all_come told may.1) one may.0 (between (one ∷ told) may)
@@ -357,7 +371,7 @@ module _ (units ready : ℕ) (start : List Disk) (L : Turn → Type 0) (cases : 
       goes (events.Lose serial) told q may = loses_packet serial
       goes (events.Timeout serial) told q may =
           let e = events.Timeout serial in
-          late (now e) (begun s) (opened e refl) (begins_now e refl (opened e refl)) line serial (λ v none. refuses_in e no_packet v none)
+          late (now e) (begun s) (opened e refl) (begins_now e refl (opened e refl)) line serial (λ v none stays. refuses_in e no_packet v none stays)
       goes (events.Step count) told q may = λ there. all_come (Some count) refl (between (Some count)) told may.may
       goes events.Settle told q may =
           let t = after_all told (begun s) in
@@ -367,14 +381,22 @@ module _ (units ready : ℕ) (start : List Disk) (L : Turn → Type 0) (cases : 
       goes (events.Key unit key) told q may = sets_a_key unit key
 
 -- ---- a run
-module _ (L : List Disk → Turn → Type 0) (cases : (units ready : ℕ) (start : List Disk) → 0 < units → Cases units ready start (L start)) (line : ℕ) (run : Run) (few : run.initiators ≤ 4) (has : 0 < run.units) (small : run.units ≤ 4) (size : length run.start.disks ≡ run.units) where
+-- what is carried holds where a run begins
+abbrev pub Begins : (List Disk → List Moment → Scene → Type 0) → Type 0
+Begins K =
+    (line : ℕ) (run : Run) → 0 < run.units → (let past = first_past line run.initiators run.ready in
+    Place run.units (ready_logins run.initiators run.ready) run.start.disks past (beginning run) → K run.start.disks (hist past (beginning run).world) (beginning run))
+
+module _ (K : List Disk → List Moment → Scene → Type 0) (L : List Disk → Turn → Type 0) (begins : Begins K)
+    (cases : (units ready : ℕ) (start : List Disk) → 0 < units → CarriedCases units ready start (K start) (L start))
+    (line : ℕ) (run : Run) (few : run.initiators ≤ 4) (has : 0 < run.units) (small : run.units ≤ 4) (size : length run.start.disks ≡ run.units) where
   abbrev logins : ℕ
   logins = ready_logins run.initiators run.ready
 
   abbrev disks : List Disk
   disks = run.start.disks
 
-  abbrev own_cases : Cases run.units logins disks (L disks)
+  abbrev own_cases : CarriedCases run.units logins disks (K disks) (L disks)
   own_cases = cases run.units logins disks has
 
   -- behind some of its lines
@@ -383,18 +405,23 @@ module _ (L : List Disk → Turn → Type 0) (cases : (units ready : ℕ) (start
     holds : Holding run.units logins disks past (length entries) w
     is : hist past w ≡ moments_behind line run entries
     turns : Turns (L disks) (hist past w) []
+    kept : K disks (hist past w) (after (beginning run) entries)
 
-  first_behind : Behind [] (beginning run).world
+  first_behind : (let none : List Entry = [] in length none + 2 < 2 ^ 32) → Behind [] (beginning run).world
   unfolding new_world
-  first_behind = record {
-    past = first_past line run.initiators run.ready;
-    holds = first_holds run.initiators run.ready run.units line disks few small size;
-    is = refl;
-    turns = (own_cases.begins line run.initiators run.ready, tt);
-  }
+  first_behind short =
+      let past = first_past line run.initiators run.ready in
+      let holds = first_holds run.initiators run.ready run.units line disks few small size in
+      record {
+        past = past;
+        holds = holds;
+        is = refl;
+        turns = (own_cases.begins line run.initiators run.ready, tt);
+        kept = begins line run has (ended_place line run few has small size [] short tt tt past holds refl);
+      }
 
   all_behind : (entries : List Entry) → length entries + 2 < 2 ^ 32 → AreEntries (beginning run) entries → AreLines run entries → Behind entries (after (beginning run) entries).world
-  all_behind [] short every fit = first_behind
+  all_behind [] short every fit = first_behind short
   all_behind (e ∷ earlier) short every fit =
       let short_then : length earlier + 2 < 2 ^ 32 = omega arith in
       let b = all_behind earlier short_then every.1 fit.1 in
@@ -408,14 +435,16 @@ module _ (L : List Disk → Turn → Type 0) (cases : (units ready : ℕ) (start
       ap (λ ns. map said ns ++ now) (sym every.0.notes_are) ∙ ap (λ ms. map said e.notes ++ asked e.line e.event ∷ ms) b.is in
       let there = ended_place line run few has small size (e ∷ earlier) short every fit now holds_then is_then in
       let here = ended_place line run few has small size earlier short_then every.1 fit.1 b.past b.holds b.is in
+      let turns_then = goes run.units logins disks (K disks) (L disks) own_cases b.past s here (b.turns, b.kept) e.line
+      (λ event r. begun_place line run few has small size earlier short_then every.1 fit.1 b.past b.holds b.is e.line event r)
+      (λ most told may. between_place line run few has small size earlier short_then every.1 fit.1 b.past b.holds b.is e.line most told may)
+      e.event e.told fit.0 every.0.may there in
       record {
         past = now;
         holds = holds_then;
         is = is_then;
-        turns = goes run.units logins disks (L disks) own_cases b.past s here b.turns e.line
-            (λ event r. begun_place line run few has small size earlier short_then every.1 fit.1 b.past b.holds b.is e.line event r)
-            (λ most told may. between_place line run few has small size earlier short_then every.1 fit.1 b.past b.holds b.is e.line most told may)
-            e.event e.told fit.0 every.0.may there;
+        turns = turns_then.0;
+        kept = turns_then.1;
       }
 
   pub turns_after : (entries : List Entry) → length entries + 2 < 2 ^ 32 → AreEntries (beginning run) entries → AreLines run entries → EachTurn (L disks) (moments_behind line run entries)
@@ -433,12 +462,31 @@ module _ (L : List Disk → Turn → Type 0) (cases : (units ready : ℕ) (start
       let s = after (beginning run) entries in
       let here = ended_place line run few has small size entries short every fit b.past b.holds b.is in
       subst (λ ms. EachTurn (L disks) (map said (after_all told (begun s)).world.fresh ++ asked next (more_deliveries most) ∷ ms)) b.is
-      (all_come run.units logins disks (L disks) own_cases b.past s here b.turns next most (more_calls most)
-      (λ told may. between_place line run few has small size entries short every fit b.past b.holds b.is next most told may) told may)
+      (all_come run.units logins disks (K disks) (L disks) own_cases b.past s here (b.turns, b.kept) next most (more_calls most)
+      (λ told may. between_place line run few has small size entries short every fit b.past b.holds b.is next most told may) told may).0
 
 -- ---- so it is of every run
-pub of_every_run : (L : List Disk → Turn → Type 0) → ((units ready : ℕ) (start : List Disk) → 0 < units → Cases units ready start (L start)) → OfEveryRun (λ start past. EachTurn (L start) past)
-of_every_run L cases = record {
-  after_lines = λ line run r has small size. turns_after L cases line run r.few has small size run.entries r.short r.entries r.lines;
-  between = λ line run r has small size next most told may. turns_between L cases line run r.few has small size run.entries r.short r.entries r.lines next most told may;
+pub of_every_carried : (K : List Disk → List Moment → Scene → Type 0) (L : List Disk → Turn → Type 0) → Begins K → ((units ready : ℕ) (start : List Disk) → 0 < units → CarriedCases units ready start (K start) (L start)) → OfEveryRun (λ start past. EachTurn (L start) past)
+of_every_carried K L begins cases = record {
+  after_lines = λ line run r has small size. turns_after K L begins cases line run r.few has small size run.entries r.short r.entries r.lines;
+  between = λ line run r has small size next most told may. turns_between K L begins cases line run r.few has small size run.entries r.short r.entries r.lines next most told may;
 }
+
+-- where nothing is carried
+carried : (units ready : ℕ) (start : List Disk) (L : Turn → Type 0) → Cases units ready start L → CarriedCases units ready start (λ ms s. Unit {0}) L
+carried units ready start L cases = record {
+  heard = λ past s serial again run one found zero_to may others here behind judged k. (cases.heard past s serial again run one found zero_to may others here behind judged, tt);
+  heard_own = λ past s serial again one i found to_is inside own here behind judged k. (cases.heard_own past s serial again one i found to_is inside own here behind judged, tt);
+  late = λ past s serial request done t found node_is e others here behind judged k. (cases.late past s serial request done t found node_is e others here behind judged, tt);
+  late_own = λ past s serial request i outbox state found node_is inside e own here behind judged k. (cases.late_own past s serial request i outbox state found node_is inside e own here behind judged, tt);
+  sees = λ past s others here behind judged k. (cases.sees past s others here behind judged, tt);
+  sees_own = λ past s i inside own here behind judged k. (cases.sees_own past s i inside own here behind judged, tt);
+  ticks = λ past s others here behind judged k. (cases.ticks past s others here behind judged, tt);
+  ends = λ past s done here behind k. (cases.ends past s done here behind, tt);
+  acts = λ past s line i action outbox state inside e own here behind k. (cases.acts past s line i action outbox state inside e own here behind, tt);
+  lines = λ past s line event rest behind brings fresh here there stays k. (cases.lines past s line event rest behind brings fresh here there, tt);
+  begins = λ line initiators is_ready. cases.begins line initiators is_ready;
+}
+
+pub of_every_run : (L : List Disk → Turn → Type 0) → ((units ready : ℕ) (start : List Disk) → 0 < units → Cases units ready start (L start)) → OfEveryRun (λ start past. EachTurn (L start) past)
+of_every_run L cases = of_every_carried (λ start ms s. Unit {0}) L (λ line run has there. tt) (λ units ready start has. carried units ready start (L start) (cases units ready start has))

@@ -1,5 +1,6 @@
 -- The laws of turns of every run, together.
 use Rattle.turn_laws.specs.Together.{TurnsLaw}
+use Rattle.turn_laws.proofs.Alone.{alone_law}
 use Rattle.turn_laws.proofs.Announcing.{announced_law}
 use Rattle.turn_laws.proofs.AnswerRuns.{answered_law}
 use Rattle.turn_laws.proofs.Cleared.{cleared_law}
@@ -40,6 +41,7 @@ turns_law = record {
     failures = failures_law.after_lines line run is some most size;
     failing = failing_law.after_lines line run is some most size;
     announced = announced_law.after_lines line run is some most size;
+    alone = alone_law.after_lines line run is some most size;
   };
   between = λ line run is some most size next deliveries told may. record {
     judgement = judgement_run_law.between line run is some most size next deliveries told may;
@@ -60,5 +62,6 @@ turns_law = record {
     failures = failures_law.between line run is some most size next deliveries told may;
     failing = failing_law.between line run is some most size next deliveries told may;
     announced = announced_law.between line run is some most size next deliveries told may;
+    alone = alone_law.between line run is some most size next deliveries told may;
   };
 }

@@ -1,6 +1,7 @@
 pub mod Runs
 pub mod Cleared
 pub mod Cuts
+pub mod Alone
 pub mod Announced
 pub mod Faults
 pub mod Ends

@@ -9,6 +9,7 @@ use Rattle.sbp_laws.specs.LoginLaw.{LoginLaw}
 use Rattle.sbp_laws.specs.SentAnswers.{AnswersLaw}
 use Rattle.sbp_laws.specs.SentPackets.{SentAt}
 use Rattle.sbp_laws.specs.Turns.{EachMoment, EachTurn}
+use Rattle.turn_laws.specs.Alone.{PushesAlone}
 use Rattle.turn_laws.specs.Announced.{AnnouncesWhereDue}
 use Rattle.turn_laws.specs.Cleared.{ClearsWhereDue}
 use Rattle.turn_laws.specs.Codes.{EndsWithCodes}
@@ -42,6 +43,7 @@ pub record LawfulInTurns (start : List Disk) (past : List Moment) : Type 0 where
   pub failures : EachTurn (FailsWhereDue start) past
   pub failing : EachTurn (FailsByRows start) past
   pub announced : EachTurn (AnnouncesWhereDue start) past
+  pub alone : EachTurn (PushesAlone start) past
 
 abbrev pub TurnsLaw : Type 0
 TurnsLaw = OfEveryRun LawfulInTurns

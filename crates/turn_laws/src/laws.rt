@@ -1,4 +1,5 @@
 //! The laws of turns, each of every run of the machine of up to four initiators with one to four units.
+ghost use Rattle.turn_laws.specs.Alone.{AloneLaw};
 ghost use Rattle.turn_laws.specs.Announced.{AnnouncedLaw};
 ghost use Rattle.turn_laws.specs.Answers.{AnsweredLaw};
 ghost use Rattle.turn_laws.specs.Cleared.{ClearedLaw};
@@ -151,6 +152,14 @@ pub fn judgements_are_lawful()
 #[tactic(auto, using(crate::proofs::Announcing::announced_law))]
 pub fn discs_are_announced_where_due()
     ensures { AnnouncedLaw }
+{}
+
+/// In every run, whatever anybody injected, an unsolicited status is sent to an initiator only where no earlier
+/// one to it is under way and the label of none rests: the half of `pushes` of the media law that keeps a second
+/// one back.
+#[tactic(auto, using(crate::proofs::Alone::alone_law))]
+pub fn unsolicited_statuses_go_alone()
+    ensures { AloneLaw }
 {}
 
 /// In each turn of every run, whatever anybody injected, a failure of the management operation is told exactly

@@ -1,0 +1,149 @@
+-- What is carried of the target's unsolicited statuses is kept by each call of the target: each packet that it hands out has its row, and a row that is new is to a node that had none pending.
+use Rattle.std.proofs.Common.{◌≡◌, ◌∙◌, refl, sym, ap, subst, ℕ, ◌<◌, ◌≤◌, List, [], ◌∷◌, length, Some}
+use Rattle.bus_transactions.specs.Wire.{transaction}
+use Rattle.bus_transactions.proofs.Facts.{AskedBy, asked_is, begun_asked}
+use Rattle.label_table.specs.Layer.{Layer}
+use Rattle.command_agent.specs.declared.step.Which.{Which}
+use Rattle.rbc_disk.specs.Disk.{Disk}
+use Rattle.rbc_disk.specs.Held.{Held as Media}
+use Rattle.sbp_bus.specs.Generations.{GenerationsState, id_of, topology_at}
+use Rattle.sbp_journal.specs.Outgoings.{OutboxState}
+use Rattle.sbp_journal.specs.Run.{Moment, said}
+use Rattle.sbp_journal.specs.Transactions.{Kind, Transaction, part_of, request}
+use Rattle.sbp_journal.specs.Wire.{Terms, terms, waits}
+use Rattle.sbp_journal.specs.declared.note.Note.{Note}
+use Rattle.sbp_journal.specs.declared.outbox.Outgoing.{Outgoing}
+use Rattle.sbp_laws.specs.Targets.{for_agent, for_manager, for_nobody, over, purpose_of, target_at}
+use Rattle.sbp_target.specs.Calls.{Call, alone}
+use Rattle.sbp_target.specs.Histories.Transactions.{IsUnderWay}
+use Rattle.sbp_target.specs.Nodes.{NodeState}
+use Rattle.sbp_target.specs.Nodes as target
+use Rattle.sbp_target.specs.declared.purpose.Purpose.{Purpose}
+use Rattle.sbp_target.specs.declared.purpose.Purpose.TheVariants as purposes
+use Rattle.sbp_world.specs.Agents.Serials.{IsHanded}
+use Rattle.sbp_world.specs.Handing.{handed_out}
+use Rattle.sbp_world.specs.Hosts.Handing.{AreOthers}
+use Rattle.sbp_world.specs.Worlds.{Scene, WorldState}
+use Rattle.sbp_world.proofs.Agents.Handed.{are_handed}
+use Rattle.sbp_world.proofs.Agents.Management.Holding.{known_id, past_terms}
+use Rattle.sbp_world.proofs.Agents.Management.Still.{hist}
+use Rattle.sbp_world.proofs.Lists.SentOwned.{AllOwned, owned_here}
+use Rattle.sbp_world.proofs.Wire.Bus.{node_has}
+use Rattle.sbp_world.proofs.Wire.Nodes.{handed_alike}
+use Rattle.sbp_world.proofs.Wire.Starts.{laws_of}
+use Rattle.turn_laws.proofs.Handed.{handed}
+use Rattle.turn_laws.proofs.LaterNotes.{AllLeave, ArePlain, others_handed}
+use Rattle.turn_laws.proofs.LaterTerms.{Clean, New, Own, Pushes}
+use Rattle.turn_laws.proofs.PendingKept.{Id, Pending, Rows}
+use Rattle.turn_laws.proofs.PendingTurns.{Kept, turn_kept, turn_later}
+use Rattle.turn_laws.proofs.Places.{Place}
+use Rattle.turn_laws.proofs.PushSerials.{Has, pushes_are_nobodys}
+use Rattle.turn_laws.proofs.StatusRows.{Row}
+
+-- whom a packet is for
+agent_not : {A : Type 0} (place : ℕ) (which : Which) → for_agent place which ≡ for_nobody → A
+agent_not place which e = absurd (let x : for_agent place which ≡ for_nobody = e in cc)
+
+manager_not : {A : Type 0} → for_manager ≡ for_nobody → A
+manager_not e = absurd (let x : for_manager ≡ for_nobody = e in cc)
+
+-- any FIFO
+abbrev pub Any : ℕ → ℕ → Type 0
+Any to offset = Unit {0}
+
+-- each request has a row that belongs to somebody
+abbrev pub Owner : Layer Purpose → GenerationsState → ℕ → List ℕ → Type 0
+Owner layer g to bytes = (number : ℕ) (kind : Kind) → part_of bytes ≡ request number kind → (p : Purpose) × IsUnderWay layer (Some p) (id_of (topology_at g 0) to) number
+
+leave_all : (layer : Layer Purpose) (g : GenerationsState) (packets : List Outgoing) → AllOwned Any layer packets → AllLeave (Owner layer g) 0 g packets
+leave_all layer g [] a = tt
+leave_all layer g (packet ∷ later) a =
+    ((λ to e number kind f. let o = a.0 number kind f in (o.purpose, subst (λ id. IsUnderWay layer (Some o.purpose) id number) (sym (node_has (topology_at g 0) packet.to to e).id_is) o.row)), leave_all layer g later a.1)
+
+module _ (units ready : ℕ) (has : 0 < units) (start : List Disk) (past : List Moment) (s : Scene) (here : Place units ready start past s) where
+  abbrev w : WorldState
+  w = s.world
+
+  abbrev ms : List Moment
+  ms = hist past w
+
+  abbrev node : NodeState
+  node = w.target
+
+  abbrev nodes : ℕ
+  nodes = length w.initiators
+
+  pub all_owned : (call : Call) → AllOwned Any (alone call node).node.layer (alone call node).outbox.packets
+  all_owned call = owned_here w here.holds has Any (λ place other is live. tt) call
+
+  -- ---- behind what a call of the target hands out
+  module _ (note : Note) (outbox : OutboxState) (v : WorldState) (media : Media) (fresh_is : v.fresh ≡ note ∷ w.fresh) (there : Place units ready start past (record { world = handed_out 0 0 outbox v; media = media }))
+      (others : AreOthers outbox.sides) (owned : AllOwned Any v.target.layer outbox.packets) (clean : Clean (terms (said note ∷ ms))) where
+    abbrev behind : WorldState
+    behind = handed_out 0 0 outbox v
+
+    abbrev base : List Moment
+    base = said note ∷ ms
+
+    abbrev now : List Moment
+    now = hist past behind
+
+    abbrev Q : ℕ → List ℕ → Type 0
+    Q to bytes = Owner v.target.layer v.generations to bytes
+
+    plain : ArePlain Q 0 (handed 0 0 outbox v)
+    plain = others_handed Q 0 0 outbox v others (leave_all v.target.layer v.generations outbox.packets owned)
+
+    nobodys : (r : ℕ) → Has (Pushes start now) r → purpose_of (over (target_at start now)) r ≡ for_nobody
+    nobodys r h = pushes_are_nobodys start now (laws_of past behind there.holds.sound.stands).serials r h
+
+    module _ (r : ℕ) (h : Has (Pushes start now) r) (x : New Q (terms base) (terms now) r) where
+      to_there : x.packet.to ≤ length behind.initiators
+      to_there = (there.holds.sound.stands.is.knows.ours r x.packet (ap (λ (y : Terms). y.sent r) (past_terms behind there.holds.sound.stands) ∙ x.sent)).to
+
+      generation : (terms now).generation 0 ≡ (terms base).generation 0
+      generation = (turn_later units ready has start past (note ∷ w.fresh) 0 0 outbox v media fresh_is there Q plain clean).generation 0
+
+      asks : AskedBy x.packet (Own (terms base) x.packet.to x.label)
+      asks = asked_is x.packet (Own (terms base) x.packet.to x.label) (begun_asked x.packet (Own (terms base) x.packet.to x.label) x.begun).1
+
+      label_is : x.label ≡ asks.label
+      label_is = ap (λ (y : Transaction). y.label) asks.is
+
+      its : (p : Purpose) × IsUnderWay v.target.layer (Some p) (id_of (topology_at v.generations 0) x.packet.to) asks.label
+      its = x.one asks.label asks.kind asks.part
+
+      id_is : id_of (topology_at v.generations 0) x.packet.to ≡ Id (terms now) x.packet.to
+      id_is =
+          sym (ap (λ g. id_of (topology_at g 0) x.packet.to) (handed_alike 0 0 outbox v).generations)
+          ∙ sym (known_id behind there.holds.sound.stands x.packet.to to_there)
+
+      under : IsUnderWay behind.target.layer (Some its.0) (Id (terms now) x.packet.to) x.label
+      under =
+          subst (λ (n : NodeState). IsUnderWay n.layer (Some its.0) (Id (terms now) x.packet.to) x.label) (sym (handed_alike 0 0 outbox v).target)
+          (subst (λ id. IsUnderWay v.target.layer (Some its.0) id x.label) id_is
+          (subst (λ n. IsUnderWay v.target.layer (Some its.0) (id_of (topology_at v.generations 0) x.packet.to) n) (sym label_is) its.1))
+
+      waiting : (terms now).held (Own (terms now) x.packet.to x.label) ≡ waits x.kind r
+      waiting = ap (λ g. (terms now).held (transaction g 0 x.packet.to x.label)) generation ∙ x.held
+
+      handed_so : (p : Purpose) → IsUnderWay behind.target.layer (Some p) (Id (terms now) x.packet.to) x.label → IsHanded (over (target_at start now)) behind.target (Some p) (Id (terms now) x.packet.to) x.label r
+      handed_so p u =
+          let a = there.agents in
+          (are_handed units ready has start behind there.holds).all a.requests x.packet.to x.label x.kind r (Some p) a.are a.known waiting u
+
+      row_by : (p : Purpose) → IsUnderWay behind.target.layer (Some p) (Id (terms now) x.packet.to) x.label → Row behind.target.layer (Id (terms now) x.packet.to) x.label
+      row_by purposes.Unsolicited u = u
+      row_by purposes.Management u = manager_not (sym ((handed_so purposes.Management u).operation refl) ∙ nobodys r h)
+      row_by (purposes.Agent place) u = let f = (handed_so (purposes.Agent place) u).agent place refl in agent_not place f.which (sym f.is ∙ nobodys r h)
+
+      new_row : Row behind.target.layer (Id (terms now) x.packet.to) x.label
+      new_row = row_by its.0 under
+
+    pub target_kept : length v.initiators ≡ nodes → (layer : Layer Purpose) (pending : List ℕ) → Pending nodes (terms base) (Pushes start base) layer pending → Rows layer v.target.layer pending v.target.pending → Kept start now (record { world = behind; media = media })
+    target_kept count layer pending k rows =
+        let alike = handed_alike 0 0 outbox v in
+        let count_there : length behind.initiators ≡ nodes = ap (λ xs. length xs) alike.initiators ∙ count in
+        turn_kept units ready has start past (note ∷ w.fresh) 0 0 outbox v media fresh_is there Q plain clean nodes count_there layer pending k
+        (subst (λ (x : NodeState). Rows layer x.layer pending x.pending) (sym alike.target) rows)
+        (λ z r h x. (subst (λ n. x.packet.to ≤ n) count_there (to_there r h x), new_row r h x))

@@ -1,0 +1,104 @@
+-- A transaction of the target that ends: the rows of its unsolicited statuses are those from before but for its own, and its label is under way no more.
+use Rattle.std.proofs.Common.{◌≡◌, ◌∙◌, refl, sym, ap, subst, ℕ, Bool, true, false, cond, List, Option, Some}
+use Rattle.async_packet.specs.Labels.{LabelParts}
+use Rattle.label_table.specs.History as wire
+use Rattle.label_table.specs.History.{Life, ended, is_same, under_way}
+use Rattle.label_table.specs.Layer.{Layer}
+use Rattle.label_table.specs.Peers.{purpose_for, state_for}
+use Rattle.label_table.specs.declared.place.LabelState.TheVariants as states
+use Rattle.label_table.specs.declared.reply.ReplyKind.{ReplyKind}
+use Rattle.label_table.proofs.Calls.{after_kept}
+use Rattle.sbp_target.specs.Nodes.{NodeState}
+use Rattle.sbp_target.specs.declared.purpose.Purpose.{Purpose}
+use Rattle.sbp_target.specs.declared.purpose.Purpose.TheVariants as purposes
+use Rattle.sbp_target.proofs.Histories.Primitives.{Known}
+use Rattle.sbp_target.proofs.Histories.Seats.{Lives, same_self}
+use Rattle.sbp_world.proofs.Agents.CrewSeats.{state_of}
+use Rattle.sbp_world.proofs.Common.{untrue}
+use Rattle.turn_laws.proofs.PendingKept.{Rows}
+use Rattle.turn_laws.proofs.StatusAnnounces.{Announced}
+use Rattle.turn_laws.proofs.StatusCalls.{ended_if}
+use Rattle.turn_laws.proofs.StatusRows.{Row, life_of, row_of, rows_last, rows_new, rows_one}
+
+-- the rows behind a call
+pub announced_rows : (old : Lives) (first : List ℕ) (layer : Layer Purpose) (known : Known layer old) (later : NodeState) → Announced old first later → Rows layer later.layer first later.pending
+announced_rows old first layer known later a = record {
+  stay = λ p number r. rows_last old first layer known later a p number r;
+  new = λ p number r. rows_new old first layer known later a p number r;
+  one = λ p x y r q. rows_one old first layer known later a p x y r q;
+  grows = λ p e. a.grows p e;
+}
+
+-- what is under way has not ended
+under_if : (b : Bool) (life : Life Purpose) (kind : ReplyKind) (q : Option Purpose) → cond b (ended life) life ≡ under_way kind q → (b ≡ false) × (life ≡ under_way kind q)
+under_if false life kind q e = (refl, e)
+under_if true life kind q e = absurd (over life e)
+  where
+    over : (life : Life Purpose) → ended life ≡ under_way kind q → ⊥
+    over wire.not_begun f = cc
+    over (wire.under_way k r) f = cc
+    over wire.over f = cc
+
+same_call : (a b : ReplyKind) (m n : ℕ) → states.UnderWay a m ≡ states.UnderWay b n → m ≡ n
+same_call a b m n e = cc
+
+label_is : (label : LabelParts) (number generation call : ℕ) → number ≡ label.number → generation ≡ label.generation → call ≡ label.serial → record { number = number; generation = generation; serial = call } ≡ label
+label_is label number generation call n g c =
+    ap (λ x. record { number = x; generation = generation; serial = call }) n
+    ∙ (ap (λ x. record { number = label.number; generation = x; serial = call }) g ∙ ap (λ x. record { number = label.number; generation = label.generation; serial = x }) c)
+
+module _ (lives now : Lives) (peer : ℕ) (label : LabelParts) (now_is : (p : ℕ) (l : LabelParts) → now p l ≡ cond (is_same peer label p l) (ended (lives p l)) (lives p l)) (layer left : Layer Purpose) (known : Known layer lives) (behind : Known left now) where
+  -- a transaction that is under way behind it
+  record Under (p number : ℕ) (kind : ReplyKind) (call : ℕ) : Type 0 where
+    its : LabelParts
+    numbered : its.number ≡ number
+    serial : its.serial ≡ call
+    life : now p its ≡ under_way kind (purpose_for left.peers p number)
+
+  under : (p number : ℕ) (kind : ReplyKind) (call : ℕ) → state_for left.peers p number ≡ states.UnderWay kind call → Under p number kind call
+  under p number kind call e =
+      let a = (after_kept 0xffc0 behind.steps).agree in
+      let its : LabelParts = record { number = number; generation = (wire.after 0xffc0 behind.steps).generation; serial = call } in
+      let w = ap (λ (x : Layer Purpose). state_for x.peers p number) behind.layer_is ∙ e in
+      record {
+        its = its;
+        numbered = refl;
+        serial = refl;
+        life = behind.lives_are p its ∙ (a.waits p its kind refl w ∙ ap (λ (x : Layer Purpose). under_way kind (purpose_for x.peers p number)) behind.layer_is);
+      }
+
+  abbrev Was : (p number : ℕ) (kind : ReplyKind) → LabelParts → Type 0
+  Was p number kind l = (is_same peer label p l ≡ false) × (lives p l ≡ under_way kind (purpose_for left.peers p number))
+
+  was : (p number : ℕ) (kind : ReplyKind) (call : ℕ) (u : Under p number kind call) → Was p number kind u.its
+  was p number kind call u = under_if (is_same peer label p u.its) (lives p u.its) kind (purpose_for left.peers p number) (sym (now_is p u.its) ∙ u.life)
+
+  pub row_back : (p number : ℕ) → Row left p number → Row layer p number
+  row_back p number r =
+      let l = life_of left now p number behind r in
+      row_of layer lives p number known (record { label = l.label; kind = l.kind; numbered = l.numbered; life = ended_if (is_same peer label p l.label) l.kind (lives p l.label) (sym (now_is p l.label) ∙ l.life) })
+
+  pub row_kept : (p number : ℕ) (kind : ReplyKind) (call : ℕ) → Row layer p number → state_for left.peers p number ≡ states.UnderWay kind call → Row left p number
+  row_kept p number kind call r e =
+      let u = under p number kind call e in
+      let b = was p number kind call u in
+      let a = (after_kept 0xffc0 known.steps).agree in
+      let its_purpose : purpose_for layer.peers p u.its.number ≡ purpose_for left.peers p number =
+      ap (λ (x : Layer Purpose). purpose_for x.peers p u.its.number) (sym known.layer_is) ∙ a.is_for p u.its kind (purpose_for left.peers p number) (sym (known.lives_are p u.its) ∙ b.1) in
+      let own : purpose_for left.peers p number ≡ Some purposes.Unsolicited = sym its_purpose ∙ (ap (λ n. purpose_for layer.peers p n) u.numbered ∙ r.is_for) in
+      record { kind = kind; serial = call; waits = e; is_for = own }
+
+  -- its own label
+  pub gone : (kind : ReplyKind) (purpose : Option Purpose) → lives peer label ≡ under_way kind purpose → (k : ReplyKind) (call : ℕ) → state_for left.peers peer label.number ≡ states.UnderWay k call → ⊥
+  gone kind purpose life k call e =
+      let u = under peer label.number k call e in
+      let b = was peer label.number k call u in
+      let a = (after_kept 0xffc0 known.steps).agree in
+      let one = state_of layer lives peer label kind purpose known life in
+      let two = state_of layer lives peer u.its k (purpose_for left.peers peer label.number) known b.1 in
+      let serial_is : u.its.serial ≡ label.serial =
+      same_call k kind u.its.serial label.serial (sym two ∙ (ap (λ n. state_for layer.peers peer n) u.numbered ∙ one)) in
+      let generation_is : u.its.generation ≡ label.generation =
+      a.now peer u.its k (purpose_for left.peers peer label.number) (sym (known.lives_are peer u.its) ∙ b.1) ∙ sym (a.now peer label kind purpose (sym (known.lives_are peer label) ∙ life)) in
+      let same : u.its ≡ label = label_is label u.its.number u.its.generation u.its.serial u.numbered generation_is serial_is in
+      untrue (sym (subst (λ (l : LabelParts). is_same peer label peer l ≡ false) same b.0) ∙ same_self peer label)

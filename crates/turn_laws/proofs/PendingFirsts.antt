@@ -1,0 +1,237 @@
+-- The first note of a turn: one of another node leaves the transactions of the target as they are; a packet that the target got may close one, and a time-out ends one, whose label rests.
+use Rattle.std.proofs.Common.{arith, ◌≡◌, ◌∙◌, refl, sym, ap, subst, inl, inr, ◌⊎◌, ℕ, suc, Bool, true, false, List, Option, Some, None}
+use Rattle.std.proofs.lemmas.Option.{same_Some}
+use Rattle.bus_transactions.specs.Bare.{bare}
+use Rattle.bus_transactions.specs.Rows.{shape, shape_of}
+use Rattle.bus_transactions.specs.Wire.{Due, Node}
+use Rattle.bus_transactions.proofs.Facts.{asked_is, begun_asked}
+use Rattle.label_table.specs.Layer.{Layer}
+use Rattle.label_table.specs.Peers.{state_for}
+use Rattle.async_packet.specs.Fields.{rcode_of}
+use Rattle.sbp_journal.specs.Run.{Moment}
+use Rattle.sbp_journal.specs.Transactions.{Kind, Part, Sending, Transaction, asked_by, at, begun_by, between, is_same, is_same_kind, no_packet, part_of, request, response}
+use Rattle.sbp_journal.specs.Wire.{Held, Terms, arrives, closes, closes_if, free, gets, gets_as, is_news, is_served, judges, noted, rests, terms, times_out, waits}
+use Rattle.sbp_journal.specs.declared.note.Note.TheVariants as notes
+use Rattle.sbp_laws.specs.MediaLaw.{is_pending}
+use Rattle.sbp_laws.specs.Packets.{begun_in}
+use Rattle.sbp_target.specs.declared.purpose.Purpose.{Purpose}
+use Rattle.sbp_world.specs.Wire.Wires.{StandsAt}
+use Rattle.sbp_world.specs.Worlds.{WorldState}
+use Rattle.sbp_world.proofs.Agents.Management.Still.{hist}
+use Rattle.sbp_world.proofs.Agents.Purposes.{state_bare}
+use Rattle.sbp_world.proofs.Common.{none_is, untrue}
+use Rattle.sbp_world.proofs.Wire.Bus.{holds}
+use Rattle.turn_laws.proofs.LaterNotes.{FromTarget}
+use Rattle.turn_laws.proofs.LaterTerms.{Own, free_waits, rests_waits}
+use Rattle.turn_laws.proofs.PendingEnds.{lapses}
+use Rattle.turn_laws.proofs.PendingKept.{AreTied, Id, Less}
+use Rattle.turn_laws.proofs.PendingTerms.{Same, at_it, beside, judges_same, pending_alike, pending_not, same_is}
+use Rattle.turn_laws.proofs.PushSerials.{Has}
+
+-- ---- a note that is beside the target's transactions
+pub record Beside (t now : Terms) (pushes : List ℕ) : Type 0 where
+  pub generation : now.generation 0 ≡ t.generation 0
+  pub ids : (n : ℕ) → now.ids (t.generation 0) n ≡ t.ids (t.generation 0) n
+  pub held : (n number : ℕ) → now.held (Own t n number) ≡ t.held (Own t n number)
+  pub pends : (n s : ℕ) → Has pushes s → is_pending now n s ≡ is_pending t n s
+
+pub less_beside : (t now : Terms) (pushes : List ℕ) → Beside t now pushes → Less t now pushes
+less_beside t now pushes b = record {
+  generation = b.generation;
+  ids = b.ids;
+  held = λ n number. inl (b.held n number);
+  pends = λ n s h e. sym (b.pends n s h) ∙ e;
+}
+
+pub tied_beside : (nodes : ℕ) (t now : Terms) (pushes : List ℕ) (layer : Layer Purpose) → Beside t now pushes → AreTied nodes t layer → AreTied nodes now layer
+tied_beside nodes t now pushes layer b tied n number l =
+    let id : Id now n ≡ Id t n = ap (λ g. now.ids g n) b.generation ∙ b.ids n in
+    ap (λ p. shape (state_for layer.peers p number)) id
+    ∙ (tied n number l
+    ∙ ap shape_of (sym (b.held n number) ∙ ap (λ g. now.held (record { generation = g; requester = 0; responder = n; label = number })) (sym b.generation)))
+
+-- by its parts: what it leaves of the target's
+pub record LeavesOwn (t now : Terms) : Type 0 where
+  pub generation : now.generation 0 ≡ t.generation 0
+  pub ids : (n : ℕ) → now.ids (t.generation 0) n ≡ t.ids (t.generation 0) n
+  pub sent : now.sent ≡ t.sent
+  pub held : (v : Transaction) → v.requester ≡ 0 → now.held v ≡ t.held v
+  pub current : (v : Transaction) → v.requester ≡ 0 → now.current v ≡ t.current v
+
+pub requester_is : (q : Sending) (u : Transaction) → begun_by q ≡ Some u → u.requester ≡ q.from
+requester_is q u e = ap (λ (v : Transaction). v.requester) (asked_is q u (begun_asked q u e).1).is
+
+pub beside_of : (t now : Terms) (pushes : List ℕ) → ((s : ℕ) → Has pushes s → FromTarget (t.sent s)) → LeavesOwn t now → Beside t now pushes
+beside_of t now pushes from l = record {
+  generation = l.generation;
+  ids = l.ids;
+  held = λ n number. l.held (Own t n number) refl;
+  pends = λ n s h. pending_alike n s t now (record {
+    sent = ap (λ f. f s) l.sent;
+    generation = λ u b. let z = own s h u b in ap now.generation z ∙ (l.generation ∙ sym (ap t.generation z));
+    held = λ u b. l.held u (own s h u b);
+    current = λ u b. l.current u (own s h u b);
+  });
+}
+  where
+    own : (s : ℕ) → Has pushes s → (u : Transaction) → begun_in (t.sent s) ≡ Some u → u.requester ≡ 0
+    own s h u b = let f = from s h in requester_is f.packet u (sym (ap begun_in f.is) ∙ b) ∙ f.from
+
+pub leaves_same : (t now : Terms) → Same t now → LeavesOwn t now
+leaves_same t now e = record {
+  generation = ap (λ f. f 0) e.1.0;
+  ids = λ n. ap (λ f. f (t.generation 0) n) e.1.1.1.1.1;
+  sent = e.0;
+  held = λ v z. ap (λ f. f v) e.1.1.0;
+  current = λ v z. ap (λ f. f v) e.1.1.1.0;
+}
+
+-- ---- a packet that is got
+differ : (i : ℕ) (w v : Transaction) → w.requester ≡ 0 → v.requester ≡ suc i → is_same w v ≡ false
+differ i w v e f = by (is_same w v) refl
+  where
+    by : (b : Bool) → is_same w v ≡ b → b ≡ false
+    by true g = absurd (let same : v.requester ≡ w.requester = ap (λ (x : Transaction). x.requester) (same_is v w g) in omega (arith, same, e, f))
+    by false g = refl
+
+module _ (s : ℕ) (q : Sending) (t : Terms) where
+  abbrev base : Terms
+  base = is_served s (is_news s (arrives s t))
+
+  abbrev its : ℕ → Transaction
+  its label = between q q.to q.from label
+
+  -- by an initiator
+  module _ (i : ℕ) (to_is : q.to ≡ suc i) where
+    own_if : (b : Bool) (label own rcode : ℕ) → LeavesOwn t (closes_if b own (its label) rcode base)
+    own_if true label own rcode = record { generation = refl; ids = λ n. refl; sent = refl; held = λ w z. beside t.held w (its label) free (differ i w (its label) z to_is); current = λ w z. refl }
+    own_if false label own rcode = record { generation = refl; ids = λ n. refl; sent = refl; held = λ w z. refl; current = λ w z. refl }
+
+    own_closes : (h : Held) (label : ℕ) (kind : Kind) (rcode : ℕ) → LeavesOwn t (closes h (its label) kind rcode base)
+    own_closes free label kind rcode = own_if false label 0 rcode
+    own_closes rests label kind rcode = own_if false label 0 rcode
+    own_closes (waits other own) label kind rcode = own_if (is_same_kind other kind) label own rcode
+
+    own_part : (part : Part) → LeavesOwn t (gets_as part s q base)
+    own_part (request label kind) = let l = leaves_same base (judges (asked_by q) None s q base) (judges_same (asked_by q) None s q base) in record { generation = l.generation; ids = l.ids; sent = l.sent; held = l.held; current = l.current }
+    own_part (response label kind) = own_closes (base.held (its label)) label kind (rcode_of q.bytes)
+    own_part no_packet = own_if false 0 0 0
+
+    pub own_gets : t.sent s ≡ Some q → LeavesOwn t (noted (notes.Got s) t)
+    own_gets e = subst (λ o. LeavesOwn t (gets o s t)) (sym e) (own_part (part_of q.bytes))
+
+  -- by the target: each transaction goes on, or is over
+  record Frees (now : Terms) : Type 0 where
+    generation : now.generation ≡ t.generation
+    ids : now.ids ≡ t.ids
+    sent : now.sent ≡ t.sent
+    current : now.current ≡ t.current
+    injected : now.injected ≡ t.injected
+    held : (w : Transaction) → (now.held w ≡ t.held w) ⊎ (now.held w ≡ free)
+
+  frees_if : (b : Bool) (v : Transaction) (own rcode : ℕ) → Frees (closes_if b own v rcode base)
+  frees_if false v own rcode = record { generation = refl; ids = refl; sent = refl; current = refl; injected = refl; held = λ w. inl refl }
+  frees_if true v own rcode = record { generation = refl; ids = refl; sent = refl; current = refl; injected = refl; held = λ w. by w (is_same w v) refl }
+    where
+      by : (w : Transaction) (b : Bool) → is_same w v ≡ b → (at t.held v free w ≡ t.held w) ⊎ (at t.held v free w ≡ free)
+      by w true e = inr (at_it t.held w v free e)
+      by w false e = inl (beside t.held w v free e)
+
+  frees_closes : (h : Held) (v : Transaction) (kind : Kind) (rcode : ℕ) → Frees (closes h v kind rcode base)
+  frees_closes free v kind rcode = frees_if false v 0 rcode
+  frees_closes rests v kind rcode = frees_if false v 0 rcode
+  frees_closes (waits other own) v kind rcode = frees_if (is_same_kind other kind) v own rcode
+
+  frees_request : (o : Option Transaction) → Frees (judges o None s q base)
+  frees_request None = record { generation = refl; ids = refl; sent = refl; current = refl; injected = refl; held = λ w. inl refl }
+  frees_request (Some v) = record { generation = refl; ids = refl; sent = refl; current = refl; injected = refl; held = λ w. inl refl }
+
+  frees_part : (part : Part) → Frees (gets_as part s q base)
+  frees_part (request label kind) = frees_request (asked_by q)
+  frees_part (response label kind) = frees_closes (base.held (its label)) (its label) kind (rcode_of q.bytes)
+  frees_part no_packet = frees_if false (its 0) 0 0
+
+  pub got_injected : t.sent s ≡ Some q → (noted (notes.Got s) t).injected ≡ t.injected
+  got_injected e = ap (λ o. (gets o s t).injected) e ∙ (frees_part (part_of q.bytes)).injected
+
+  pub got_frees : t.sent s ≡ Some q → (w : Transaction) → ((noted (notes.Got s) t).held w ≡ t.held w) ⊎ ((noted (notes.Got s) t).held w ≡ free)
+  got_frees e w = subst (λ o. ((gets o s t).held w ≡ t.held w) ⊎ ((gets o s t).held w ≡ free)) (sym e) ((frees_part (part_of q.bytes)).held w)
+
+  pub got_sent : t.sent s ≡ Some q → (noted (notes.Got s) t).sent ≡ t.sent
+  got_sent e = ap (λ o. (gets o s t).sent) e ∙ (frees_part (part_of q.bytes)).sent
+
+  pub less_got : (pushes : List ℕ) → t.sent s ≡ Some q → Less t (noted (notes.Got s) t) pushes
+  less_got pushes e = subst (λ o. Less t (gets o s t) pushes) (sym e) (less_frees (gets_as (part_of q.bytes) s q base) (frees_part (part_of q.bytes)))
+    where
+      less_frees : (now : Terms) → Frees now → Less t now pushes
+      less_frees now f = record {
+        generation = ap (λ g. g 0) f.generation;
+        ids = λ n. ap (λ g. g (t.generation 0) n) f.ids;
+        held = λ n number. away (f.held (Own t n number));
+        pends = λ n r h k. pends n r (begun_in (t.sent r)) refl k;
+      }
+        where
+          away : {h : Held} {old : Held} → (h ≡ old) ⊎ (h ≡ free) → (h ≡ old) ⊎ ((kind : Kind) (r : ℕ) → h ≡ waits kind r → ⊥)
+          away (inl g) = inl g
+          away {h} (inr g) = inr (λ kind r k. free_waits h kind r g k)
+
+          sent_same : (r : ℕ) → now.sent r ≡ t.sent r
+          sent_same r = ap (λ g. g r) f.sent
+
+          alike : (n r : ℕ) → ((u : Transaction) → begun_in (t.sent r) ≡ Some u → now.held u ≡ t.held u) → is_pending now n r ≡ true → is_pending t n r ≡ true
+          alike n r h k =
+              sym (pending_alike n r t now (record {
+                sent = sent_same r;
+                generation = λ u b. ap (λ g. g u.requester) f.generation;
+                held = h;
+                current = λ u b. ap (λ g. g u) f.current;
+              })) ∙ k
+
+          pends : (n r : ℕ) (o : Option Transaction) → begun_in (t.sent r) ≡ o → is_pending now n r ≡ true → is_pending t n r ≡ true
+          pends n r None b k = alike n r (λ u c. none_is u (sym b ∙ c)) k
+          pends n r (Some v) b k = by (f.held v)
+            where
+              by : (now.held v ≡ t.held v) ⊎ (now.held v ≡ free) → is_pending t n r ≡ true
+              by (inl g) = alike n r (λ u c. subst (λ (x : Transaction). now.held x ≡ t.held x) (same_Some v u (sym b ∙ c)) g) k
+              by (inr g) = untrue (sym (pending_not n r t now v (sent_same r) b g) ∙ k)
+
+-- ---- a time-out
+pub late_injected : (o : Option Transaction) (t : Terms) → (times_out o t).injected ≡ t.injected
+late_injected None t = refl
+late_injected (Some v) t = refl
+
+module _ (s : ℕ) (t : Terms) (v : Transaction) (begun : begun_in (t.sent s) ≡ Some v) where
+  abbrev late : Terms
+  late = record t { held = at t.held v rests }
+
+  -- of an initiator
+  pub own_lapses : (i : ℕ) → v.requester ≡ suc i → LeavesOwn t (noted (notes.TimedOut s) t)
+  own_lapses i e = subst (λ o. LeavesOwn t (times_out o t)) (sym begun) (record {
+    generation = refl;
+    ids = λ n. refl;
+    sent = refl;
+    held = λ w z. beside t.held w v rests (differ i w v z e);
+    current = λ w z. refl;
+  })
+
+  -- of the target
+  pub less_late : (pushes : List ℕ) (kind : Kind) → t.held v ≡ waits kind s → t.current v ≡ s → Less t (noted (notes.TimedOut s) t) pushes
+  less_late pushes kind was current = subst (λ o. Less t (times_out o t) pushes) (sym begun) (record {
+    generation = refl;
+    ids = λ n. refl;
+    held = λ n number. by (Own t n number) (is_same (Own t n number) v) refl;
+    pends = λ n r h k. sym (lapses v t late kind s was n r (record { sent = refl; generation = refl; current = refl; held_is = refl }) current) ∙ k;
+  })
+    where
+      by : (w : Transaction) (b : Bool) → is_same w v ≡ b → (late.held w ≡ t.held w) ⊎ ((k : Kind) (r : ℕ) → late.held w ≡ waits k r → ⊥)
+      by w true e = inr (λ k r f. rests_waits (late.held w) k r (at_it t.held w v rests e) f)
+      by w false e = inl (beside t.held w v rests e)
+
+-- ---- a world that stands for a wire
+pub tied_at : {past : List Moment} {layers : ℕ → Node} {due : Option Due} (w : WorldState) (stands : StandsAt past layers due w) (layer : Layer Purpose) → layers 0 ≡ bare layer → (nodes : ℕ) → AreTied nodes (terms (hist past w)) layer
+tied_at w stands layer own nodes n number l =
+    subst (λ (x : Terms). shape (state_for layer.peers (Id x n) number) ≡ shape_of (x.held (Own x n number))) (ap terms stands.is.past_is)
+    (let x : Terms = terms stands.wire.past in
+    let node = (holds stands.wire stands.reached).nodes 0 in
+    let layer_is : stands.wire.layer 0 ≡ bare layer = stands.is.layers_are 0 (omega arith) ∙ own in
+    sym (ap shape (ap (λ (y : Node). state_for y.peers (Id x n) number) layer_is ∙ state_bare layer (Id x n) number)) ∙ node.states_are n number)
