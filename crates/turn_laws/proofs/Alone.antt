@@ -108,8 +108,7 @@ any_none f [] h = refl
 any_none f (x ∷ xs) h = any_first f x xs (λ e. h x (inl refl) e) (any_none f xs (λ r k. h r (inr k)))
 
 -- ---- those of a disc that came
-module _ (node : NodeState) (H : ℕ → Holder) (wire : Terms) (pushes : List ℕ) (unit from : ℕ)
-    (spared : (p : ℕ) (login : Login) → login_at node p ≡ Some login → is_live login ≡ true → is_listed login.node node.pending ≡ false → list_any (is_pending wire (suc (H p).initiator)) pushes ≡ false) where
+module _ (node : NodeState) (H : ℕ → Holder) (wire : Terms) (pushes : List ℕ) (unit from : ℕ) (spared : (p : ℕ) (login : Login) → login_at node p ≡ Some login → is_live login ≡ true → is_listed login.node node.pending ≡ false → list_any (is_pending wire (suc (H p).initiator)) pushes ≡ false) where
   abbrev Grown : List ℕ → Type 0
   Grown pending = (x : ℕ) → is_listed x node.pending ≡ true → is_listed x pending ≡ true
 
@@ -158,8 +157,7 @@ module _ (node : NodeState) (H : ℕ → Holder) (wire : Terms) (pushes : List �
   fine_if true layer = fine_from 8 0 layer node.pending (λ x h. h)
 
 -- ---- a packet comes to the target
-module _ (units ready : ℕ) (has : 0 < units) (start : List Disk) (past : List Moment) (s : Scene) (here : Place units ready start past s)
-    (k : Kept start (hist past s.world) s) (serial : ℕ) (run : Option Told) (one : Sent) (found : found_sent serial s.world.store.kept ≡ Some one) where
+module _ (units ready : ℕ) (has : 0 < units) (start : List Disk) (past : List Moment) (s : Scene) (here : Place units ready start past s) (k : Kept start (hist past s.world) s) (serial : ℕ) (run : Option Told) (one : Sent) (found : found_sent serial s.world.store.kept ≡ Some one) where
   abbrev w : WorldState
   w = s.world
 

@@ -51,9 +51,7 @@ module _ (P : List Disk → List Moment → Type 0) (start : List Disk) where
   lined line event rest fresh before is p =
       subst (P start) (ap (λ ns. map said ns ++ asked line event ∷ before) is ∙ sym (behind_is rest [] (asked line event ∷ before))) p
 
-module _ (P : List Disk → List Moment → Type 0)
-    (known : (units ready : ℕ) (start : List Disk) → 0 < units → (past : List Moment) (s : Scene) → Place units ready start past s → P start (hist past s.world))
-    (first : (start : List Disk) (line initiators : ℕ) (is_ready : Bool) → P start (said (notes_begin initiators is_ready) ∷ asked line (events.Begin initiators is_ready) ∷ [])) where
+module _ (P : List Disk → List Moment → Type 0) (known : (units ready : ℕ) (start : List Disk) → 0 < units → (past : List Moment) (s : Scene) → Place units ready start past s → P start (hist past s.world)) (first : (start : List Disk) (line initiators : ℕ) (is_ready : Bool) → P start (said (notes_begin initiators is_ready) ∷ asked line (events.Begin initiators is_ready) ∷ [])) where
   module _ (units ready : ℕ) (has : 0 < units) (start : List Disk) where
     abbrev knows : (past : List Moment) (s : Scene) → Place units ready start past s → P start (hist past s.world)
     knows past s here = known units ready start has past s here

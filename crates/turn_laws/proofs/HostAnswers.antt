@@ -47,8 +47,7 @@ use Rattle.turn_laws.proofs.HostJudges.{host_acts}
 use Rattle.turn_laws.proofs.Places.{Place}
 use Rattle.turn_laws.proofs.SentAnswers.{IfRequest, all_own_unsent, answers_by, first_handed, request_answers, sends_more}
 
-module _ (units ready : ℕ) (start : List Disk) (past : List Moment) (s : Scene) (here : Place units ready start past s) (i : ℕ)
-    (inside : i < length s.world.initiators) where
+module _ (units ready : ℕ) (start : List Disk) (past : List Moment) (s : Scene) (here : Place units ready start past s) (i : ℕ) (inside : i < length s.world.initiators) where
   abbrev pub old : InitiatorState
   old = initiator_at s.world i
 

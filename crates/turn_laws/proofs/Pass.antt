@@ -387,9 +387,7 @@ Begins K =
     (line : ℕ) (run : Run) → 0 < run.units → (let past = first_past line run.initiators run.ready in
     Place run.units (ready_logins run.initiators run.ready) run.start.disks past (beginning run) → K run.start.disks (hist past (beginning run).world) (beginning run))
 
-module _ (K : List Disk → List Moment → Scene → Type 0) (L : List Disk → Turn → Type 0) (begins : Begins K)
-    (cases : (units ready : ℕ) (start : List Disk) → 0 < units → CarriedCases units ready start (K start) (L start))
-    (line : ℕ) (run : Run) (few : run.initiators ≤ 4) (has : 0 < run.units) (small : run.units ≤ 4) (size : length run.start.disks ≡ run.units) where
+module _ (K : List Disk → List Moment → Scene → Type 0) (L : List Disk → Turn → Type 0) (begins : Begins K) (cases : (units ready : ℕ) (start : List Disk) → 0 < units → CarriedCases units ready start (K start) (L start)) (line : ℕ) (run : Run) (few : run.initiators ≤ 4) (has : 0 < run.units) (small : run.units ≤ 4) (size : length run.start.disks ≡ run.units) where
   abbrev logins : ℕ
   logins = ready_logins run.initiators run.ready
 

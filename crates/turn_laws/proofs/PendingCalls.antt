@@ -77,8 +77,7 @@ module _ (units ready : ℕ) (has : 0 < units) (start : List Disk) (past : List 
   all_owned call = owned_here w here.holds has Any (λ place other is live. tt) call
 
   -- ---- behind what a call of the target hands out
-  module _ (note : Note) (outbox : OutboxState) (v : WorldState) (media : Media) (fresh_is : v.fresh ≡ note ∷ w.fresh) (there : Place units ready start past (record { world = handed_out 0 0 outbox v; media = media }))
-      (others : AreOthers outbox.sides) (owned : AllOwned Any v.target.layer outbox.packets) (clean : Clean (terms (said note ∷ ms))) where
+  module _ (note : Note) (outbox : OutboxState) (v : WorldState) (media : Media) (fresh_is : v.fresh ≡ note ∷ w.fresh) (there : Place units ready start past (record { world = handed_out 0 0 outbox v; media = media })) (others : AreOthers outbox.sides) (owned : AllOwned Any v.target.layer outbox.packets) (clean : Clean (terms (said note ∷ ms))) where
     abbrev behind : WorldState
     behind = handed_out 0 0 outbox v
 

@@ -70,8 +70,7 @@ Needs t now pushes left n = ((s : ℕ) × (Has pushes s × (is_pending now n s �
 abbrev pub Lists : ℕ → (t now : Terms) → (pushes : List ℕ) → Layer Purpose → (pending later : List ℕ) → Type 0
 Lists nodes t now pushes left pending later = (n : ℕ) → n ≤ nodes → Needs t now pushes left n → is_listed (Id t n) pending ≡ true → is_listed (Id t n) later ≡ true
 
-module _ (nodes : ℕ) (t now : Terms) (pushes : List ℕ) (layer left : Layer Purpose) (pending later : List ℕ)
-    (k : Pending nodes t pushes layer pending) (l : Less t now pushes) (tied : AreTied nodes now left) where
+module _ (nodes : ℕ) (t now : Terms) (pushes : List ℕ) (layer left : Layer Purpose) (pending later : List ℕ) (k : Pending nodes t pushes layer pending) (l : Less t now pushes) (tied : AreTied nodes now left) where
   id_same : (n : ℕ) → Id now n ≡ Id t n
   id_same n = ap (λ g. now.ids g n) l.generation ∙ l.ids n
 
@@ -146,10 +145,7 @@ HaveRows nodes start from Q ms now left =
 abbrev pub IsOnce : Terms → Type 0
 IsOnce t = (s : ℕ) (v w : Transaction) (kind other : Kind) → t.held v ≡ waits kind s → t.held w ≡ waits other s → v ≡ w
 
-module _ (nodes : ℕ) (start : List Disk) (from : ℕ) (Q : ℕ → List ℕ → Type 0) (ms now : List Moment) (m : Later start from Q ms now)
-    (layer left : Layer Purpose) (pending later : List ℕ) (k : Pending nodes (terms ms) (Pushes start ms) layer pending)
-    (small : (s : ℕ) → Has (Pushes start ms) s → s ≤ (terms ms).count) (rows : Rows layer left pending later)
-    (there : HaveRows nodes start from Q ms now left) (once : IsOnce (terms now)) where
+module _ (nodes : ℕ) (start : List Disk) (from : ℕ) (Q : ℕ → List ℕ → Type 0) (ms now : List Moment) (m : Later start from Q ms now) (layer left : Layer Purpose) (pending later : List ℕ) (k : Pending nodes (terms ms) (Pushes start ms) layer pending) (small : (s : ℕ) → Has (Pushes start ms) s → s ≤ (terms ms).count) (rows : Rows layer left pending later) (there : HaveRows nodes start from Q ms now left) (once : IsOnce (terms now)) where
   abbrev t : Terms
   t = terms ms
 

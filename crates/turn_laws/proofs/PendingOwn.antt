@@ -123,8 +123,7 @@ module _ (units ready : ℕ) (has : 0 < units) (start : List Disk) (past : List 
   good = good_of units ready here.holds.calls node has here.holds.made
 
   -- ---- a call of an initiator
-  module _ (i weight : ℕ) (note : Note) (plain_note : IsNoSent note) (leaves : LeavesOwn t (noted note t)) (same : (noted note t).injected ≡ t.injected)
-      (outbox : OutboxState) (v : WorldState) (fresh_is : v.fresh ≡ note ∷ w.fresh) (target_is : v.target ≡ node) (count : length v.initiators ≡ nodes) (own : AreOwn outbox.sides) where
+  module _ (i weight : ℕ) (note : Note) (plain_note : IsNoSent note) (leaves : LeavesOwn t (noted note t)) (same : (noted note t).injected ≡ t.injected) (outbox : OutboxState) (v : WorldState) (fresh_is : v.fresh ≡ note ∷ w.fresh) (target_is : v.target ≡ node) (count : length v.initiators ≡ nodes) (own : AreOwn outbox.sides) where
     abbrev Then : Scene
     Then = record { world = handed_out (suc i) weight outbox v; media = s.media }
 
@@ -314,8 +313,7 @@ module _ (units ready : ℕ) (has : 0 < units) (start : List Disk) (past : List 
   plain_beside x y pushes a b c d = record { generation = ap (λ f. f 0) a; ids = λ n. ap (λ f. f (x.generation 0) n) b; held = λ n number. ap (λ f. f (Own x n number)) c; pends = λ n r h. d n r }
 
   -- an action: its line has no first note
-  module _ (line i weight : ℕ) (event : Event) (outbox : OutboxState) (v : WorldState) (fresh_is : v.fresh ≡ [])
-      (target_is : v.target ≡ node) (count : length v.initiators ≡ nodes) (own : AreOwn outbox.sides) where
+  module _ (line i weight : ℕ) (event : Event) (outbox : OutboxState) (v : WorldState) (fresh_is : v.fresh ≡ []) (target_is : v.target ≡ node) (count : length v.initiators ≡ nodes) (own : AreOwn outbox.sides) where
     abbrev Acted : Scene
     Acted = record { world = handed_out (i + 1) weight outbox v; media = s.media }
 
@@ -399,8 +397,7 @@ module _ (units ready : ℕ) (has : 0 < units) (start : List Disk) (past : List 
           (noted_kept line event (notes.Injected serial) tt first_beside) second_beside pushes_same
 
   -- ---- what a line brings
-  module _ (line : ℕ) (event : Event) (rest : List Note) (behind : Scene) (fresh : behind.world.fresh ≡ onto rest [])
-      (there : Place units ready start (asked line event ∷ ms) behind) (stays : Stays w behind.world) where
+  module _ (line : ℕ) (event : Event) (rest : List Note) (behind : Scene) (fresh : behind.world.fresh ≡ onto rest []) (there : Place units ready start (asked line event ∷ ms) behind) (stays : Stays w behind.world) where
     abbrev Base : List Moment → Type 0
     Base h = Pending nodes (terms h) (Pushes start h) node.layer node.pending
 

@@ -52,8 +52,7 @@ once_at w stands s v x kind other e f =
     cc
 
 -- ---- a moment that is beside the target
-module _ (nodes : ℕ) (start : List Disk) (ms now : List Moment) (layer : Layer Purpose) (pending : List ℕ)
-    (tied : AreTied nodes (terms ms) layer) (k : Pending nodes (terms ms) (Pushes start ms) layer pending) where
+module _ (nodes : ℕ) (start : List Disk) (ms now : List Moment) (layer : Layer Purpose) (pending : List ℕ) (tied : AreTied nodes (terms ms) layer) (k : Pending nodes (terms ms) (Pushes start ms) layer pending) where
   pub beside_kept : Beside (terms ms) (terms now) (Pushes start ms) → Pushes start now ≡ Pushes start ms → Pending nodes (terms now) (Pushes start now) layer pending
   beside_kept b e =
       subst (λ xs. Pending nodes (terms now) xs layer pending) (sym e)
@@ -68,8 +67,7 @@ pub line_pushes : (start : List Disk) (line : ℕ) (event : Event) (past : List 
 line_pushes start line event past = (ends_turn (Apart 0) refl (target_at start past)).pushes
 
 -- ---- behind what is handed out, on a history
-module _ (units ready : ℕ) (has : 0 < units) (start : List Disk) (past : List Moment) (old : List Note)
-    (from weight : ℕ) (outbox : OutboxState) (v : WorldState) (media : Media) (fresh_is : v.fresh ≡ old) (there : Place units ready start past (record { world = handed_out from weight outbox v; media = media })) where
+module _ (units ready : ℕ) (has : 0 < units) (start : List Disk) (past : List Moment) (old : List Note) (from weight : ℕ) (outbox : OutboxState) (v : WorldState) (media : Media) (fresh_is : v.fresh ≡ old) (there : Place units ready start past (record { world = handed_out from weight outbox v; media = media })) where
   abbrev behind : WorldState
   behind = handed_out from weight outbox v
 
@@ -161,8 +159,7 @@ module _ (units ready : ℕ) (has : 0 < units) (start : List Disk) (past : List 
   note_clean note i e r l = ap (λ f. f r) e ∙ clean_here r (let c = note_count note t i in omega (arith, c, l))
 
   -- ---- a call of another node, behind its first note
-  module _ (k : Kept start ms s) (old : List Note) (then : List Moment) (from weight : ℕ) (other : from ≡ 0 → ⊥)
-      (outbox : OutboxState) (v : WorldState) (fresh_is : v.fresh ≡ old) (there : Place units ready start then (record { world = handed_out from weight outbox v; media = s.media })) where
+  module _ (k : Kept start ms s) (old : List Note) (then : List Moment) (from weight : ℕ) (other : from ≡ 0 → ⊥) (outbox : OutboxState) (v : WorldState) (fresh_is : v.fresh ≡ old) (there : Place units ready start then (record { world = handed_out from weight outbox v; media = s.media })) where
     abbrev First : List Moment
     First = map said old ++ then
 

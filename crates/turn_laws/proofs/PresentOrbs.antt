@@ -247,8 +247,7 @@ module _ (place at : ℕ) where
       (on_notes start rest (said note ∷ past) c.1 (note_kept Stands are_kept note past (known_at start past).wire (target_at start past) h (none_apart note past start c.0)))
 
 -- ---- so the ORB stands, from the reply on to the end of the turn
-module _ (start : List Disk) (past : List Moment) (first : Moment) (rest : List Note) (reply : Reply) (T : Target) (is : target_at start (first ∷ past) ≡ record T { reply = Some reply })
-    (calm : AllCalm rest) (ends : is_some (end_in rest) ≡ true) (plain : PlainDisk) (told : Option Told) where
+module _ (start : List Disk) (past : List Moment) (first : Moment) (rest : List Note) (reply : Reply) (T : Target) (is : target_at start (first ∷ past) ≡ record T { reply = Some reply }) (calm : AllCalm rest) (ends : is_some (end_in rest) ≡ true) (plain : PlainDisk) (told : Option Told) where
   abbrev there : ℕ
   there = (reply_step (agent_at T reply.place).machine reply.place plain told reply.which reply.answer).1.present
 

@@ -258,9 +258,7 @@ lapsed_ended (Ok other) act list e = ap ended_for e
 lapsed_ended (Err stale) act list e = absurd e
 
 -- ---- a packet is heard
-module _ (ready : Bool) (serial generation : ℕ) (bytes : List ℕ) (past : List Moment) (i : ℕ) (s : InitiatorState) (heard : IsHeard past i serial generation bytes)
-    (shown : IsShown past i s.target s.layer)
-    (after_it : IsShown (said (judged_note serial (receive_step generation bytes empty_outbox s).0) ∷ past) i s.target (judging_step s.layer generation bytes).1) (h : Paired ready past i s) where
+module _ (ready : Bool) (serial generation : ℕ) (bytes : List ℕ) (past : List Moment) (i : ℕ) (s : InitiatorState) (heard : IsHeard past i serial generation bytes) (shown : IsShown past i s.target s.layer) (after_it : IsShown (said (judged_note serial (receive_step generation bytes empty_outbox s).0) ∷ past) i s.target (judging_step s.layer generation bytes).1) (h : Paired ready past i s) where
   abbrev judged : Judged
   judged = (receive_step generation bytes empty_outbox s).0
 
@@ -340,8 +338,7 @@ module _ (ready : Bool) (serial generation : ℕ) (bytes : List ℕ) (past : Lis
       }
 
 -- ---- a transaction times out
-module _ (ready : Bool) (serial : ℕ) (label : LabelParts) (past : List Moment) (i : ℕ) (s : InitiatorState)
-    (after_it : IsShown (said (notes.TimedOut serial) ∷ past) i s.target (expiring_step s.layer s.target label).1) (h : Paired ready past i s) where
+module _ (ready : Bool) (serial : ℕ) (label : LabelParts) (past : List Moment) (i : ℕ) (s : InitiatorState) (after_it : IsShown (said (notes.TimedOut serial) ∷ past) i s.target (expiring_step s.layer s.target label).1) (h : Paired ready past i s) where
   abbrev late : List Moment
   late = said (notes.TimedOut serial) ∷ past
 
@@ -401,8 +398,7 @@ module _ (ready : Bool) (serial : ℕ) (label : LabelParts) (past : List Moment)
       }
 
 -- ---- a generation is seen
-module _ (ready : Bool) (generation id target : ℕ) (past : List Moment) (i : ℕ) (s : InitiatorState)
-    (flag : (seeing_step s.layer generation id).0 ≡ not (generation == (terms past).generation (suc i))) (h : Paired ready past i s) where
+module _ (ready : Bool) (generation id target : ℕ) (past : List Moment) (i : ℕ) (s : InitiatorState) (flag : (seeing_step s.layer generation id).0 ≡ not (generation == (terms past).generation (suc i))) (h : Paired ready past i s) where
   abbrev sight : List Moment
   sight = said (notes.Seen (suc i) generation) ∷ past
 
@@ -471,9 +467,7 @@ state_sends s e n = by (refusal actions.State (facts_with true s actions.State))
     by (Some number) e n = some_none number e
     by None e n = asked_sends s (asked_for (record { wanted = wants.Read (register_of s 0x00); purpose = purposes.State s.counts.acts (counted_list s.lists.slots.present s) }) s) e n
 
-module _ (ready : Bool) (action : Action) (past : List Moment) (i : ℕ) (s : InitiatorState) (under : event_of past ≡ Some (events.Act i action)) (fit : IsLineOf action)
-    (done_is : (act_step action empty_outbox s).0 ≡ None)
-    (shown : IsShown past i s.target s.layer) (known : Ready past i s) (h : Paired ready past i s) where
+module _ (ready : Bool) (action : Action) (past : List Moment) (i : ℕ) (s : InitiatorState) (under : event_of past ≡ Some (events.Act i action)) (fit : IsLineOf action) (done_is : (act_step action empty_outbox s).0 ≡ None) (shown : IsShown past i s.target s.layer) (known : Ready past i s) (h : Paired ready past i s) where
   abbrev act_turn : Turn
   act_turn = (act_step action empty_outbox s).1
 
@@ -555,8 +549,7 @@ module _ (ready : Bool) (action : Action) (past : List Moment) (i : ℕ) (s : In
             (zipped_map (IsPair past i s) (IsPair ms i act_turn.1) quiet_pair (Reads past i) s.states z))
 
   -- and one that sends a request
-  module _ (packet : Outgoing) (one : act_turn.0.packets ≡ packet ∷ []) (serial generation : ℕ) (injected : (terms past).injected serial ≡ false)
-      (q : IsRequest (number_in packet.label) packet.bytes) where
+  module _ (packet : Outgoing) (one : act_turn.0.packets ≡ packet ∷ []) (serial generation : ℕ) (injected : (terms past).injected serial ≡ false) (q : IsRequest (number_in packet.label) packet.bytes) where
     abbrev now : List Moment
     now = said (notes.Sent serial generation (suc i) 0 packet.bytes) ∷ ms
 

@@ -388,15 +388,7 @@ waits_now (waits kind serial) other e = record { kind = kind; serial = serial; i
 waits_now free other e = absurd (let no : shape_of free ≡ awaits other = e in cc)
 waits_now rests other e = absurd (let no : shape_of rests ≡ awaits other = e in cc)
 
-module _ (past now : List Moment) (i : ℕ) (s : InitiatorState) (l : Layer Purpose) (t : Turn) (gone ended : Option ℕ)
-    (shown : IsShown now i s.target l) (generation_is : l.generation ≡ s.layer.generation) (called : Called l) (left : Left l s.target t)
-    (stays : (m : ℕ) (k : Kind) (n : ℕ) → WaitsAt past i s.layer m k n → is_gone gone n ≡ false → WaitsAt now i s.layer m k n)
-    (ends : (m : ℕ) (k : Kind) (n : ℕ) → WaitsAt past i s.layer m k n → is_gone gone n ≡ true → (k' : Kind) (n' : ℕ) → WaitsAt now i s.layer m k' n' → ⊥)
-    (back : (m : ℕ) (purpose : Option Purpose) → At l s.target m purpose → At s.layer s.target m purpose)
-    (on : (m act : ℕ) (list : Option ℕ) → StateAt s.layer s.target m act list → StateAt l s.target m act list ⊎ (ended ≡ Some act))
-    (goes : Goes (host_at past i) (host_at now i)) (count : (terms past).count ≤ (terms now).count) (operation : (t.1.operation ≡ s.operation) ⊎ (t.1.operation ≡ None))
-    (lives : (m act : ℕ) (list : Option ℕ) → StateAt t.1.layer t.1.target m act list → has_read act t.1.states ≡ true)
-    (states : t.1.states ≡ left_of ended s.states) (reads : Reads now i ≡ filter (λ (r : StateRead). not (is_gone gone r.serial)) (Reads past i)) where
+module _ (past now : List Moment) (i : ℕ) (s : InitiatorState) (l : Layer Purpose) (t : Turn) (gone ended : Option ℕ) (shown : IsShown now i s.target l) (generation_is : l.generation ≡ s.layer.generation) (called : Called l) (left : Left l s.target t) (stays : (m : ℕ) (k : Kind) (n : ℕ) → WaitsAt past i s.layer m k n → is_gone gone n ≡ false → WaitsAt now i s.layer m k n) (ends : (m : ℕ) (k : Kind) (n : ℕ) → WaitsAt past i s.layer m k n → is_gone gone n ≡ true → (k' : Kind) (n' : ℕ) → WaitsAt now i s.layer m k' n' → ⊥) (back : (m : ℕ) (purpose : Option Purpose) → At l s.target m purpose → At s.layer s.target m purpose) (on : (m act : ℕ) (list : Option ℕ) → StateAt s.layer s.target m act list → StateAt l s.target m act list ⊎ (ended ≡ Some act)) (goes : Goes (host_at past i) (host_at now i)) (count : (terms past).count ≤ (terms now).count) (operation : (t.1.operation ≡ s.operation) ⊎ (t.1.operation ≡ None)) (lives : (m act : ℕ) (list : Option ℕ) → StateAt t.1.layer t.1.target m act list → has_read act t.1.states ≡ true) (states : t.1.states ≡ left_of ended s.states) (reads : Reads now i ≡ filter (λ (r : StateRead). not (is_gone gone r.serial)) (Reads past i)) where
   abbrev later : List Moment
   later = behind t.0.sides now
 

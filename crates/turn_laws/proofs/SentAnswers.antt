@@ -104,8 +104,7 @@ told_same : (sides_told : List Side) (w v : WorldState) → SameBus w v → Same
 told_same sides_told w v same =
     let b = all_told_bus 0 sides_told v in record { last = ap (λ (st : Stored). st.last) b.store ∙ same.last; generations = b.generations ∙ same.generations }
 
-module _ {past : List Moment} (w : WorldState) (h : Stands past w) (serial : ℕ) (one : Sent) (found : found_sent serial w.store.kept ≡ Some one)
-    (inside : one.to ≤ length w.initiators) (p : Packet) (read : reading one.bytes ≡ Ok p) where
+module _ {past : List Moment} (w : WorldState) (h : Stands past w) (serial : ℕ) (one : Sent) (found : found_sent serial w.store.kept ≡ Some one) (inside : one.to ≤ length w.initiators) (p : Packet) (read : reading one.bytes ≡ Ok p) where
   abbrev here : Terms
   here = terms (hist past w)
 

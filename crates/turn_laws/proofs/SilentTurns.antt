@@ -105,8 +105,7 @@ presents_it : (dead : Option FailCause) → has_present (status_phase dead) ≡ 
 presents_it None = refl
 presents_it (Some cause) = refl
 
-module _ (start : List Disk) (T : Target) (t : Turn) (a : AgentTurn) (step : AgentStep) (m : Machine) (login : Login) (layer : Layer Purpose) (h : IsTurnOf start T t a step m login layer)
-    (as_end : EndsAs a.step.ended a.step a.machine) where
+module _ (start : List Disk) (T : Target) (t : Turn) (a : AgentTurn) (step : AgentStep) (m : Machine) (login : Login) (layer : Layer Purpose) (h : IsTurnOf start T t a step m login layer) (as_end : EndsAs a.step.ended a.step a.machine) where
   abbrev i : ℕ
   i = initiator_at T (wire_before t) a.place
 

@@ -62,8 +62,7 @@ got_bytes serving given e = refl
 scene_packets : (x : Judged × TargetScene) (w : Whole) → (judged_scene x w).1.outbox.packets ≡ x.1.outbox.packets
 scene_packets (judged, s) w = refl
 
-module _ (units ready : ℕ) (has : 0 < units) (start : List Disk) (past : List Moment) (s : Scene) (here : Place units ready start past s) (serial : ℕ) (one : Sent)
-    (found : found_sent serial s.world.store.kept ≡ Some one) (zero_to : one.to ≡ 0) (run : Option Told) (v : WorldState) (bus : SameBus s.world v) where
+module _ (units ready : ℕ) (has : 0 < units) (start : List Disk) (past : List Moment) (s : Scene) (here : Place units ready start past s) (serial : ℕ) (one : Sent) (found : found_sent serial s.world.store.kept ≡ Some one) (zero_to : one.to ≡ 0) (run : Option Told) (v : WorldState) (bus : SameBus s.world v) where
   abbrev node : NodeState
   node = s.world.target
 
