@@ -116,8 +116,6 @@ pub mod OwnStates
 pub mod OwnNotes
 pub mod OwnFacts
 pub mod OwnBlocks
-pub mod OwnTies
-pub mod OwnAnswers
 pub mod OwnActs
 pub mod Timely
 pub mod OwnTurns

@@ -1,5 +1,5 @@
 -- The operations of initiators, over the pass: `op`, `drop` and `stuck` stand in each turn exactly where they are due, where at each place the transactions of initiators are tied to their requests.
-use Rattle.std.proofs.Common.{[], arith, ◌+◌, ◌<◌, ◌∙◌, ◌≡◌, ◌≤◌, Bool, List, None, Ok, Option, Result, Some, ap, false, length, nat_eq, refl, subst, suc, sym, true, zero, ℕ}
+use Rattle.std.proofs.Common.{[], arith, ◌+◌, ◌∙◌, ◌≡◌, ◌≤◌, Bool, List, None, Ok, Option, Result, Some, ap, false, length, nat_eq, refl, subst, suc, sym, true, zero, ℕ}
 use Rattle.std.proofs.lemmas.Bool.Decides.{nat_tests}
 use Rattle.bus_transactions.specs.Wire.{as_sending}
 use Rattle.label_table.specs.declared.reply.Stale.{Stale}
@@ -42,7 +42,7 @@ use Rattle.turn_laws.proofs.Handed.{handed}
 use Rattle.turn_laws.proofs.Judgements.{row_there}
 use Rattle.turn_laws.proofs.OwnActs.{AreQuiet, act_quiet, quiet_none}
 use Rattle.turn_laws.proofs.OwnNotes.{target_none}
-use Rattle.turn_laws.proofs.OwnTurns.{AreTies, got_due, heard_due, late_due, late_sender, same_resets, seen_due}
+use Rattle.turn_laws.proofs.OwnTurns.{got_due, late_sender, same_resets, seen_due}
 use Rattle.turn_laws.proofs.Places.{Place}
 use Rattle.turn_laws.proofs.Timely.{Timely, of_timely_turns}
 use Rattle.turn_laws.specs.Operations.{OperationsStand, NoneEndsLaw, StandsWhereNoneEnds}
@@ -114,27 +114,6 @@ module _ (units ready : ℕ) (start : List Disk) where
     lines = λ past s line event rest behind brings fresh here there timely none. line_stands line s (hist past s.world) event rest brings;
     begins = λ line initiators is_ready timely none. refl;
   }
-
-  -- ---- every turn, where the transactions are tied
-  module _ (ties : (past : List Moment) (s : Scene) → Place units ready start past s → (i : ℕ) → i < length s.world.initiators → AreTies (hist past s.world) i (initiator_at s.world i)) where
-    pub operation_cases : Cases units ready start (Timely OperationsStand)
-    operation_cases = record {
-      heard = λ past s serial again run one found zero_to may others here behind judged timely.
-          target_none _ _ others ∙ sym (to_target (hist past s.world) serial (as_sending one) (was_sent s.world here.holds.sound.stands serial one found) zero_to _);
-      heard_own = λ past s serial again one i found to_is inside own here behind judged timely.
-          let there : one.to ≤ length s.world.initiators = omega (arith, to_is, inside) in
-          let old = initiator_at s.world i in
-          heard_due units ready start past s here i inside serial one found to_is _ (ties past s here i inside) judged (row_there s.world here.holds.sound.stands serial one found there old.layer (ap (layers_of s.world) to_is));
-      late = λ past s serial request done t found node_is e others here behind judged timely. target_none t.outbox _ others ∙ sym (lapse_none past s here serial request done t found node_is e);
-      late_own = λ past s serial request i outbox state found node_is inside e own here behind judged timely. late_due units ready start past s here i inside serial request found node_is _ (ties past s here i inside) outbox state e;
-      sees = λ past s others here behind judged timely. target_none _ _ others;
-      sees_own = λ past s i inside own here behind judged timely. seen_due units ready start past s here i inside (same_resets units ready start past s here i inside timely) _;
-      ticks = λ past s others here behind judged timely. target_none _ _ others;
-      ends = λ past s done here behind timely. end_stands (hist past s.world) done;
-      acts = λ past s line i action outbox state inside e own here behind timely. act_stands past s line i action outbox state _ e;
-      lines = λ past s line event rest behind brings fresh here there timely. line_stands line s (hist past s.world) event rest brings;
-      begins = λ line initiators is_ready timely. refl;
-    }
 
 -- in each turn in which no transaction of an initiator ends
 pub none_ends_law : NoneEndsLaw

@@ -1,10 +1,9 @@
--- In each turn the notes of operations, lists and sessions are those that are due, where at each place the transactions of initiators are tied to the terms of their requests.
+-- In each turn in which no transaction of an initiator ends the notes of operations, lists and sessions are those that are due.
 use Rattle.std.proofs.Common.{[], arith, ◌+◌, ◌<◌, ◌∙◌, ◌∷◌, ◌≡◌, ◌≤◌, ◌&&◌, ◌++◌, Bool, Err, List, None, Ok, Option, Result, Some, ap, false, is_some, length, nat_eq, not, refl, subst, suc, sym, true, ℕ}
 use Rattle.async_packet.specs.Labels.{LabelParts}
-use Rattle.async_packet.specs.Packet.{Packet, header_in}
+use Rattle.async_packet.specs.Packet.{Packet}
 use Rattle.async_packet.specs.Reading.{reading}
 use Rattle.async_packet.specs.declared.fault.PacketFault.{PacketFault}
-use Rattle.bus_transactions.specs.Fitting.{AreBytes}
 use Rattle.bus_transactions.specs.Wire.{as_sending, transaction}
 use Rattle.bus_transactions.proofs.PacketParts.{PartOf, asks, part_case, part_read, replies}
 use Rattle.label_table.proofs.Calls.{after_kept, told_law}
@@ -14,7 +13,6 @@ use Rattle.label_table.specs.Judging.{by_request}
 use Rattle.label_table.specs.Layer.{Finding, Layer, expiring_step, judging_step, of_again, of_generation, of_grammar, of_label, of_request, of_response, seeing_step}
 use Rattle.label_table.specs.declared.reply.ReplyKind.{ReplyKind}
 use Rattle.label_table.specs.declared.reply.Stale.{Stale}
-use Rattle.orb_layout.specs.Replies.{Expired}
 use Rattle.orb_list.specs.Lists.{ListState, drop_lists}
 use Rattle.orb_list.specs.Table.{drop_for, drop_step}
 use Rattle.orb_list.specs.declared.list.PresentList.{PresentList}
@@ -25,38 +23,34 @@ use Rattle.sbp_bus.specs.Generations.{id_of}
 use Rattle.sbp_bus.specs.Packets.{judged_note}
 use Rattle.sbp_bus.specs.Requests.{find}
 use Rattle.sbp_bus.specs.declared.requests.Request.{Request}
-use Rattle.sbp_initiator.specs.Effects.{Turn as Call, ended_for}
-use Rattle.sbp_initiator.specs.Receiving.{called, expire_step, expired_as, receive_step, received, request_step, respond_step}
+use Rattle.sbp_initiator.specs.Effects.{Turn as Call}
+use Rattle.sbp_initiator.specs.Receiving.{expire_step, expired_as, receive_step, received, request_step, respond_step}
 use Rattle.sbp_initiator.specs.Seeing.{see_step, seen_as}
-use Rattle.sbp_initiator.specs.States.{ending_of}
-use Rattle.sbp_initiator.specs.declared.purpose.Ending.TheVariants as endings
 use Rattle.sbp_initiator.specs.declared.purpose.Purpose.{Purpose}
-use Rattle.sbp_initiator.specs.declared.purpose.Purpose.TheVariants as purposes
 use Rattle.sbp_initiator.specs.declared.state.InitiatorState.{InitiatorState}
 use Rattle.sbp_initiator.proofs.Histories.Over.{sound}
 use Rattle.sbp_initiator.proofs.Histories.Purposes.{kind_in}
 use Rattle.sbp_journal.specs.Addresses.{Access}
 use Rattle.sbp_journal.specs.Outgoings.{OutboxState, empty_outbox}
 use Rattle.sbp_journal.specs.Run.{Moment, said}
-use Rattle.sbp_journal.specs.Transactions.{Kind, Sending, Transaction, asked_as, asked_by, begun_by, between, locking, part_in, part_of, reading_block, reading_quadlet, request as request_part, response, writing}
-use Rattle.sbp_journal.specs.Wire.{Terms, terms, waits}
+use Rattle.sbp_journal.specs.Transactions.{Kind, Sending, Transaction, asked_as, asked_by, begun_by, between, part_of, request as request_part}
+use Rattle.sbp_journal.specs.Wire.{Terms, terms}
 use Rattle.sbp_journal.specs.declared.cause.Judged.{Judged}
 use Rattle.sbp_journal.specs.declared.cause.Judged.TheVariants as judgements
 use Rattle.sbp_journal.specs.declared.note.Note.TheVariants as notes
 use Rattle.sbp_laws.specs.Hosts.{Host, host_at}
 use Rattle.sbp_laws.specs.Lists.{present_list}
-use Rattle.sbp_laws.specs.Operations.{at_initiator, drop_note, end_by_answer, end_by_write, end_notes, got_notes, gets_stuck, host_notes, reply_notes, reset_ops, seen_notes}
-use Rattle.sbp_laws.specs.Packets.{access_at, access_in, answer_in, answer_of, answered_at, packet_at, packet_in, receiver_in, sender_in, spelled_by}
+use Rattle.sbp_laws.specs.Operations.{at_initiator, drop_note, end_by_write, end_notes, got_notes, host_notes, reset_ops, seen_notes}
+use Rattle.sbp_laws.specs.Packets.{access_at, access_in, answered_at, packet_at, packet_in, receiver_in, sender_in, spelled_by}
 use Rattle.sbp_world.proofs.Common.{untrue}
 use Rattle.sbp_world.proofs.Agents.CrewFirsts.{access_there}
 use Rattle.sbp_world.proofs.Agents.Management.Hearing.{IsAnswer, answers, answers_none}
-use Rattle.sbp_world.proofs.Agents.Management.Holding.{is_of, past_terms, was_sent}
+use Rattle.sbp_world.proofs.Agents.Management.Holding.{past_terms, was_sent}
 use Rattle.sbp_world.proofs.Agents.Management.Still.{hist}
 use Rattle.sbp_world.proofs.Hosts.Knows.{may_see}
 use Rattle.sbp_world.proofs.Hosts.Lives.{At, Called}
-use Rattle.sbp_world.proofs.Lists.LiveRefusing.{label_number}
 use Rattle.sbp_world.proofs.Pointers.Ending.{read_in}
-use Rattle.sbp_world.proofs.Pointers.Finds.{closes_at, expires_at}
+use Rattle.sbp_world.proofs.Pointers.Finds.{expires_at}
 use Rattle.sbp_world.proofs.Wire.Starts.{laws_of}
 use Rattle.sbp_world.specs.Hosts.Core.{Core, work_in, work_of}
 use Rattle.sbp_world.specs.Hosts.Rows.{present_in}
@@ -73,22 +67,13 @@ use Rattle.sbp_world.proofs.Hosts.Shown.{IsShown}
 use Rattle.sbp_world.proofs.Hosts.Shows.{shown_now}
 use Rattle.turn_laws.proofs.FoundRows.{Asks, RowFor}
 use Rattle.turn_laws.proofs.Handed.{handed}
-use Rattle.turn_laws.proofs.OwnAnswers.{packet_ends, read_small}
 use Rattle.turn_laws.proofs.OwnBlocks.{Expected, answer_silent, request_tells}
-use Rattle.turn_laws.proofs.OwnEnds.{lapses}
-use Rattle.turn_laws.proofs.OwnNotes.{Ops, own_are, reply_kept, sight_kept}
+use Rattle.turn_laws.proofs.OwnNotes.{Ops, own_are, sight_kept}
 use Rattle.turn_laws.proofs.OwnStates.{AreReset, sight_due}
-use Rattle.turn_laws.proofs.OwnTies.{GoesOn, IsEndOf, IsTied, ended_due, of_block, of_lock, of_read, of_write}
 use Rattle.turn_laws.specs.Operations.{ends_own, of_initiator}
 use Rattle.turn_laws.proofs.Places.{HasCalls, Place}
 use Rattle.turn_laws.proofs.ReadsCarried.{resets_of}
 use Rattle.turn_laws.proofs.ReadsUnderWay.{AreTimely, Waiting, waits_now}
-
--- What the transactions of an initiator are by the terms of a history. Of one with any node, under its label: that it is tied to the request that waits there.
-pub record AreTies (past : List Moment) (i : ℕ) (s : InitiatorState) : Type 0 where
-  pub ends : (from number : ℕ) (purpose : Option Purpose) (kind : Kind) (serial : ℕ) → At s.layer ((terms past).ids ((terms past).generation (suc i)) from) number purpose → (terms past).held (transaction ((terms past).generation (suc i)) (suc i) from number) ≡ waits kind serial
-      → IsTied (host_at past i) (present_list past i) (access_at (terms past) serial) serial s.operation s.seat s.quads s.lists.slots.present purpose kind
-  pub goes_on : (generation : ℕ) (bytes : List ℕ) (p : Packet) (label : LabelParts) (act : ℕ) → (judging_step s.layer generation bytes).0 ≡ of_response p label (Some (purposes.Rom act)) → GoesOn (record s { layer = (judging_step s.layer generation bytes).1 }) act
 
 -- the list that is dropped is the present one
 drops_present : (lists : ListState) → (drop_lists lists).0 ≡ present_in lists.slots.present
@@ -110,9 +95,6 @@ sender_is packet u label kind part begun =
     requester_in : Option Transaction → ℕ
     requester_in None = 0
     requester_in (Some u) = u.requester
-
-no_complete : (value : ℕ) → endings.Expired ≡ endings.Complete value → ⊥
-no_complete value e = cc
 
 -- a label that expires is of the generation of its layer
 by_life : {G : Type 0} (x : Life Purpose) (purpose : Option Purpose) → IsFor purpose x → ((kind : ReplyKind) → x ≡ under_way kind purpose → G) → G
@@ -223,57 +205,12 @@ module _ (units ready : ℕ) (start : List Disk) (past : List Moment) (s : Scene
       a : IsAnswer wire serial q p
       a = answers wire serial q p was_it read (kind_in old.layer one.generation one.bytes p label purpose e) (judged.0 q was_it)
 
-      abbrev closed_state : InitiatorState
-      closed_state = called (record old { layer = (judging_step old.layer one.generation one.bytes).1 })
-
-      now_is : one.generation ≡ wire.generation (suc i)
-      now_is = a.current ∙ ap (λ n. wire.generation n) to_is
-
-      source_is : (header_in p).source ≡ wire.ids (wire.generation (suc i)) one.from
-      source_is = (is_of s.world stands serial one found).source p read ∙ ap (λ g. wire.ids g one.from) now_is
-
-      held_is : wire.held (transaction (wire.generation (suc i)) (suc i) one.from label.number) ≡ waits a.waited a.own
-      held_is =
-          ap (λ n. wire.held (transaction (wire.generation (suc i)) (suc i) one.from n)) (label_number old.layer one.generation one.bytes p label purpose e)
-          ∙ ap (λ n. wire.held (transaction (wire.generation (suc i)) n one.from (header_in p).label)) (sym to_is)
-          ∙ ap (λ g. wire.held (transaction g one.to one.from (header_in p).label)) (sym now_is)
-          ∙ a.held
-
-      response_law : host_notes (said (notes.Got serial)) ms ≡ reply_notes old.number host present (access_at wire a.own) a.own (answer_of p)
-      response_law =
-          got_is ∙ ap (λ x. got_notes i host present wire x serial) a.answered
-          ∙ ap (λ x. reply_notes i host present (access_at wire a.own) a.own (answer_in x)) (packet_is p read)
-          ∙ ap (λ n. reply_notes n host present (access_at wire a.own) a.own (answer_of p)) (sym number_is)
-
-      replied : Ops (reply_notes old.number host present (access_at wire a.own) a.own (answer_of p)) ≡ reply_notes old.number host present (access_at wire a.own) a.own (answer_of p)
-      replied = reply_kept old.number (end_by_answer host a.own (answer_of p) present) present (gets_stuck host (access_at wire a.own) (answer_of p))
-
-      bytes_are : AreBytes one.bytes
-      bytes_are = (stands.is.knows.ours serial q (ap (λ (t : Terms). t.sent serial) (past_terms s.world stands) ∙ was_it)).bytes
-
-      part_is : part_in p ≡ response (header_in p).label a.kind
-      part_is = sym (part_read one.bytes p read) ∙ a.part
-
       -- so its transaction ends
       closes_own : ends_own (said (notes.Got serial)) wire ≡ true
       closes_own =
           ap (λ so. of_initiator (receiver_in so) && is_some (answered_at wire serial)) was_it
           ∙ ap (λ n. of_initiator (Some n) && is_some (answered_at wire serial)) to_is
           ∙ ap (λ (x : Option ℕ). is_some x) a.answered
-
-      module _ (ties : AreTies ms i old) where
-        tie : IsTied host present (access_at wire a.own) a.own old.operation old.seat old.quads old.lists.slots.present purpose a.waited
-        tie = ties.ends one.from label.number purpose a.waited a.own (subst (λ n. At old.layer n label.number purpose) source_is (closes_at old.layer one.generation one.bytes p label purpose called_layer e)) held_is
-
-        goes : (act value : ℕ) → purpose ≡ Some (purposes.Rom act) → ending_of p ≡ endings.Complete value → GoesOn closed_state act
-        goes act value f g = ties.goes_on one.generation one.bytes p label act (e ∙ ap (λ x. of_response p label x) f)
-
-        response_due : (l : Layer Purpose) → (judging_step old.layer one.generation one.bytes).1 ≡ l → IsDue (received (of_response p label purpose, l) one.bytes empty_outbox old)
-        response_due l f =
-            subst (λ x. IsDue (received (of_response p label purpose, x) one.bytes empty_outbox old)) f
-            (own_are (suc i) 0 _ w (reply_notes old.number host present (access_at wire a.own) a.own (answer_of p))
-            (ended_due host present (access_at wire a.own) a.own closed_state drops empty_outbox purpose a.waited (ending_of p) (answer_of p) tie (packet_ends p (read_small one.bytes bytes_are p read) (header_in p).label a.kind a.waited part_is a.alike) goes)
-            ∙ replied ∙ sym response_law)
 
     abbrev Judgement : Judged × Call → Type 0
     Judgement r = AreJudged (said (judged_note serial r.0) ∷ ms)
@@ -287,13 +224,6 @@ module _ (units ready : ℕ) (start : List Disk) (past : List Moment) (s : Scene
     heard_by buffers responds (of_again p rcode, l) e row j =
         let turn : Call = (empty_outbox, record old { layer = l }) in silent (respond_step p one.bytes rcode [] turn).0 (answer_silent p one.bytes rcode [] turn)
     heard_by buffers responds (of_request p, l) e row j = request_due buffers p row l
-
-    pub heard_due : AreTies ms i old → Judgement heard → RowFor wire q old.layer.node (judging_step old.layer one.generation one.bytes) → IsDue heard
-    unfolding receive_step
-    heard_due ties judged row =
-        heard_by (here.holding i inside).responses
-        (λ p label purpose l e j. response_due p label purpose (ap (λ (r : Finding Purpose × Layer Purpose). r.0) e) j ties l (ap (λ (r : Finding Purpose × Layer Purpose). r.1) e))
-        (judging_step old.layer one.generation one.bytes) refl row judged
 
     -- where no transaction ends
     abbrev EndsNone : Judged → Type 0
@@ -355,12 +285,6 @@ module _ (units ready : ℕ) (start : List Disk) (past : List Moment) (s : Scene
     latest : IsLatest s.world.requests wire.ids wire.current wire.bus serial request
     latest = subst (λ (t : Terms). IsLatest s.world.requests t.ids t.current t.bus serial request) (past_terms s.world stands) (stands.is.knows.latest serial request found)
 
-    late_end : (kind : Kind) → IsEndOf kind endings.Expired Expired
-    late_end writing = of_write endings.Expired
-    late_end reading_quadlet = of_read endings.Expired Expired lapses
-    late_end reading_block = of_block endings.Expired Expired
-    late_end locking = of_lock endings.Expired Expired
-
     -- the request that waits under the label is this one
     module _ (purpose : Option Purpose) (l : Layer Purpose) (e : expiring_step old.layer old.target request.label ≡ (Ok purpose, l)) where
       there : At old.layer old.target number purpose
@@ -391,34 +315,6 @@ module _ (units ready : ℕ) (start : List Disk) (past : List Moment) (s : Scene
       from_is =
           ap (λ n. sender_in (wire.sent n)) (sym serial_is) ∙ ap sender_in awaited.sent
           ∙ ap Some (sender_is awaited.packet v number waiting.kind awaited.part awaited.begun)
-
-      late_law : host_notes (said (notes.TimedOut serial)) ms ≡ reply_notes old.number host present (access_at wire serial) serial Expired
-      late_law =
-          ap (λ so. at_initiator so (λ j. reply_notes j (host_at ms j) (present_list ms j) (access_at wire serial) serial Expired)) from_is
-          ∙ ap (λ n. reply_notes n host present (access_at wire serial) serial Expired) (sym number_is)
-
-      module _ (ties : AreTies ms i old) where
-        late_tie : IsTied host present (access_at wire serial) serial old.operation old.seat old.quads old.lists.slots.present purpose waiting.kind
-        late_tie =
-            ties.ends 0 number purpose waiting.kind serial
-            (subst (λ n. At old.layer n number purpose) (sym shown.named ∙ ap (λ g. wire.ids g 0) shown.generation) there)
-            (waiting.is ∙ ap (λ n. waits waiting.kind n) serial_is)
-
-        expired_due : Ops (handed (suc i) 0 (ended_for purpose endings.Expired empty_outbox (called (record old { layer = l }))).0 w) ≡ host_notes (said (notes.TimedOut serial)) ms
-        expired_due =
-            own_are (suc i) 0 _ w (reply_notes old.number host present (access_at wire serial) serial Expired)
-            (ended_due host present (access_at wire serial) serial (called (record old { layer = l })) drops empty_outbox purpose waiting.kind endings.Expired Expired late_tie (late_end waiting.kind) (λ act value f g. absurd (no_complete value g)))
-            ∙ reply_kept old.number (end_by_answer host serial Expired present) present (gets_stuck host (access_at wire serial) Expired) ∙ sym late_law
-
-    late_by : AreTies ms i old → (r : Result (Option Purpose) Stale × Layer Purpose) → expiring_step old.layer old.target request.label ≡ r → (outbox : OutboxState) (state : InitiatorState) → expired_as r empty_outbox old ≡ (true, (outbox, state)) → Ops (handed (suc i) 0 outbox w) ≡ host_notes (said (notes.TimedOut serial)) ms
-    late_by ties (Ok purpose, l) e outbox state f =
-        let same : (ended_for purpose endings.Expired empty_outbox (called (record old { layer = l }))).0 ≡ outbox = ap (λ (r : Bool × Call). r.1.0) f in
-        subst (λ o. Ops (handed (suc i) 0 o w) ≡ host_notes (said (notes.TimedOut serial)) ms) same (expired_due purpose l e ties)
-    late_by ties (Err stale, l) e outbox state f = untrue (ap (λ (r : Bool × Call). r.0) f)
-
-    pub late_due : AreTies ms i old → (outbox : OutboxState) (state : InitiatorState) → expire_step request.label empty_outbox old ≡ (true, (outbox, state)) → Ops (handed (suc i) 0 outbox w) ≡ host_notes (said (notes.TimedOut serial)) ms
-    unfolding expire_step
-    late_due ties outbox state f = late_by ties (expiring_step old.layer old.target request.label) refl outbox state f
 
     -- it was one of its own
     late_from : (r : Result (Option Purpose) Stale × Layer Purpose) → expiring_step old.layer old.target request.label ≡ r → (expired_as r empty_outbox old).0 ≡ true → sender_in (wire.sent serial) ≡ Some (suc i)
