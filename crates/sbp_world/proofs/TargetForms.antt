@@ -12,7 +12,7 @@ use Rattle.sbp_target.specs.declared.purpose.Purpose.{Purpose}
 use Rattle.sbp_target.specs.declared.purpose.Purpose.TheVariants as purposes
 use Rattle.sbp_target.specs.Desks.{which_in}
 use Rattle.sbp_target.specs.Histories.Moves.{FitsAt, FitsBy, FitsIn, Moves, fitting}
-use Rattle.sbp_target.specs.Histories.Moves.{Tells as MayTell, announced, back, cleared, died, ended, failed, held, lapsed, left, managed, opened, ran, unsent, was_cut}
+use Rattle.sbp_target.specs.Histories.Moves.{Tells as MayTell, announced, back, cleared, departed, died, ended, failed, held, lapsed, managed, opened, plain, ran, unsent, was_cut}
 use Rattle.sbp_target.specs.Nodes.{Scene, desk_at}
 use Rattle.sbp_target.specs.Receiving.{TellsAt, TellsIn, answer_in, expired, received, seen, ticked, with_layer}
 use Rattle.sbp_target.specs.Replies.{Stage, Tells, TellsBy, Whole, agent_step, plain_at, scene_of, served_login, stage}
@@ -27,17 +27,17 @@ formed : (side : Side) → MayTell (fitting IsFit) side → IsFormed side
 formed _ (ran place m step outcome f e) = subst FitsRun e f.0
 formed _ (died place step cause f e) = tt
 formed _ (ended place m step status f e) = subst FitsEnd e f.1
-formed _ (was_cut place cause c) = tt
-formed _ (opened place orb t) = tt
-formed _ (announced place t) = tt
-formed _ (unsent place t) = tt
-formed _ (failed source cause t) = tt
-formed _ (managed source function subject status login a) = tt
-formed _ (cleared unit a) = tt
-formed _ (back login a) = tt
-formed _ (left login a) = tt
-formed _ (held login a) = tt
-formed _ (lapsed login a) = tt
+formed _ (plain _ (was_cut place cause c)) = tt
+formed _ (plain _ (opened place orb t)) = tt
+formed _ (plain _ (announced place t)) = tt
+formed _ (plain _ (unsent place t)) = tt
+formed _ (plain _ (failed source cause t)) = tt
+formed _ (plain _ (managed source function subject status login a)) = tt
+formed _ (plain _ (cleared unit a)) = tt
+formed _ (plain _ (back login a)) = tt
+formed _ (plain _ (departed login a)) = tt
+formed _ (plain _ (held login a)) = tt
+formed _ (plain _ (lapsed login a)) = tt
 
 tells : (x y : Scene) → Moves (fitting IsFit) x y → In x → In y
 tells x y m h = sides_kept (fitting IsFit) AreFormed (λ told side t i. more told side i (formed side t)) x y m h

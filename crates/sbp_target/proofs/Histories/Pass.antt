@@ -20,13 +20,13 @@ use Rattle.sbp_journal.specs.Outgoings.{OutboxState}
 use Rattle.sbp_target.specs.declared.purpose.Purpose.{Purpose}
 use Rattle.sbp_target.specs.Agents.{cut, follow, noted}
 use Rattle.sbp_target.specs.Histories.Layers.{with_asked}
-use Rattle.sbp_target.specs.Histories.Moves.{Kind, MayAct, Moves, go_on, notes, stay, turned}
+use Rattle.sbp_target.specs.Histories.Moves.{Kind, MayEnd, Moves, cuts, go_on, notes, stay, turned}
 use Rattle.sbp_target.specs.Management.{ask_manager, decided_by}
 use Rattle.sbp_target.specs.Nodes.{Scene}
 use Rattle.sbp_target.specs.Receiving.{concluded, expired_from, expired_in, reset_by, ticked_by}
 use Rattle.sbp_target.specs.Replies.{Whole, scene_of}
 use Rattle.sbp_target.specs.Sending.{with_side}
-use Rattle.sbp_target.proofs.Histories.Moved.{ask_manager_moves, concluded_moves, cut_moves, decided_moves, expired_in_moves, fits_at, follow_moves, reset_moves}
+use Rattle.sbp_target.proofs.Histories.Moved.{ask_manager_moves, concluded_moves, decided_moves, expired_in_moves, fits_at, follow_moves, reset_moves}
 use Rattle.sbp_target.proofs.Histories.Views.{Sends, packets_kept}
 
 -- what is said of a layer and of the packets handed out
@@ -45,13 +45,13 @@ pub record Keeps (P : Said) : Type 0 where
 
 -- nothing is asked and nothing turns the layer; and nothing turns it
 abbrev silent : Kind
-silent = record { Fits = λ step. Unit {0}; MayAsk = ⊥; MayCut = Unit {0}; MayTell = Unit {0}; MayAlter = Unit {0}; MayTurn = ⊥ }
+silent = record { Fits = λ step. Unit {0}; MayAsk = ⊥; MayCut = Unit {0}; MayAnnounce = Unit {0}; MayManage = Unit {0}; MayChange = Unit {0}; MayDecide = Unit {0}; MayAnswer = ⊥; MayTurn = ⊥ }
 
 abbrev asking : Kind
-asking = record { Fits = λ step. Unit {0}; MayAsk = Unit {0}; MayCut = Unit {0}; MayTell = Unit {0}; MayAlter = Unit {0}; MayTurn = ⊥ }
+asking = record { Fits = λ step. Unit {0}; MayAsk = Unit {0}; MayCut = Unit {0}; MayAnnounce = Unit {0}; MayManage = Unit {0}; MayChange = Unit {0}; MayDecide = Unit {0}; MayAnswer = ⊥; MayTurn = ⊥ }
 
-may : MayAct asking
-may = record { lost = λ m which cause. tt; asking = tt; cutting = tt; telling = tt }
+may : MayEnd asking
+may = record { act = record { lost = λ m which cause. tt; asking = tt; cutting = tt }; announcing = tt; managing = tt; changing = tt; deciding = tt }
 
 module _ (P : Said) where
   lapses_from : (layer : Layer Purpose) (left at : ℕ) (logins : List ℕ) (o : OutboxState) → P layer o.packets → P layer (expired_from left at logins o).packets
@@ -81,10 +81,10 @@ module _ (P : Said) where
     notes_at place step s h = behind s _ (go_on s s _ (stay s) (notes place step s tt)) h
 
     pub cuts_at : (cause : CutCause) (place : ℕ) (s : Scene) → At P s → At P (cut cause place s)
-    cuts_at cause place s h = behind s _ (cut_moves silent s tt cause place s (stay s)) h
+    cuts_at cause place s h = behind s _ (go_on s s _ (stay s) (cuts cause place s tt)) h
 
     pub decides : (d : Option Decision) (effect : Effect) (source : ℕ) (s : Scene) → At P s → At P (decided_by d effect source s)
-    decides d effect source s h = behind s _ (decided_moves silent s tt tt d effect source s (stay s)) h
+    decides d effect source s h = behind s _ (decided_moves silent s tt tt tt d effect source s (stay s)) h
 
     pub sees_by : (r : Bool × Layer Purpose) (s : Scene) → P r.1 s.outbox.packets → At P (reset_by r s).1
     sees_by r s h = let t = turned r.1 s in behind t _ (reset_moves silent t tt tt r s (stay t)) h
@@ -105,7 +105,7 @@ module _ (P : Said) where
     asked x y m h = packets_kept asking P sends x y m h
 
     pub follows : (place : ℕ) (login : Login) (step : AgentStep) (s : Scene) → At P s → At P (follow place login step s)
-    follows place login step s h = asked s _ (follow_moves asking s may.lost tt place login step s tt (stay s)) h
+    follows place login step s h = asked s _ (follow_moves asking s may.act.lost tt place login step s tt (stay s)) h
 
     pub asks_manager : (source : ℕ) (ask : Ask) (s : Scene) → At P s → At P (ask_manager source ask s)
     asks_manager source ask s h = asked s _ (ask_manager_moves asking s tt tt source ask s (stay s)) h
@@ -114,7 +114,7 @@ module _ (P : Said) where
     pub concludes : (told : Option Told) (purpose : Option Purpose) (peer : ℕ) (label : LabelParts) (answer : Answer) (w : Whole) → At P (scene_of w) → At P (scene_of (concluded told purpose peer label answer w))
     concludes told purpose peer label answer w h =
         let s = scene_of w in
-        asked s _ (concluded_moves asking s may tt told purpose peer label answer w (fits_at asking (λ step. tt) told purpose peer label answer w) (stay s)) h
+        asked s _ (concluded_moves asking s may told purpose peer label answer w (fits_at asking (λ run at unit which answer w. tt) told purpose peer label answer w) (stay s)) h
 
     pub expires_in : (r : Result (Option Purpose) Stale × Layer Purpose) (peer : ℕ) (label : LabelParts) (s : Scene) → P r.1 s.outbox.packets → At P (expired_in r peer label s).1
-    expires_in r peer label s h = let t = turned r.1 s in asked t _ (expired_in_moves asking t may tt r peer label s (stay t)) h
+    expires_in r peer label s h = let t = turned r.1 s in asked t _ (expired_in_moves asking t may r peer label s (stay t)) h

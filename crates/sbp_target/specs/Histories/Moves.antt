@@ -1,6 +1,6 @@
 -- What a call of a target does, taken apart into steps of its parts. A step is a function of the target's as it stands, so that a desk, its
 -- requests and what is told of them change together.
-use Rattle.std.specs.Prelude.{◌≡◌, ℕ, Bool, false, List, Option, Some, None, Ok, Err}
+use Rattle.std.specs.Prelude.{◌≡◌, ℕ, ◌<◌, Bool, true, false, List, Option, Some, None, Ok, Err}
 use Rattle.async_packet.specs.Labels.{LabelParts}
 use Rattle.async_packet.specs.Packet.{Packet, header_in}
 use Rattle.label_table.specs.Bodies.{Body, block_write}
@@ -21,7 +21,7 @@ use Rattle.rbc_disk.specs.Runs.{Told}
 use Rattle.command_agent.specs.declared.step.AgentStep.{AgentStep}
 use Rattle.command_agent.specs.declared.step.PointRefusal.{PointRefusal}
 use Rattle.command_agent.specs.declared.step.Which.{Which}
-use Rattle.command_agent.specs.Machine.{Machine}
+use Rattle.command_agent.specs.Machine.{Machine, is_under_way}
 use Rattle.command_agent.specs.Steps.{abort_step, asks, doorbell_step, lost_step}
 use Rattle.sbp_journal.specs.declared.cause.CutCause.{CutCause}
 use Rattle.sbp_journal.specs.declared.side.Side.{Side}
@@ -32,44 +32,49 @@ use Rattle.sbp_target.specs.declared.purpose.Purpose.TheVariants as purposes
 use Rattle.sbp_target.specs.Agents.{agent_body, ahead_sent, cut, main_sent, noted}
 use Rattle.sbp_target.specs.Desks.{expired_desk, point_desk, which_in}
 use Rattle.sbp_target.specs.Management.{fresh_desk, logged_out, manager_body, tell_left, with_manager}
-use Rattle.sbp_target.specs.Nodes.{Scene, scene, desk_at, with_agent, with_desk}
-use Rattle.sbp_target.specs.Receiving.{after_reset, answer_in, settled, with_key}
+use Rattle.sbp_target.specs.Nodes.{Scene, scene, desk_at, login_at, with_agent, with_desk}
+use Rattle.sbp_target.specs.Receiving.{after_reset, answer_in, settled}
 use Rattle.sbp_target.specs.Replies.{Stage, Whole, agent_step, replied, served_login, stage}
 use Rattle.sbp_target.specs.Sending.{request_step, with_side}
 use Rattle.sbp_target.specs.Serving.{answered, enabled}
 use Rattle.sbp_target.specs.Telling.{orb_of}
-use Rattle.sbp_target.specs.Units.{clear_unit, unsolicited_by, with_changed}
+use Rattle.sbp_target.specs.Units.{clear_unit, hears, unsolicited_by, with_changed}
 
--- What is known of the steps of agents that are told; and whether requests may leave, lists be cut, more be told, units and logins be altered,
--- and a packet, an answer, a time-out or a generation turn the transaction layer.
+-- What is known of the steps of agents that are told; and whether requests may leave, lists be cut, a disc be announced, the operation go on,
+-- units be altered, logins be altered, a request be answered, and a packet, a time-out or a generation turn the transaction layer.
 pub record Kind : Type 1 where
   pub Fits : AgentStep → Type 0
   pub MayAsk : Type 0
   pub MayCut : Type 0
-  pub MayTell : Type 0
-  pub MayAlter : Type 0
+  pub MayAnnounce : Type 0
+  pub MayManage : Type 0
+  pub MayChange : Type 0
+  pub MayDecide : Type 0
+  pub MayAnswer : Type 0
   pub MayTurn : Type 0
 
--- what may be told
+-- what may be told beside steps of agents, and with them
+pub data Plain (k : Kind) : Side → Type 0 where
+  was_cut : (place : ℕ) (cause : CutCause) → k.MayCut → Plain k (sides.Cut place cause)
+  opened : (place orb : ℕ) → k.MayAnswer → Plain k (sides.Opened place orb)
+  announced : (place : ℕ) → k.MayAnnounce → Plain k (sides.Unsolicited place)
+  unsent : (place : ℕ) → k.MayAnnounce → Plain k (sides.Unsent place)
+  failed : (source : ℕ) (cause : FailCause) → k.MayManage → Plain k (sides.ManageFailed source cause)
+  managed : (source function subject status login : ℕ) → k.MayDecide → Plain k (sides.Managed source function subject status login)
+  cleared : (unit : ℕ) → k.MayChange → Plain k (sides.Cleared unit)
+  back : (login : ℕ) → k.MayDecide → Plain k (sides.Back login)
+  departed : (login : ℕ) → k.MayDecide → Plain k (sides.Left login)
+  held : (login : ℕ) → k.MayDecide → Plain k (sides.Held login)
+  lapsed : (login : ℕ) → k.MayDecide → Plain k (sides.Expired login)
+
 pub data Tells (k : Kind) : Side → Type 0 where
   ran : (place : ℕ) (m : Machine) (step : AgentStep) (outcome : Outcome) → k.Fits step → step.ran ≡ Some outcome → Tells k (sides.Ran place (orb_of m) m.orb.cdb m.payload outcome)
   died : (place : ℕ) (step : AgentStep) (cause : FailCause) → k.Fits step → step.dead ≡ Some cause → Tells k (sides.Dead place cause)
   ended : (place : ℕ) (m : Machine) (step : AgentStep) (status : StatusKind) → k.Fits step → step.ended ≡ Some status → Tells k (sides.Ended place (orb_of m) status)
-  was_cut : (place : ℕ) (cause : CutCause) → k.MayCut → Tells k (sides.Cut place cause)
-  opened : (place orb : ℕ) → k.MayTell → Tells k (sides.Opened place orb)
-  announced : (place : ℕ) → k.MayTell → Tells k (sides.Unsolicited place)
-  unsent : (place : ℕ) → k.MayTell → Tells k (sides.Unsent place)
-  failed : (source : ℕ) (cause : FailCause) → k.MayTell → Tells k (sides.ManageFailed source cause)
-  managed : (source function subject status login : ℕ) → k.MayAlter → Tells k (sides.Managed source function subject status login)
-  cleared : (unit : ℕ) → k.MayAlter → Tells k (sides.Cleared unit)
-  back : (login : ℕ) → k.MayAlter → Tells k (sides.Back login)
-  left : (login : ℕ) → k.MayAlter → Tells k (sides.Left login)
-  held : (login : ℕ) → k.MayAlter → Tells k (sides.Held login)
-  lapsed : (login : ℕ) → k.MayAlter → Tells k (sides.Expired login)
+  plain : (side : Side) → Plain k side → Tells k side
 
 -- told of nothing that changes with it
 abbrev pub IsAlone : Side → Type 0
-IsAlone (sides.Unsent place) = Unit {0}
 IsAlone (sides.ManageFailed source cause) = Unit {0}
 IsAlone (sides.Managed source function subject status login) = Unit {0}
 IsAlone (sides.Back login) = Unit {0}
@@ -78,10 +83,10 @@ IsAlone (sides.Expired login) = Unit {0}
 IsAlone _ = ⊥
 
 -- what a request asks for: an agent, the management agent, and an unsolicited status
-pub data Asks : Body → Type 0 where
-  by_agent : (ask : Ask) (is_status : Bool) (fifo : ℕ) (outgoing : List ℕ) (body : Body) → agent_body ask is_status fifo outgoing ≡ Some body → Asks body
-  by_manager : (ask : Ask) (outgoing : List ℕ) (body : Body) → manager_body ask outgoing ≡ Some body → Asks body
-  by_disc : (fifo : ℕ) → Asks (block_write fifo block)
+pub data Asks (k : Kind) : Body → Purpose → Type 0 where
+  by_agent : (place : ℕ) (ask : Ask) (is_status : Bool) (fifo : ℕ) (outgoing : List ℕ) (body : Body) → agent_body ask is_status fifo outgoing ≡ Some body → Asks k body (purposes.Agent place)
+  by_manager : (ask : Ask) (outgoing : List ℕ) (body : Body) → k.MayManage → manager_body ask outgoing ≡ Some body → Asks k body purposes.Management
+  by_disc : (fifo : ℕ) → Asks k (block_write fifo block) purposes.Unsolicited
 
 -- the node with another layer, and a request that leaves
 abbrev pub turned : Layer Purpose → Scene → Scene
@@ -91,11 +96,42 @@ abbrev pub sending : ℕ → Body → Purpose → Scene → Scene
 sending peer body purpose s =
     let r = request_step s.node.layer s.outbox peer body purpose in scene (record s.node { layer = r.1.0 }) r.1.1
 
+-- an agent loses a transaction that finds no label, or times out, and its step is told
+abbrev pub lost_at : ℕ → Which → Scene → Scene
+lost_at place which s = let r = lost_step (desk_at s.node place).agent which causes.Label in noted place r.0 (scene (with_agent s.node place r.1) s.outbox)
+
+abbrev pub lapsed_at : ℕ → Which → Scene → Scene
+lapsed_at place which s = let r = expired_desk which (desk_at s.node place) in noted place r.0 (scene (with_desk s.node place r.1) s.outbox)
+
+-- what the agent of a place asks for, as its main request and ahead
+abbrev pub body_at : ℕ → Login → Ask → Bool → Scene → Option Body
+body_at place login ask is_status s = agent_body ask is_status login.fifo (desk_at s.node place).agent.outgoing
+
+abbrev pub sending_main : ℕ → Login → Body → Scene → Bool × Scene
+sending_main place login body s = main_sent place login.node s.node (request_step s.node.layer s.outbox login.node body (purposes.Agent place))
+
+abbrev pub sending_ahead : ℕ → Login → Body → Scene → Bool × Scene
+sending_ahead place login body s = ahead_sent place login.node s.node (request_step s.node.layer s.outbox login.node body (purposes.Agent place))
+
+-- an unsolicited status leaves
+abbrev pub pushing : ℕ → Login → Scene → Scene
+pushing place login s = unsolicited_by place login.node s.node (request_step s.node.layer s.outbox login.node (block_write login.fifo block) purposes.Unsolicited)
+
 -- what follows a step of an agent that was told: it asks, and loses what finds no label
-pub data Behind : Scene → Scene → Type 0 where
-  loses : (place : ℕ) (which : Which) (s : Scene) → Behind s (noted place (lost_step (desk_at s.node place).agent which causes.Label).0 (scene (with_agent s.node place (lost_step (desk_at s.node place).agent which causes.Label).1) s.outbox))
-  asks_main : (place : ℕ) (login : Login) (ask : Ask) (is_status : Bool) (body : Body) (s : Scene) → agent_body ask is_status login.fifo (desk_at s.node place).agent.outgoing ≡ Some body → Behind s (main_sent place login.node s.node (request_step s.node.layer s.outbox login.node body (purposes.Agent place))).1
-  asks_ahead : (place : ℕ) (login : Login) (ask : Ask) (body : Body) (s : Scene) → agent_body ask false login.fifo (desk_at s.node place).agent.outgoing ≡ Some body → Behind s (ahead_sent place login.node s.node (request_step s.node.layer s.outbox login.node body (purposes.Agent place))).1
+pub data Behind (place : ℕ) (login : Login) : Scene → Scene → Type 0 where
+  loses : (which : Which) (s : Scene) → is_under_way which (desk_at s.node place).agent ≡ true → Behind place login s (lost_at place which s)
+  asks_main : (ask : Ask) (is_status : Bool) (body : Body) (s : Scene) → body_at place login ask is_status s ≡ Some body → Behind place login s (sending_main place login body s).1
+  asks_ahead : (ask : Ask) (body : Body) (s : Scene) → body_at place login ask false s ≡ Some body → Behind place login s (sending_ahead place login body s).1
+
+-- what tells a login of a disc that came in the tray of a unit, by a delivery to the agent of a place
+pub record Heard (unit from place : ℕ) (login : Login) (s : Scene) : Type 0 where
+  pub small : place < 8
+  pub is : login_at s.node place ≡ Some login
+  pub heard : hears unit from place (desk_at s.node place) login ≡ true
+
+pub data Announced (unit from : ℕ) : Scene → Scene → Type 0 where
+  pushes : (place : ℕ) (login : Login) (s : Scene) → Heard unit from place login s → Announced unit from s (pushing place login s)
+  withholds : (place : ℕ) (login : Login) (s : Scene) → Heard unit from place login s → Announced unit from s (scene s.node (with_side s.outbox (sides.Unsent place)))
 
 -- steps that are lost fit
 abbrev pub Lost : Kind → Type 0
@@ -105,39 +141,38 @@ Lost k = (m : Machine) (which : Which) (cause : FailCause) → k.Fits (lost_step
 pub data Move (k : Kind) : Scene → Scene → Type 0 where
   -- of the agent of a place
   notes : (place : ℕ) (step : AgentStep) (s : Scene) → k.Fits step → Move k s (noted place step s)
-  lapses : (place : ℕ) (which : Which) (s : Scene) → Lost k → Move k s (noted place (expired_desk which (desk_at s.node place)).0 (scene (with_desk s.node place (expired_desk which (desk_at s.node place)).1) s.outbox))
-  follows : (x y : Scene) → Lost k → k.MayAsk → Behind x y → Move k x y
-  replies : (told : Option Told) (place unit : ℕ) (which : Which) (answer : Answer) (disks : List Disk) (s : Scene) → k.MayAlter → Move k s (scene (replied told place unit which answer (stage s.node disks)).1.node s.outbox)
+  lapses : (place : ℕ) (which : Which) (s : Scene) → Lost k → Move k s (lapsed_at place which s)
+  follows : (place : ℕ) (login : Login) (x y : Scene) → Lost k → k.MayAsk → Behind place login x y → Move k x y
+  replies : (told : Option Told) (place unit : ℕ) (which : Which) (answer : Answer) (disks : List Disk) (s : Scene) → k.MayChange → Move k s (scene (replied told place unit which answer (stage s.node disks)).1.node s.outbox)
   cuts : (cause : CutCause) (place : ℕ) (s : Scene) → k.MayCut → Move k s (cut cause place s)
   -- its registers
-  opens : (place : ℕ) (pointer : OrbPointer) (ask : Ask) (desk : Desk) (s : Scene) → k.MayTell → point_desk (desk_at s.node place) pointer ≡ (Ok ask, desk) → Move k s (scene (with_desk s.node place desk) (with_side s.outbox (sides.Opened place (orb_of desk.agent))))
+  opens : (place : ℕ) (pointer : OrbPointer) (ask : Ask) (desk : Desk) (s : Scene) → k.MayAnswer → point_desk (desk_at s.node place) pointer ≡ (Ok ask, desk) → Move k s (scene (with_desk s.node place desk) (with_side s.outbox (sides.Opened place (orb_of desk.agent))))
   refuses : (place : ℕ) (pointer : OrbPointer) (refusal : PointRefusal) (desk : Desk) (s : Scene) → point_desk (desk_at s.node place) pointer ≡ (Err refusal, desk) → Move k s (scene (with_desk s.node place desk) s.outbox)
   rings : (place : ℕ) (s : Scene) → Move k s (scene (with_agent s.node place (doorbell_step (desk_at s.node place).agent).1) s.outbox)
   enables : (place : ℕ) (s : Scene) → Move k s (enabled place s)
   -- of a disc
-  comes : (unit place : ℕ) (s : Scene) → k.MayAlter → Move k s (scene (with_changed unit place s.node) s.outbox)
-  announces : (place : ℕ) (login : Login) (s : Scene) → k.MayAsk → k.MayTell → Move k s (unsolicited_by place login.node s.node (request_step s.node.layer s.outbox login.node (block_write login.fifo block) purposes.Unsolicited))
+  comes : (unit place : ℕ) (s : Scene) → k.MayChange → Move k s (scene (with_changed unit place s.node) s.outbox)
+  announces : (unit from : ℕ) (x y : Scene) → k.MayAsk → k.MayAnnounce → Announced unit from x y → Move k x y
   settles : (peer : ℕ) (s : Scene) → Move k s (scene (settled peer s.node) s.outbox)
   -- of the management agent
-  starts : (source orb : ℕ) (s : Scene) → Move k s (scene (record s.node { manager = (management.start_step s.node.manager source orb).1 }) s.outbox)
-  decides : (answer : Answer) (s : Scene) → k.MayAlter → Move k s (scene (with_manager s.node (management.reply_step s.node.manager s.node.logins s.node.keys answer).1) s.outbox)
-  gives_up : (s : Scene) → Move k s (scene (with_manager s.node (management.reply_step s.node.manager s.node.logins s.node.keys NoLabel).1) s.outbox)
-  stops : (s : Scene) → Move k s (scene (record s.node { manager = management.clear_step s.node.manager }) s.outbox)
-  asks_for : (source : ℕ) (ask : Ask) (body : Body) (s : Scene) → k.MayAsk → manager_body ask s.node.manager.outgoing ≡ Some body → Move k s (sending source body purposes.Management s)
-  enters : (place : ℕ) (replaced : Option ℕ) (s : Scene) → k.MayAlter → Move k s (scene (fresh_desk place s.node) (tell_left replaced s.outbox))
-  leaves : (place login : ℕ) (s : Scene) → k.MayAlter → Move k s (logged_out place login s)
+  starts : (source orb : ℕ) (s : Scene) → k.MayManage → Move k s (scene (record s.node { manager = (management.start_step s.node.manager source orb).1 }) s.outbox)
+  decides : (answer : Answer) (s : Scene) → k.MayDecide → Move k s (scene (with_manager s.node (management.reply_step s.node.manager s.node.logins s.node.keys answer).1) s.outbox)
+  gives_up : (s : Scene) → k.MayManage → Move k s (scene (with_manager s.node (management.reply_step s.node.manager s.node.logins s.node.keys NoLabel).1) s.outbox)
+  stops : (s : Scene) → k.MayDecide → Move k s (scene (record s.node { manager = management.clear_step s.node.manager }) s.outbox)
+  asks_for : (source : ℕ) (ask : Ask) (body : Body) (s : Scene) → k.MayAsk → k.MayManage → manager_body ask s.node.manager.outgoing ≡ Some body → Move k s (sending source body purposes.Management s)
+  enters : (place : ℕ) (replaced : Option ℕ) (s : Scene) → k.MayDecide → Move k s (scene (fresh_desk place s.node) (tell_left replaced s.outbox))
+  leaves : (place login : ℕ) (s : Scene) → k.MayDecide → Move k s (logged_out place login s)
   aborts : (place orb : ℕ) (s : Scene) → Move k s (scene (with_agent s.node place (abort_step (desk_at s.node place).agent orb)) s.outbox)
-  clears : (unit : ℕ) (s : Scene) → k.MayAlter → Move k s (clear_unit unit s)
+  clears : (unit : ℕ) (s : Scene) → k.MayChange → Move k s (clear_unit unit s)
   -- of the transaction layer
   judges : (generation : ℕ) (bytes : List ℕ) (s : Scene) → k.MayTurn → Move k s (turned (judging_step s.node.layer generation bytes).1 s)
   expires : (peer : ℕ) (label : LabelParts) (s : Scene) → k.MayTurn → Move k s (turned (expiring_step s.node.layer peer label).1 s)
   sees : (generation id : ℕ) (s : Scene) → k.MayTurn → Move k s (turned (seeing_step s.node.layer generation id).1 s)
-  answers : (p : Packet) (bytes : List ℕ) (rcode : ℕ) (given : List ℕ) (s : Scene) → k.MayTurn → Move k s (answered p bytes rcode given s)
+  answers : (p : Packet) (bytes : List ℕ) (rcode : ℕ) (given : List ℕ) (s : Scene) → k.MayAnswer → Move k s (answered p bytes rcode given s)
   -- of all places
-  tells : (side : Side) (s : Scene) → Tells k side → IsAlone side → Move k s (scene s.node (with_side s.outbox side))
-  rests : (s : Scene) → k.MayAlter → Move k s (scene (after_reset s.node) s.outbox)
-  ages : (s : Scene) → k.MayAlter → Move k s (scene (record s.node { logins = (tick_step s.node.logins).1 }) s.outbox)
-  keys_as : (unit : ℕ) (key : List ℕ) (s : Scene) → Move k s (scene (with_key unit key s.node) s.outbox)
+  tells : (side : Side) (s : Scene) → Plain k side → IsAlone side → Move k s (scene s.node (with_side s.outbox side))
+  rests : (s : Scene) → k.MayDecide → Move k s (scene (after_reset s.node) s.outbox)
+  ages : (s : Scene) → k.MayDecide → Move k s (scene (record s.node { logins = (tick_step s.node.logins).1 }) s.outbox)
 
 -- one after another
 pub data Chain (M : Scene → Scene → Type 0) : Scene → Scene → Type 0 where
@@ -161,22 +196,38 @@ abbrev pub FitsIn : Kind → Option Told → Finding Purpose → Whole → Type 
 FitsIn k told (of_response p label purpose) w = FitsAt k told purpose (header_in p).source label (answer_in p) w
 FitsIn k told _ w = Unit {0}
 
--- what an agent, the management agent and their cuts may do: the steps that are lost fit
+-- what an agent may do: the steps that are lost fit; what the end of a transaction may bring; and what each call
 pub record MayAct (k : Kind) : Type 0 where
   pub lost : Lost k
   pub asking : k.MayAsk
   pub cutting : k.MayCut
-  pub telling : k.MayTell
 
--- and a request: the steps that are asked for fit
-pub record MayServe (k : Kind) : Type 0 where
-  pub acts : MayAct k
+pub record MayEnd (k : Kind) : Type 0 where
+  pub act : MayAct k
+  pub announcing : k.MayAnnounce
+  pub managing : k.MayManage
+  pub changing : k.MayChange
+  pub deciding : k.MayDecide
+
+pub record MayAll (k : Kind) : Type 0 where
+  pub end : MayEnd k
   pub asked : (ask : Ask) → k.Fits (asks ask)
+  pub answering : k.MayAnswer
   pub turning : k.MayTurn
 
 -- all may be done by steps that are known so
 abbrev pub fitting : (AgentStep → Type 0) → Kind
-fitting F = record { Fits = F; MayAsk = Unit {0}; MayCut = Unit {0}; MayTell = Unit {0}; MayAlter = Unit {0}; MayTurn = Unit {0} }
+fitting F = record {
+  Fits = F;
+  MayAsk = Unit {0};
+  MayCut = Unit {0};
+  MayAnnounce = Unit {0};
+  MayManage = Unit {0};
+  MayChange = Unit {0};
+  MayDecide = Unit {0};
+  MayAnswer = Unit {0};
+  MayTurn = Unit {0};
+}
 
 abbrev pub free : Kind
 free = fitting (λ step. Unit {0})

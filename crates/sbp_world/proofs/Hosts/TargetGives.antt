@@ -15,7 +15,7 @@ use Rattle.sbp_target.specs.declared.purpose.Purpose.{Purpose}
 use Rattle.sbp_target.specs.Agents.{agent_body}
 use Rattle.sbp_target.specs.Histories.Layers.{response, with_asked}
 use Rattle.sbp_target.specs.Histories.Moves.{Asks, Moves, by_agent, by_disc, by_manager, free}
-use Rattle.sbp_target.specs.Histories.Moves.{Tells, announced, back, cleared, died, ended, failed, held, lapsed, left, managed, opened, ran, unsent, was_cut}
+use Rattle.sbp_target.specs.Histories.Moves.{Tells, announced, back, cleared, departed, died, ended, failed, held, lapsed, managed, opened, plain, ran, unsent, was_cut}
 use Rattle.sbp_target.specs.Management.{manager_body}
 use Rattle.sbp_target.specs.Nodes.{Scene}
 use Rattle.sbp_target.specs.Receiving.{TellsIn, expired, received, seen, ticked, with_layer}
@@ -34,17 +34,17 @@ other : (side : Side) → Tells free side → IsOther side
 other _ (ran place m step outcome f e) = tt
 other _ (died place step cause f e) = tt
 other _ (ended place m step status f e) = tt
-other _ (was_cut place cause c) = tt
-other _ (opened place orb t) = tt
-other _ (announced place t) = tt
-other _ (unsent place t) = tt
-other _ (failed source cause t) = tt
-other _ (managed source function subject status login a) = tt
-other _ (cleared unit a) = tt
-other _ (back login a) = tt
-other _ (left login a) = tt
-other _ (held login a) = tt
-other _ (lapsed login a) = tt
+other _ (plain _ (was_cut place cause c)) = tt
+other _ (plain _ (opened place orb t)) = tt
+other _ (plain _ (announced place t)) = tt
+other _ (plain _ (unsent place t)) = tt
+other _ (plain _ (failed source cause t)) = tt
+other _ (plain _ (managed source function subject status login a)) = tt
+other _ (plain _ (cleared unit a)) = tt
+other _ (plain _ (back login a)) = tt
+other _ (plain _ (departed login a)) = tt
+other _ (plain _ (held login a)) = tt
+other _ (plain _ (lapsed login a)) = tt
 
 -- ---- what is sent: no answer and no request writes a quadlet
 more_mild : (packets : List Outgoing) (packet : Outgoing) → AreMild packets → IsMild packet.bytes → AreMild (packets ++ packet ∷ [])
@@ -70,10 +70,10 @@ manager_may asks_for.Nothing outgoing = agent_may asks_for.Nothing false 0 outgo
 manager_may (asks_for.Read offset len) outgoing = may_if (len == 4) (Some (quadlet_read offset)) (agent_body (asks_for.Read offset len) false 0 outgoing) tt (agent_may (asks_for.Read offset len) false 0 outgoing)
 manager_may (asks_for.Write offset len) outgoing = agent_may (asks_for.Write offset len) false 0 outgoing
 
-asks_mild : (body : Body) → Asks body → IsMildBody body
-asks_mild _ (by_agent ask is_status fifo outgoing body e) = subst MayAsk e (agent_may ask is_status fifo outgoing)
-asks_mild _ (by_manager ask outgoing body e) = subst MayAsk e (manager_may ask outgoing)
-asks_mild _ (by_disc fifo) = tt
+asks_mild : (body : Body) (purpose : Purpose) → Asks free body purpose → IsMildBody body
+asks_mild _ _ (by_agent place ask is_status fifo outgoing body e) = subst MayAsk e (agent_may ask is_status fifo outgoing)
+asks_mild _ _ (by_manager ask outgoing body m e) = subst MayAsk e (manager_may ask outgoing)
+asks_mild _ _ (by_disc fifo) = tt
 
 asked_more : (peer : ℕ) (asked : Option Asked) (packets : List Outgoing) → IsMildAsked asked → AreMild packets → AreMild (with_asked peer asked packets)
 asked_more peer None packets m h = h
@@ -86,14 +86,14 @@ answers_more layer packets p bytes rcode given h = more_mild packets _ h (respon
 sends : moves.Sends free (λ layer packets. AreMild packets)
 sends = record {
   disowns = λ layer packets peer label h. h;
-  asks_for = λ may layer packets peer body purpose a h. asked_more peer (asking_step layer peer body purpose).0 packets (asked_mild layer peer body purpose (asks_mild body a)) h;
+  asks_for = λ may layer packets peer body purpose a h. asked_more peer (asking_step layer peer body purpose).0 packets (asked_mild layer peer body purpose (asks_mild body purpose a)) h;
   answers = λ may layer packets p bytes rcode given h. answers_more layer packets p bytes rcode given h;
   judges = λ may layer packets generation bytes h. h;
   expires = λ may layer packets peer label h. h;
   sees = λ may layer packets generation id h. h;
 }
 
-gives : (x y : Scene) → Moves free x y → In x → In y
+pub gives : (x y : Scene) → Moves free x y → In x → In y
 gives x y m h =
     (sides_kept free AreOthers (λ told side t i. more told side i (other side t)) x y m h.0, packets_kept free (λ layer packets. AreMild packets) sends x y m h.1)
 

@@ -38,7 +38,7 @@ use Rattle.sbp_target.specs.Serving.{answered, start, started_by}
 use Rattle.sbp_target.specs.Units.{clear_from, clear_unit, cut_all, cut_at, cut_from, is_cut}
 use Rattle.command_agent.specs.declared.phase.Phase.{Phase}
 use Rattle.command_agent.specs.declared.phase.Phase.TheVariants as phases
-use Rattle.sbp_world.proofs.Lists.Follows.{AreSame}
+use Rattle.sbp_world.proofs.Lists.SameAgents.{AreSame}
 use Rattle.sbp_world.proofs.Lists.Kept.{IsBeside}
 use Rattle.sbp_world.proofs.Lists.Full.{IsClosed}
 use Rattle.sbp_world.proofs.Lists.StatusRests.{map_agents}

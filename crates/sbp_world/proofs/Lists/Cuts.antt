@@ -39,7 +39,7 @@ use Rattle.sbp_target.specs.Serving.{answered, start, started_by}
 use Rattle.sbp_target.specs.Units.{clear_from, clear_unit, cut_all, cut_at, cut_from, is_cut}
 use Rattle.sbp_world.specs.Telling.{told_all}
 use Rattle.sbp_world.specs.Worlds.{WorldState}
-use Rattle.sbp_world.proofs.Lists.Follows.{AreSame}
+use Rattle.sbp_world.proofs.Lists.SameAgents.{AreSame}
 use Rattle.sbp_world.proofs.Lists.Kept.{IsBeside, IsLess, Kept, as_kept, less_kept, marked, one_beside, same, shut}
 use Rattle.sbp_world.proofs.Lists.StatusRests.{desk_either, map_agents}
 use Rattle.sbp_world.proofs.Agents.Telling.{told_snoc as told_last}

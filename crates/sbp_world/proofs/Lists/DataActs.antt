@@ -34,7 +34,7 @@ use Rattle.sbp_world.specs.Worlds.{WorldState}
 use Rattle.sbp_target.proofs.Histories.Calling.{Good}
 use Rattle.sbp_world.proofs.Agents.AskedLate.{follow_logins}
 use Rattle.sbp_world.proofs.Lists.DataFollows.{AllSo, IsSo, follows_so, more_so, to_fifo}
-use Rattle.sbp_world.proofs.Lists.Follows.{AreSame, are_self, set_here}
+use Rattle.sbp_world.proofs.Lists.SameAgents.{AreSame, are_self, set_here}
 use Rattle.sbp_world.proofs.Lists.StatusActs.{first, there}
 use Rattle.sbp_world.proofs.Lists.StatusBytes.{wrote}
 use Rattle.sbp_world.proofs.Lists.StatusPackets.{unsolicited_small}

@@ -37,7 +37,7 @@ use Rattle.sbp_target.specs.Serving.{answered, asked_in}
 use Rattle.sbp_target.specs.Units.{announce_at, announce_from, announce_in, announce_to, hears, is_pending, unsolicited_by, unsolicited_from}
 use Rattle.sbp_world.specs.Worlds.{WorldState}
 use Rattle.sbp_target.proofs.Histories.Calling.{Good}
-use Rattle.sbp_world.proofs.Lists.Follows.{AreSame, are_self, set_here, set_there, with_same}
+use Rattle.sbp_world.proofs.Lists.SameAgents.{AreSame, are_self, set_here, set_there, with_same}
 use Rattle.sbp_world.proofs.Lists.StatusBytes.{wrote}
 use Rattle.sbp_world.proofs.Lists.StatusFollows.{Done, Followed, Quiet, Step, follows}
 use Rattle.sbp_world.proofs.Lists.StatusPackets.{logged_more, plain_logged, EndSide, IsApart, IsFed, IsPlain, apart_named, at_other, end_of, fed_more, named_more, of_more, one_plain, or_before, reads_more, told_more, unsolicited_apart, unsolicited_small, unsolicited_unread}

@@ -37,7 +37,7 @@ use Rattle.sbp_target.specs.Receiving.{after_reset, cleared_node, expired_from, 
 use Rattle.sbp_target.specs.Sending.{answer_step, answered_by, request_step, sent_by, with_side}
 use Rattle.sbp_target.specs.Serving.{answered, start, started_by}
 use Rattle.sbp_target.specs.Units.{clear_from, clear_unit, cut_all, cut_at, cut_from, is_cut}
-use Rattle.sbp_world.proofs.Lists.Follows.{AreSame}
+use Rattle.sbp_world.proofs.Lists.SameAgents.{AreSame}
 use Rattle.sbp_world.proofs.Lists.StatusPackets.{one_end, or_before, told_end, told_more}
 use Rattle.sbp_world.proofs.Lists.StatusSteps.{rests}
 

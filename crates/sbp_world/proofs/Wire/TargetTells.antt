@@ -3,7 +3,7 @@ use Rattle.std.proofs.Common.{ℕ, List, Option}
 use Rattle.async_packet.specs.Labels.{LabelParts}
 use Rattle.rbc_disk.specs.Runs.{Told}
 use Rattle.sbp_journal.specs.declared.side.Side.{Side}
-use Rattle.sbp_target.specs.Histories.Moves.{Moves, Tells, announced, back, cleared, died, ended, failed, free, held, lapsed, left, managed, opened, ran, unsent, was_cut}
+use Rattle.sbp_target.specs.Histories.Moves.{Moves, Tells, announced, back, cleared, departed, died, ended, failed, free, held, lapsed, managed, opened, plain, ran, unsent, was_cut}
 use Rattle.sbp_target.specs.Nodes.{Scene}
 use Rattle.sbp_target.specs.Receiving.{expired, received, seen, ticked}
 use Rattle.sbp_target.specs.Replies.{Whole, scene_of}
@@ -18,17 +18,17 @@ other : (side : Side) → Tells free side → IsOtherSide side
 other _ (ran place m step outcome f e) = tt
 other _ (died place step cause f e) = tt
 other _ (ended place m step status f e) = tt
-other _ (was_cut place cause c) = tt
-other _ (opened place orb t) = tt
-other _ (announced place t) = tt
-other _ (unsent place t) = tt
-other _ (failed source cause t) = tt
-other _ (managed source function subject status login a) = tt
-other _ (cleared unit a) = tt
-other _ (back login a) = tt
-other _ (left login a) = tt
-other _ (held login a) = tt
-other _ (lapsed login a) = tt
+other _ (plain _ (was_cut place cause c)) = tt
+other _ (plain _ (opened place orb t)) = tt
+other _ (plain _ (announced place t)) = tt
+other _ (plain _ (unsent place t)) = tt
+other _ (plain _ (failed source cause t)) = tt
+other _ (plain _ (managed source function subject status login a)) = tt
+other _ (plain _ (cleared unit a)) = tt
+other _ (plain _ (back login a)) = tt
+other _ (plain _ (departed login a)) = tt
+other _ (plain _ (held login a)) = tt
+other _ (plain _ (lapsed login a)) = tt
 
 tells : (x y : Scene) → Moves free x y → In x → In y
 tells x y m h = sides_kept free AreOtherSides (λ told side t i. more_others told side i (other side t)) x y m h
