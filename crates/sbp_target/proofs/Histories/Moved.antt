@@ -48,7 +48,7 @@ use Rattle.sbp_target.specs.Sending.{request_step, with_side}
 use Rattle.sbp_target.specs.Serving.{accessed_by, answered, asked_in, enabled, is_barred, point, pointed_by, request_step as served_step, ring, serve, served_as, start, started_by}
 use Rattle.sbp_target.specs.Telling.{orb_of}
 use Rattle.sbp_target.specs.Units.{announce_at, announce_from, announce_in, announce_to, clear_from, clear_unit, cut_all, cut_at, cut_from, hears, is_cut, is_pending}
-use Rattle.sbp_target.specs.Histories.Moves.{Announced, Behind, Chain, FitsAt, FitsBy, FitsIn, Heard, Kind, Lost, MayAct, MayAll, MayEnd, Move, Moves, body_at, go_on, lost_at, pushing, sending_ahead, turned}
+use Rattle.sbp_target.specs.Histories.Moves.{Announced, Behind, Chain, FitsAt, FitsBy, FitsCall, FitsIn, Heard, Kind, Lost, MayAct, MayAll, MayEnd, Move, Moves, body_at, go_on, lost_at, pushing, sending_ahead, turned}
 use Rattle.sbp_target.specs.Histories.Moves as moves
 
 -- one of two scenes
@@ -355,16 +355,16 @@ module _ (k : Kind) (z : Scene) where
           let t = scene (record s.node { manager = m }) s.outbox in ask_manager_moves may.asking manage source ask (answered p bytes 0 [] t) (answer_moves 0 [] t h)
       starts_by source (Err busy, m) s h = answer_moves 4 [] (scene (record s.node { manager = m }) s.outbox) h
 
-      starts : (orb : ℕ) (s : Scene) → Moves k z s → Moves k z (start orb p bytes s)
+      pub start_moves : (orb : ℕ) (s : Scene) → Moves k z s → Moves k z (start orb p bytes s)
       unfolding start
-      starts orb s h =
+      start_moves orb s h =
           let source = (header_in p).source in
           starts_by source (management.start_step s.node.manager source orb) s (go_on z s _ h (moves.starts source orb s manage))
 
       serves_as : (demand : Demand) (s : Scene) → Moves k z s → Moves k z (served_as demand p bytes s)
       serves_as (demands.Refused rcode) s h = answer_moves rcode [] s h
       serves_as (demands.Rom at len) s h = answer_moves 0 _ s h
-      serves_as (demands.Manage orb) s h = starts orb s h
+      serves_as (demands.Manage orb) s h = start_moves orb s h
       serves_as (demands.Agent place access) s h = access_moves access place s h
 
       serves : (s : Scene) → Moves k z s → Moves k z (serve p bytes s)
@@ -390,7 +390,7 @@ module _ (k : Kind) (z : Scene) where
         ask_manager_moves may.act.asking may.managing source r.0.ask (failed_by source r.0.failed u)
         (fails may.act.asking may.managing source r.0.failed u (decided_moves may.act.cutting may.deciding may.changing r.0.decided r.0.effect source t (go_on z s t h (moves.decides answer s may.deciding))))
 
-    manage_moves : (answer : Answer) (s : Scene) → Moves k z s → Moves k z (manage answer s)
+    pub manage_moves : (answer : Answer) (s : Scene) → Moves k z s → Moves k z (manage answer s)
     unfolding manage
     manage_moves answer s h = manages_in (management.source_in s.node.manager.operation) answer s h
 
@@ -424,7 +424,7 @@ module _ (k : Kind) (z : Scene) where
     receives_as told bytes (of_again p rcode) w f h = answer_moves may.end.act may.asked may.answering p bytes rcode [] (scene_of w) h
     receives_as told bytes (of_request p) w f h = scene_moves (served_step p bytes (scene_of w)) w (request_moves may.end.act may.asked may.answering p bytes may.end.managing (scene_of w) h)
 
-    pub receive_moves : (told : Option Told) (generation : ℕ) (bytes : List ℕ) (w : Whole) → FitsIn k told (judging_step w.node.layer generation bytes).0 (with_layer (judging_step w.node.layer generation bytes).1 w) → Moves k z (scene_of w) → Moves k z (scene_of (received told generation bytes w).1)
+    pub receive_moves : (told : Option Told) (generation : ℕ) (bytes : List ℕ) (w : Whole) → FitsCall k told generation bytes w → Moves k z (scene_of w) → Moves k z (scene_of (received told generation bytes w).1)
     unfolding received
     receive_moves told generation bytes w f h =
         let found = judging_step w.node.layer generation bytes in

@@ -1,6 +1,6 @@
 -- What moves of a target keep: of all that is told, where each side that may be told keeps it; of the layer and the packets, where each request and
 -- answer does; and what they leave of the ROM, the units and the logins.
-use Rattle.std.proofs.Common.{◌≡◌, refl, ◌∙◌, ap, ℕ, Bool, true, false, List, [], ◌∷◌, ◌++◌, length, Option, Some, None}
+use Rattle.std.proofs.Common.{◌≡◌, refl, ◌∙◌, ap, ℕ, ◌&&◌, Bool, true, false, List, [], ◌∷◌, ◌++◌, length, Option, Some, None}
 use Rattle.std.proofs.lemmas.List.{length-set}
 use Rattle.async_packet.specs.Labels.{LabelParts}
 use Rattle.async_packet.specs.Packet.{Packet}
@@ -8,7 +8,7 @@ use Rattle.label_table.specs.declared.judgement.Asked.{Asked}
 use Rattle.label_table.specs.Bodies.{Body, block_write}
 use Rattle.label_table.specs.Layer.{Layer, answering_step, asking_step, disowning_step, expiring_step, judging_step, seeing_step}
 use Rattle.login_table.specs.declared.login.Login.{Login}
-use Rattle.login_table.specs.Table.{Table}
+use Rattle.login_table.specs.Table.{Table, is_live}
 use Rattle.media_bay.specs.Unsolicited.{block}
 use Rattle.mgmt_agent.specs.declared.operation.Operation.{Operation}
 use Rattle.mgmt_agent.specs.declared.operation.Phase.{Phase}
@@ -36,7 +36,7 @@ use Rattle.sbp_target.specs.declared.purpose.Sent.{Sent}
 use Rattle.sbp_target.specs.Agents.{ahead_sent, cut, disowned, dropped_by, main_sent, noted, promoted_by, told_cut, without_ahead}
 use Rattle.sbp_target.specs.Desks.{expired_desk}
 use Rattle.sbp_target.specs.Histories.Layers.{response, with_asked}
-use Rattle.sbp_target.specs.Histories.Moves.{Announced, Asks, Behind, Chain, FitsIn, Kind, Lost, MayAll, Move, Moves, Plain, Tells, fitting, free, go_on, lost_at, stay}
+use Rattle.sbp_target.specs.Histories.Moves.{Announced, Asks, Behind, Chain, FitsCall, Heard, Kind, Lost, MayAct, MayAll, MayEnd, Move, Moves, Plain, Tells, fitting, free, go_on, lost_at, stay, still}
 use Rattle.sbp_target.specs.Histories.Moves as moves
 use Rattle.sbp_target.specs.Management.{tell_left}
 use Rattle.sbp_target.specs.Nodes.{NodeState, Scene, scene, desk_at, with_agent, with_desk}
@@ -84,6 +84,15 @@ pub record Sends (k : Kind) (P : Layer Purpose → List Outgoing → Type 0) : T
 pub kept : (M : Scene → Scene → Type 0) (P : Scene → Type 0) → ((x y : Scene) → M x y → P x → P y) → (x y : Scene) → Chain M x y → P x → P y
 kept M P f _ _ (stay s) h = h
 kept M P f _ _ (go_on x y z m n) h = f y z n (kept M P f x y m h)
+
+-- who hears of a disc has a live login
+pub heard_live : (unit from place : ℕ) (login : Login) (s : Scene) → Heard unit from place login s → is_live login ≡ true
+heard_live unit from place login s e = both _ (is_live login) _ e.heard
+  where
+    both : (a b c : Bool) → (a && (b && c)) ≡ true → b ≡ true
+    both true true c f = refl
+    both true false c f = cc
+    both false b c f = cc
 
 -- by steps that keep it themselves
 pub carried : (P : Scene → Type 0) (x y : Scene) → Chain (λ s t. P s → P t) x y → P x → P y
@@ -445,7 +454,7 @@ module _ (F : AgentStep → Type 0) (asked : (ask : Ask) → F (asks ask)) (lost
     turning = tt;
   }
 
-  pub received_by : (told : Option Told) (generation : ℕ) (bytes : List ℕ) (w : Whole) → FitsIn (fitting F) told (judging_step w.node.layer generation bytes).0 (with_layer (judging_step w.node.layer generation bytes).1 w) → Moves (fitting F) (scene_of w) (scene_of (received told generation bytes w).1)
+  pub received_by : (told : Option Told) (generation : ℕ) (bytes : List ℕ) (w : Whole) → FitsCall (fitting F) told generation bytes w → Moves (fitting F) (scene_of w) (scene_of (received told generation bytes w).1)
   received_by told generation bytes w f = receive_moves (fitting F) (scene_of w) may told generation bytes w f (stay (scene_of w))
 
   pub expired_by : (peer : ℕ) (label : LabelParts) (s : Scene) → Moves (fitting F) s (expired peer label s).1
@@ -456,6 +465,16 @@ module _ (F : AgentStep → Type 0) (asked : (ask : Ask) → F (asks ask)) (lost
 
   pub ticked_by : (s : Scene) → Moves (fitting F) s (ticked s)
   ticked_by s = tick_moves (fitting F) s tt s (stay s)
+
+-- what ends a transaction and what a request does, where nothing is to be known of the steps
+pub ends : MayEnd free
+ends = record { act = record { lost = λ m which cause. tt; asking = tt; cutting = tt }; announcing = tt; managing = tt; changing = tt; deciding = tt }
+
+pub acts : MayAct still
+acts = record { lost = λ m which cause. tt; asking = tt; cutting = tt }
+
+pub asked : (ask : Ask) → Unit {0}
+asked ask = tt
 
 -- where nothing is to be known of them
 pub receives : (told : Option Told) (generation : ℕ) (bytes : List ℕ) (w : Whole) → Moves free (scene_of w) (scene_of (received told generation bytes w).1)

@@ -33,7 +33,7 @@ use Rattle.sbp_target.specs.Agents.{agent_body, ahead_sent, cut, main_sent, note
 use Rattle.sbp_target.specs.Desks.{expired_desk, point_desk, which_in}
 use Rattle.sbp_target.specs.Management.{fresh_desk, logged_out, manager_body, tell_left, with_manager}
 use Rattle.sbp_target.specs.Nodes.{Scene, scene, desk_at, login_at, with_agent, with_desk}
-use Rattle.sbp_target.specs.Receiving.{after_reset, answer_in, settled}
+use Rattle.sbp_target.specs.Receiving.{after_reset, answer_in, settled, with_layer}
 use Rattle.sbp_target.specs.Replies.{Stage, Whole, agent_step, replied, served_login, stage}
 use Rattle.sbp_target.specs.Sending.{request_step, with_side}
 use Rattle.sbp_target.specs.Serving.{answered, enabled}
@@ -196,6 +196,9 @@ abbrev pub FitsIn : Kind → Option Told → Finding Purpose → Whole → Type 
 FitsIn k told (of_response p label purpose) w = FitsAt k told purpose (header_in p).source label (answer_in p) w
 FitsIn k told _ w = Unit {0}
 
+abbrev pub FitsCall : Kind → Option Told → ℕ → List ℕ → Whole → Type 0
+FitsCall k told generation bytes w = let found = judging_step w.node.layer generation bytes in FitsIn k told found.0 (with_layer found.1 w)
+
 -- what an agent may do: the steps that are lost fit; what the end of a transaction may bring; and what each call
 pub record MayAct (k : Kind) : Type 0 where
   pub lost : Lost k
@@ -228,6 +231,23 @@ fitting F = record {
   MayAnswer = Unit {0};
   MayTurn = Unit {0};
 }
+
+-- a request may do this: units and logins stay, and nothing turns the layer
+abbrev pub serving : (AgentStep → Type 0) → Kind
+serving F = record {
+  Fits = F;
+  MayAsk = Unit {0};
+  MayCut = Unit {0};
+  MayAnnounce = Unit {0};
+  MayManage = Unit {0};
+  MayChange = ⊥;
+  MayDecide = ⊥;
+  MayAnswer = Unit {0};
+  MayTurn = ⊥;
+}
+
+abbrev pub still : Kind
+still = serving (λ step. Unit {0})
 
 abbrev pub free : Kind
 free = fitting (λ step. Unit {0})

@@ -26,7 +26,7 @@ use Rattle.sbp_journal.specs.declared.side.Side.TheVariants as sides
 use Rattle.sbp_journal.specs.Outgoings.{OutboxState}
 use Rattle.sbp_target.specs.declared.purpose.Purpose.{Purpose}
 use Rattle.sbp_target.specs.Agents.{cut, follow, noted}
-use Rattle.sbp_target.specs.Histories.Moves.{Kind, MayAct, Move, Moves, Tells, announced, back, cleared, departed, died, ended, failed, go_on, held, lapsed, managed, opened, plain, ran, stay, unsent, was_cut}
+use Rattle.sbp_target.specs.Histories.Moves.{Kind, MayAct, Move, Moves, Tells, announced, back, cleared, departed, died, ended, failed, go_on, held, lapsed, managed, opened, plain, ran, serving, stay, unsent, was_cut}
 use Rattle.sbp_target.specs.Histories.Moves as moves
 use Rattle.sbp_target.specs.Management.{ask_manager, cut_placed, tell_failed}
 use Rattle.sbp_target.specs.Nodes.{Scene, desk_at, scene}
@@ -50,8 +50,8 @@ noting = record { Fits = λ step. Unit {0}; MayAsk = ⊥; MayCut = ⊥; MayAnnou
 abbrev following : Kind
 following = record { Fits = λ step. step.ran ≡ None; MayAsk = Unit {0}; MayCut = ⊥; MayAnnounce = ⊥; MayManage = ⊥; MayChange = ⊥; MayDecide = ⊥; MayAnswer = ⊥; MayTurn = ⊥ }
 
-abbrev serving : Kind
-serving = record { Fits = λ step. step.ran ≡ None; MayAsk = Unit {0}; MayCut = Unit {0}; MayAnnounce = Unit {0}; MayManage = Unit {0}; MayChange = ⊥; MayDecide = ⊥; MayAnswer = Unit {0}; MayTurn = ⊥ }
+abbrev quiet_serving : Kind
+quiet_serving = serving (λ step. step.ran ≡ None)
 
 -- a transaction that fails runs no command
 loss_runs : (phase : Phase) (m : Machine) (cause : FailCause) → (main_lost phase m cause).0.ran ≡ None
@@ -81,7 +81,7 @@ lost_runs m which cause = loss_by m which cause
 ran_none : (x : Option Outcome) (outcome : Outcome) → x ≡ None → x ≡ Some outcome → ⊥
 ran_none x outcome e f = none-some outcome (sym e ∙ f)
 
-may : MayAct serving
+may : MayAct quiet_serving
 may = record { lost = lost_runs; asking = tt; cutting = tt }
 
 -- what is kept by telling what is of no unit; or by telling that a list is cut
@@ -224,7 +224,7 @@ module _ (P : List Side → Type 0) (units : List UnitState) (table : Table) whe
     pub tells : (side : Side) (s : Scene) → Spares side → In P units table s → In P units table (scene s.node (with_side s.outbox side))
     tells side s f h = record { told = k.tells s.outbox.sides side f h.told; units_are = h.units_are; logins = h.logins }
 
-    serve_tells : (told : List Side) (side : Side) → Tells serving side → P told → P (told ++ side ∷ [])
+    serve_tells : (told : List Side) (side : Side) → Tells quiet_serving side → P told → P (told ++ side ∷ [])
     serve_tells told _ (ran place m step outcome f e) h = absurd (ran_none step.ran outcome f e)
     serve_tells told _ (died place step cause f e) h = k.tells told (sides.Dead place cause) tt h
     serve_tells told _ (ended place m step status f e) h = k.tells told (sides.Ended place (orb_of m) status) tt h
@@ -240,21 +240,21 @@ module _ (P : List Side → Type 0) (units : List UnitState) (table : Table) whe
     serve_tells told _ (plain _ (held login a)) h = absurd a
     serve_tells told _ (plain _ (lapsed login a)) h = absurd a
 
-    serves : (x y : Scene) → Moves serving x y → In P units table x → In P units table y
-    serves x y m h = by_moves serving (λ never. never) (λ never. never) serve_tells x y m h
+    serves : (x y : Scene) → Moves quiet_serving x y → In P units table x → In P units table y
+    serves x y m h = by_moves quiet_serving (λ never. never) (λ never. never) serve_tells x y m h
 
     -- ---- unsolicited statuses, requests of the operation, requests that are served, time-outs
     pub announces_by : (b : Bool) (unit place : ℕ) (s : Scene) → In P units table s → In P units table (announced_by b unit place s)
-    announces_by b unit place s h = serves s _ (announced_moves (Move serving) unit place (λ x y m. moves.announces unit place x y tt tt m) s b s (stay s)) h
+    announces_by b unit place s h = serves s _ (announced_moves (Move quiet_serving) unit place (λ x y m. moves.announces unit place x y tt tt m) s b s (stay s)) h
 
     pub asks_manager : (source : ℕ) (ask : Ask) (s : Scene) → In P units table s → In P units table (ask_manager source ask s)
-    asks_manager source ask s h = serves s _ (ask_manager_moves serving s tt tt source ask s (stay s)) h
+    asks_manager source ask s h = serves s _ (ask_manager_moves quiet_serving s tt tt source ask s (stay s)) h
 
     pub request_tells : (request : Packet) (bytes : List ℕ) (s : Scene) → In P units table s → In P units table (served_step request bytes s).1
-    request_tells request bytes s h = serves s _ (request_moves serving s may (λ ask. refl) tt request bytes tt s (stay s)) h
+    request_tells request bytes s h = serves s _ (request_moves quiet_serving s may (λ ask. refl) tt request bytes tt s (stay s)) h
 
     pub expires_agent : (place peer : ℕ) (label : LabelParts) (s : Scene) → In P units table s → In P units table (expire_agent place peer label s)
-    expires_agent place peer label s h = serves s _ (expire_agent_moves serving s lost_runs tt place peer label s (stay s)) h
+    expires_agent place peer label s h = serves s _ (expire_agent_moves quiet_serving s lost_runs tt place peer label s (stay s)) h
 
     -- ---- what is told of a failed operation, of a reset and of seconds
     pub failed_tells : (source : ℕ) (x : Option FailCause) (o : OutboxState) → P o.sides → P (tell_failed source x o).sides
