@@ -38,14 +38,14 @@ use Rattle.sbp_target.specs.Desks.{expired_desk}
 use Rattle.sbp_target.specs.Histories.Layers.{response, with_asked}
 use Rattle.sbp_target.specs.Histories.Moves.{Announced, Asks, Behind, Chain, FitsCall, Heard, Kind, Lost, MayAct, MayAll, MayEnd, Move, Moves, Plain, Tells, fitting, free, go_on, lost_at, stay, still}
 use Rattle.sbp_target.specs.Histories.Moves as moves
-use Rattle.sbp_target.specs.Management.{tell_left}
+use Rattle.sbp_target.specs.Management.{cut_placed, tell_left}
 use Rattle.sbp_target.specs.Nodes.{NodeState, Scene, scene, desk_at, with_agent, with_desk}
 use Rattle.sbp_target.specs.Receiving.{expired, received, seen, ticked, with_layer}
 use Rattle.sbp_target.specs.Replies.{Whole, replied, scene_of}
 use Rattle.sbp_target.specs.Sending.{answer_step, request_step, sent_by}
 use Rattle.sbp_target.specs.Telling.{orb_of, tell_dead, tell_ended, tell_ran, tell_step}
-use Rattle.sbp_target.specs.Units.{clear_unit, unsolicited_by}
-use Rattle.sbp_target.proofs.Histories.Moved.{expire_moves, fits_in, receive_moves, see_moves, tick_moves}
+use Rattle.sbp_target.specs.Units.{clear_unit, cut_all, unsolicited_by}
+use Rattle.sbp_target.proofs.Histories.Moved.{cut_all_moves, cut_placed_moves, expire_moves, fits_in, receive_moves, see_moves, tick_moves}
 
 -- a request of the management operation that finds no label leaves the logins
 lost_phase : (phase : Phase) (m : management.Machine) (operation : Operation) (logins : Table) (keys : List (List ℕ)) → (management.reply_in phase m operation logins keys NoLabel).1.1 ≡ logins
@@ -97,6 +97,13 @@ heard_live unit from place login s e = both _ (is_live login) _ e.heard
 -- by steps that keep it themselves
 pub carried : (P : Scene → Type 0) (x y : Scene) → Chain (λ s t. P s → P t) x y → P x → P y
 carried P x y m h = kept (λ s t. P s → P t) P (λ s t f i. f i) x y m h
+
+-- what is kept as a list is cut
+pub cuts_keep : (P : Scene → Type 0) → ((cause : CutCause) (place : ℕ) (s : Scene) → P s → P (cut cause place s)) → (cause : CutCause) (unit : Option ℕ) (s : Scene) → P s → P (cut_all cause unit s)
+cuts_keep P f cause unit s h = carried P s _ (cut_all_moves (λ x y. P x → P y) f s cause unit s (stay s)) h
+
+pub placed_keep : (P : Scene → Type 0) → ((cause : CutCause) (place : ℕ) (s : Scene) → P s → P (cut cause place s)) → (place : Option ℕ) (cause : CutCause) (s : Scene) → P s → P (cut_placed place cause s)
+placed_keep P f place cause s h = carried P s _ (cut_placed_moves (λ x y. P x → P y) f s place cause s (stay s)) h
 
 -- ---- what is told where an agent asks and a disc is announced
 -- a transaction of an agent that finds no label

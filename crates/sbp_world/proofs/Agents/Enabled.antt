@@ -39,8 +39,8 @@ use Rattle.sbp_target.specs.Serving.{accessed_by, answered, asked_in, point, poi
 use Rattle.sbp_target.specs.Units.{clear_from, clear_unit, cut_all, unsolicited_by}
 use Rattle.sbp_target.proofs.Histories.Framed as framed
 use Rattle.sbp_target.specs.Histories.Moves.{Announced, pushes, stay, withholds}
-use Rattle.sbp_target.proofs.Histories.Moved.{announced_moves, cut_all_moves, cut_placed_moves}
-use Rattle.sbp_target.proofs.Histories.Views.{carried, kept}
+use Rattle.sbp_target.proofs.Histories.Moved.{announced_moves}
+use Rattle.sbp_target.proofs.Histories.Views.{cuts_keep, kept, placed_keep}
 
 -- each place whose register is enabled is one of these
 abbrev pub Enabled : (ℕ → Type 0) → NodeState → Type 0
@@ -77,14 +77,11 @@ module _ (Live : ℕ → Type 0) where
   abbrev In : Scene → Type 0
   In s = Enabled Live s.node
 
-  abbrev Carries : Scene → Scene → Type 0
-  Carries x y = In x → In y
-
   pub cuts_placed : (place : Option ℕ) (cause : CutCause) (s : Scene) → Enabled Live s.node → Enabled Live (cut_placed place cause s).node
-  cuts_placed place cause s h = carried In s _ (cut_placed_moves Carries cuts s place cause s (stay s)) h
+  cuts_placed place cause s h = placed_keep In cuts place cause s h
 
   pub cuts_all : (cause : CutCause) (unit : Option ℕ) (s : Scene) → Enabled Live s.node → Enabled Live (cut_all cause unit s).node
-  cuts_all cause unit s h = carried In s _ (cut_all_moves Carries cuts s cause unit s (stay s)) h
+  cuts_all cause unit s h = cuts_keep In cuts cause unit s h
 
   pick : (b : Bool) (x y : Scene) → Enabled Live x.node → Enabled Live y.node → Enabled Live (cond b x y).node
   pick true x y h g = h

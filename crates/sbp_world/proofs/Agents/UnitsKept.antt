@@ -18,14 +18,14 @@ use Rattle.command_agent.specs.declared.phase.Phase.TheVariants as phases
 use Rattle.command_agent.specs.declared.step.AgentStep.{AgentStep}
 use Rattle.command_agent.specs.declared.step.Which.{Which}
 use Rattle.command_agent.specs.declared.step.Which.TheVariants.{Ahead, Main}
-use Rattle.command_agent.specs.Machine.{Machine, is_ahead}
-use Rattle.command_agent.specs.Steps.{ahead_lost, lost, lost_step, main_lost, quiet}
+use Rattle.command_agent.specs.Machine.{Machine, is_ahead, state_in}
+use Rattle.command_agent.specs.Steps.{ahead_lost, is_reset, lost, lost_step, main_lost, quiet}
 use Rattle.sbp_journal.specs.declared.cause.CutCause.{CutCause}
 use Rattle.sbp_journal.specs.declared.side.Side.{Side}
 use Rattle.sbp_journal.specs.declared.side.Side.TheVariants as sides
 use Rattle.sbp_journal.specs.Outgoings.{OutboxState}
 use Rattle.sbp_target.specs.declared.purpose.Purpose.{Purpose}
-use Rattle.sbp_target.specs.Agents.{cut, follow, noted}
+use Rattle.sbp_target.specs.Agents.{cut, told_cut, follow, noted}
 use Rattle.sbp_target.specs.Histories.Moves.{Kind, MayAct, Move, Moves, Tells, announced, back, cleared, departed, died, ended, failed, go_on, held, lapsed, managed, opened, plain, ran, serving, stay, unsent, was_cut}
 use Rattle.sbp_target.specs.Histories.Moves as moves
 use Rattle.sbp_target.specs.Management.{ask_manager, cut_placed, tell_failed}
@@ -36,14 +36,11 @@ use Rattle.sbp_target.specs.Sending.{answer_step, answered_by, with_side}
 use Rattle.sbp_target.specs.Serving.{answered, request_step as served_step}
 use Rattle.sbp_target.specs.Telling.{orb_of, tell_dead, tell_ended, tell_ran, tell_step}
 use Rattle.sbp_target.specs.Units.{cut_all}
-use Rattle.sbp_target.proofs.Histories.Moved.{announced_moves, ask_manager_moves, behind_moves, cut_all_moves, cut_placed_moves, expire_agent_moves, request_moves}
-use Rattle.sbp_target.proofs.Histories.Views.{node_left, sides_kept}
+use Rattle.sbp_target.proofs.Histories.Moved.{announced_moves, ask_manager_moves, behind_moves, expire_agent_moves, request_moves}
+use Rattle.sbp_target.proofs.Histories.Views.{cuts_keep, node_left, placed_keep, sides_kept}
 use Rattle.sbp_world.proofs.Agents.UnitsTold.{Spares}
 
--- lists that are cut; a step that is told; what follows one that ran no command; and all that leaves units and logins
-abbrev cutting : Kind
-cutting = record { Fits = λ step. ⊥; MayAsk = ⊥; MayCut = Unit {0}; MayAnnounce = ⊥; MayManage = ⊥; MayChange = ⊥; MayDecide = ⊥; MayAnswer = ⊥; MayTurn = ⊥ }
-
+-- a step that is told; what follows one that ran no command; and all that leaves units and logins
 abbrev noting : Kind
 noting = record { Fits = λ step. Unit {0}; MayAsk = ⊥; MayCut = ⊥; MayAnnounce = ⊥; MayManage = ⊥; MayChange = ⊥; MayDecide = ⊥; MayAnswer = ⊥; MayTurn = ⊥ }
 
@@ -112,13 +109,6 @@ pub record In (P : List Side → Type 0) (units : List UnitState) (table : Table
   pub logins : s.node.logins ≡ table
 
 module _ (P : List Side → Type 0) (units : List UnitState) (table : Table) where
-  abbrev At : Scene → Type 0
-  At s = In P units table s
-
-  pub pick : (b : Bool) (x y : Scene) → In P units table x → In P units table y → In P units table (cond b x y)
-  pick true x y h i = h
-  pick false x y h i = i
-
   -- what leaves units and logins, and tells what is kept
   by_moves : (k : Kind) → (k.MayChange → ⊥) → (k.MayDecide → ⊥) → ((told : List Side) (side : Side) → Tells k side → P told → P (told ++ side ∷ [])) → (x y : Scene) → Moves k x y → In P units table x → In P units table y
   by_moves k still same f x y m h =
@@ -127,36 +117,20 @@ module _ (P : List Side → Type 0) (units : List UnitState) (table : Table) whe
 
   -- ---- lists are cut
   module _ (k : KeepsCuts P) where
-    cut_tells : (told : List Side) (side : Side) → Tells cutting side → P told → P (told ++ side ∷ [])
-    cut_tells told _ (ran place m step outcome f e) h = absurd f
-    cut_tells told _ (died place step cause f e) h = absurd f
-    cut_tells told _ (ended place m step status f e) h = absurd f
-    cut_tells told _ (plain _ (was_cut place cause c)) h = k.tells told place cause h
-    cut_tells told _ (plain _ (opened place orb t)) h = absurd t
-    cut_tells told _ (plain _ (announced place t)) h = absurd t
-    cut_tells told _ (plain _ (unsent place t)) h = absurd t
-    cut_tells told _ (plain _ (failed source cause t)) h = absurd t
-    cut_tells told _ (plain _ (managed source function subject status login a)) h = absurd a
-    cut_tells told _ (plain _ (cleared unit a)) h = absurd a
-    cut_tells told _ (plain _ (back login a)) h = absurd a
-    cut_tells told _ (plain _ (departed login a)) h = absurd a
-    cut_tells told _ (plain _ (held login a)) h = absurd a
-    cut_tells told _ (plain _ (lapsed login a)) h = absurd a
+    cut_tells : (b : Bool) (place : ℕ) (cause : CutCause) (o : OutboxState) → P o.sides → P (told_cut b place cause o).sides
+    cut_tells true place cause o h = h
+    cut_tells false place cause o h = k.tells o.sides place cause h
 
-    cut_by : (x y : Scene) → Moves cutting x y → In P units table x → In P units table y
-    cut_by x y m h = by_moves cutting (λ never. never) (λ never. never) cut_tells x y m h
-
-    cuts_off : (cause : CutCause) (place : ℕ) (s : Scene) → Move cutting s (cut cause place s)
-    cuts_off cause place s = moves.cuts cause place s tt
-
-    pub cuts_at : (cause : CutCause) (place : ℕ) (s : Scene) → In P units table s → In P units table (cut cause place s)
-    cuts_at cause place s h = cut_by s _ (go_on s s _ (stay s) (moves.cuts cause place s tt)) h
+    cuts_one : (cause : CutCause) (place : ℕ) (s : Scene) → In P units table s → In P units table (cut cause place s)
+    unfolding cut
+    cuts_one cause place s h =
+        record { told = cut_tells (is_reset (state_in (desk_at s.node place).agent.phase)) place cause s.outbox h.told; units_are = h.units_are; logins = h.logins }
 
     pub cuts_all : (cause : CutCause) (unit : Option ℕ) (s : Scene) → In P units table s → In P units table (cut_all cause unit s)
-    cuts_all cause unit s h = cut_by s _ (cut_all_moves (Move cutting) cuts_off s cause unit s (stay s)) h
+    cuts_all cause unit s h = cuts_keep (In P units table) cuts_one cause unit s h
 
     pub cuts_placed : (place : Option ℕ) (cause : CutCause) (s : Scene) → In P units table s → In P units table (cut_placed place cause s)
-    cuts_placed place cause s h = cut_by s _ (cut_placed_moves (Move cutting) cuts_off s place cause s (stay s)) h
+    cuts_placed place cause s h = placed_keep (In P units table) cuts_one place cause s h
 
   -- ---- an answer tells nothing
   answers_by : (r : List ℕ × Layer Purpose) (o : OutboxState) (source : ℕ) → P o.sides → P (answered_by r o source).1.sides

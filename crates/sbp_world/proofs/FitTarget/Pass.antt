@@ -37,8 +37,8 @@ use Rattle.sbp_world.specs.FitTarget.{Fits, FitsAgent, FitsLogin, IsOfKnown}
 use Rattle.sbp_world.proofs.FitTarget.Agents.{FitsAsk, lost_fits, quads_bytes, reset_fits}
 use Rattle.sbp_world.proofs.FitTarget.Nodes.{IfBody, agent_body_fits, fits_desk, fits_layer, none_main, seat_reset}
 use Rattle.sbp_target.specs.Histories.Moves.{Announced, pushes, stay, withholds}
-use Rattle.sbp_target.proofs.Histories.Moved.{announced_moves, cut_all_moves}
-use Rattle.sbp_target.proofs.Histories.Views.{carried, heard_live, kept}
+use Rattle.sbp_target.proofs.Histories.Moved.{announced_moves}
+use Rattle.sbp_target.proofs.Histories.Views.{cuts_keep, heard_live, kept}
 
 -- what is said of a layer, the packets handed out, and what was told
 abbrev pub Said : Type 1
@@ -158,7 +158,7 @@ module _ (known : ℕ → Type 0) (P : Said) where
         }
 
     pub cuts_all : (cause : CutCause) (unit : Option ℕ) (s : Scene) → In known P s → In known P (cut_all cause unit s)
-    cuts_all cause unit s h = carried (In known P) s _ (cut_all_moves (λ x y. In known P x → In known P y) cuts_at s cause unit s (stay s)) h
+    cuts_all cause unit s h = cuts_keep (In known P) cuts_at cause unit s h
 
   -- ---- what asks
   module _ (k : Keeps known P) where
