@@ -1,15 +1,14 @@
 -- What the target tells and what it leaves of the logins, as it follows a step of an agent, cuts lists, clears units and announces a disc.
-use Rattle.std.proofs.Common.{◌≡◌, ◌∙◌, refl, sym, ap, subst, ℕ, zero, suc, ◌+◌, nat_lt, is_some, Bool, true, false, cond, List, length, Option, Some, None}
+use Rattle.std.proofs.Common.{◌≡◌, ◌∙◌, refl, sym, ap, subst, ℕ, zero, suc, ◌+◌, nat_lt, Bool, true, false, cond, List, length, Option, Some, None}
 use Rattle.std.proofs.Math.ListN.{length-set}
 use Rattle.async_packet.specs.Labels.{LabelParts}
 use Rattle.async_packet.specs.Packet.{Packet, header_in}
 use Rattle.label_table.specs.declared.judgement.Asked.{Asked}
 use Rattle.label_table.specs.Bodies.{Body, block_write}
-use Rattle.label_table.specs.Layer.{Layer, asking_step, answering_step, free_labels}
+use Rattle.label_table.specs.Layer.{Layer, asking_step, answering_step}
 use Rattle.login_table.specs.declared.login.Login.{Login}
 use Rattle.login_table.specs.Table.{Table}
 use Rattle.media_bay.specs.Unsolicited.{block}
-use Rattle.orb_layout.specs.declared.ask.Ask.{Ask}
 use Rattle.orb_layout.specs.declared.ask.FailCause.{FailCause}
 use Rattle.orb_layout.specs.declared.ask.FailCause.TheVariants as causes
 use Rattle.orb_layout.specs.declared.status.StatusKind.{StatusKind}
@@ -18,7 +17,7 @@ use Rattle.command_agent.specs.declared.phase.Phase.TheVariants as phases
 use Rattle.command_agent.specs.declared.step.AgentStep.{AgentStep}
 use Rattle.command_agent.specs.declared.step.Which.{Which}
 use Rattle.command_agent.specs.declared.step.Which.TheVariants.{Main, Ahead}
-use Rattle.command_agent.specs.Machine.{Machine, is_ahead, is_under_way, state_in}
+use Rattle.command_agent.specs.Machine.{Machine, is_ahead, state_in}
 use Rattle.command_agent.specs.Steps.{ahead_lost, is_reset, lost, lost_step, main_lost, quiet}
 use Rattle.sbp_journal.specs.declared.cause.CutCause.{CutCause}
 use Rattle.sbp_journal.specs.declared.side.Side.{Side}
@@ -27,15 +26,18 @@ use Rattle.sbp_journal.specs.Outgoings.{OutboxState}
 use Rattle.sbp_target.specs.declared.desk.Desk.{Desk}
 use Rattle.sbp_target.specs.declared.purpose.Purpose.{Purpose}
 use Rattle.sbp_target.specs.declared.purpose.Purpose.TheVariants as purposes
-use Rattle.sbp_target.specs.Agents.{after_ahead, after_loss, after_main, agent_body, ahead_asked, ahead_sent, ask_main, cut, dropped_by, follow, lose, lose_main, lost_by, main_asked, main_sent, noted, promoted_by, send_ahead, told_cut, without_ahead}
+use Rattle.sbp_target.specs.Agents.{ahead_sent, cut, dropped_by, follow, main_sent, noted, promoted_by, told_cut, without_ahead}
 use Rattle.sbp_target.specs.Management.{clear_one, cut_placed}
-use Rattle.sbp_target.specs.Nodes.{NodeState, Scene, desk_at, login_at, scene, with_agent, with_desk}
+use Rattle.sbp_target.specs.Nodes.{NodeState, Scene, desk_at, scene, with_agent, with_desk}
 use Rattle.sbp_target.specs.Replies.{announced_by}
 use Rattle.sbp_target.specs.Sending.{answer_step, answered_by, request_step, sent_by, with_side}
 use Rattle.sbp_target.specs.Serving.{answered}
 use Rattle.sbp_target.specs.Telling.{tell_dead, tell_ended, tell_ran, tell_step}
-use Rattle.sbp_target.specs.Units.{announce_at, announce_from, announce_in, announce_to, clear_from, clear_unit, cut_all, cut_at, cut_from, hears, is_cut, is_pending, unsolicited_by}
+use Rattle.sbp_target.specs.Units.{clear_from, clear_unit, cut_all, unsolicited_by}
 use Rattle.media_laws.proofs.Ledgers.{Ledger, after_more, after_sides, by_side}
+use Rattle.sbp_target.specs.Histories.Moves.{Announced, Behind, asks_ahead, asks_main, loses, pushes, stay, withholds}
+use Rattle.sbp_target.proofs.Histories.Moved.{announced_moves, behind_moves, cut_all_moves, cut_placed_moves}
+use Rattle.sbp_target.proofs.Histories.Views.{carried, kept}
 
 -- a transaction that fails runs no command
 loss_runs : (phase : Phase) (m : Machine) (cause : FailCause) → (main_lost phase m cause).0.ran ≡ None
@@ -149,67 +151,26 @@ module _ (first l : Ledger) (table : Table) where
   main_leaves place peer node (Some label, (layer, outbox)) h f = record { told = h; fits = record { logins = f.logins; desks = length-set node.desks place _ ∙ f.desks } }
   main_leaves place peer node (None, (layer, outbox)) h f = record { told = h; fits = record { logins = f.logins; desks = f.desks } }
 
-  main_asks : (body : Option Body) (place : ℕ) (login : Login) (s : Scene) → In first l table s → In first l table (main_asked body place login s).1
-  main_asks None place login s h = h
-  main_asks (Some body) place login s h =
-      main_leaves place login.node s.node (request_step s.node.layer s.outbox login.node body (purposes.Agent place)) (requests s.node.layer s.outbox login.node body (purposes.Agent place) h.told) h.fits
-
-  asks_main : (place : ℕ) (login : Login) (step : AgentStep) (s : Scene) → In first l table s → In first l table (ask_main place login step s).1
-  unfolding ask_main
-  asks_main place login step s h =
-      main_asks (agent_body step.ask (is_some step.ended) login.fifo (desk_at s.node place).agent.outgoing) place login s h
-
-  loses_if : (b : Bool) (place : ℕ) (login : Login) (which : Which) (s : Scene) → In first l table s → In first l table (lost_by b place login which s).1
-  loses_if false place login which s h = h
-  loses_if true place login which s h =
-      let x = lost_step (desk_at s.node place).agent which causes.Label in
-      let t = scene (with_agent s.node place x.1) s.outbox in
-      let i : In first l table t = record { told = h.told; fits = record { logins = h.fits.logins; desks = length-set s.node.desks place _ ∙ h.fits.desks } } in
-      asks_main place login x.0 (noted place x.0 t) (quiet_tells place x.0 t (lost_runs (desk_at s.node place).agent which causes.Label) i)
-
-  loses : (place : ℕ) (login : Login) (which : Which) (s : Scene) → In first l table s → In first l table (lose place login which s).1
-  unfolding lose
-  loses place login which s h = loses_if (is_under_way which (desk_at s.node place).agent) place login which s h
-
   ahead_leaves : (place peer : ℕ) (node : NodeState) (r : Option LabelParts × (Layer Purpose × OutboxState)) → Is first l r.1.1 → Fits table node → In first l table (ahead_sent place peer node r).1
   ahead_leaves place peer node (Some label, (layer, outbox)) h f = record { told = h; fits = record { logins = f.logins; desks = length-set node.desks place _ ∙ f.desks } }
   ahead_leaves place peer node (None, (layer, outbox)) h f = record { told = h; fits = record { logins = f.logins; desks = f.desks } }
 
-  ahead_if : (b : Bool) (body : Body) (place : ℕ) (login : Login) (s : Scene) → In first l table s
-      → In first l table (cond b (false, s) (ahead_sent place login.node s.node (request_step s.node.layer s.outbox login.node body (purposes.Agent place)))).1
-  ahead_if true body place login s h = h
-  ahead_if false body place login s h =
+  behind : (place : ℕ) (login : Login) (x y : Scene) → Behind place login x y → In first l table x → In first l table y
+  behind place login _ _ (loses which s e) h =
+      let x = lost_step (desk_at s.node place).agent which causes.Label in
+      let t = scene (with_agent s.node place x.1) s.outbox in
+      let i : In first l table t = record { told = h.told; fits = record { logins = h.fits.logins; desks = length-set s.node.desks place _ ∙ h.fits.desks } } in
+      quiet_tells place x.0 t (lost_runs (desk_at s.node place).agent which causes.Label) i
+  behind place login _ _ (asks_main ask b body s e) h =
+      main_leaves place login.node s.node (request_step s.node.layer s.outbox login.node body (purposes.Agent place)) (requests s.node.layer s.outbox login.node body (purposes.Agent place) h.told) h.fits
+  behind place login _ _ (asks_ahead ask body s e) h =
       ahead_leaves place login.node s.node (request_step s.node.layer s.outbox login.node body (purposes.Agent place)) (requests s.node.layer s.outbox login.node body (purposes.Agent place) h.told) h.fits
-
-  ahead_asks : (body : Option Body) (place : ℕ) (login : Login) (s : Scene) → In first l table s → In first l table (ahead_asked body place login s).1
-  ahead_asks None place login s h = h
-  ahead_asks (Some body) place login s h = ahead_if (nat_lt (free_labels s.node.layer login.node) 16) body place login s h
-
-  sends_ahead : (place : ℕ) (login : Login) (ask : Ask) (s : Scene) → In first l table s → In first l table (send_ahead place login ask s).1
-  unfolding send_ahead
-  sends_ahead place login ask s h = ahead_asks (agent_body ask false login.fifo (desk_at s.node place).agent.outgoing) place login s h
-
-  behind_ahead : (place : ℕ) (login : Login) (r : Bool × Scene) → In first l table r.1 → In first l table (after_ahead place login r)
-  behind_ahead place login (true, s) h = h
-  behind_ahead place login (false, s) h = loses place login Ahead s h
-
-  behind_loss : (place : ℕ) (login : Login) (r : Bool × Scene) → In first l table r.1 → In first l table (after_loss place login r)
-  behind_loss place login (true, s) h = h
-  behind_loss place login (false, s) h = loses place login Main s h
-
-  loses_main : (place : ℕ) (login : Login) (s : Scene) → In first l table s → In first l table (lose_main place login s)
-  unfolding lose_main
-  loses_main place login s h = behind_loss place login (lose place login Main s) (loses place login Main s h)
-
-  behind_main : (place : ℕ) (login : Login) (step : AgentStep) (r : Bool × Scene) → In first l table r.1 → In first l table (after_main place login step r)
-  behind_main place login step (true, s) h = behind_ahead place login (send_ahead place login step.ahead s) (sends_ahead place login step.ahead s h)
-  behind_main place login step (false, s) h = loses_main place login s h
 
   -- what was noted is followed
   pub follows : (place : ℕ) (login : Login) (step : AgentStep) (s : Scene) → In first l table (noted place step s) → In first l table (follow place login step s)
-  unfolding follow
   follows place login step s h =
-      let t = noted place step s in behind_main place login step (ask_main place login step t) (asks_main place login step t h)
+      let t = noted place step s in
+      kept (Behind place login) (In first l table) (behind place login) t _ (behind_moves (Behind place login) place login (λ x y m. m) t step s (stay t)) h
 
   -- ---- cuts and cleared units
 
@@ -224,21 +185,14 @@ module _ (first l : Ledger) (table : Table) where
     fits = record { logins = h.fits.logins; desks = length-set s.node.desks place _ ∙ h.fits.desks };
   }
 
-  cuts_one : (cause : CutCause) (unit : Option ℕ) (place : ℕ) (s : Scene) → In first l table s → In first l table (cut_at cause unit place s)
-  unfolding cut_at
-  cuts_one cause unit place s h = pick (is_cut unit (login_at s.node place)) (cut cause place s) s (cuts_at cause place s h) h
-
-  cuts_from : (left place : ℕ) (cause : CutCause) (unit : Option ℕ) (s : Scene) → In first l table s → In first l table (cut_from left place cause unit s)
-  unfolding cut_from
-  cuts_from zero place cause unit s h = h
-  cuts_from (suc left) place cause unit s h = cuts_from left (place + 1) cause unit (cut_at cause unit place s) (cuts_one cause unit place s h)
+  abbrev Carries : Scene → Scene → Type 0
+  Carries x y = In first l table x → In first l table y
 
   pub cuts_all : (cause : CutCause) (unit : Option ℕ) (s : Scene) → In first l table s → In first l table (cut_all cause unit s)
-  cuts_all cause unit s h = cuts_from 8 0 cause unit s h
+  cuts_all cause unit s h = carried (In first l table) s _ (cut_all_moves Carries cuts_at s cause unit s (stay s)) h
 
   pub cuts_placed : (place : Option ℕ) (cause : CutCause) (s : Scene) → In first l table s → In first l table (cut_placed place cause s)
-  cuts_placed None cause s h = h
-  cuts_placed (Some place) cause s h = cuts_at cause place s h
+  cuts_placed place cause s h = carried (In first l table) s _ (cut_placed_moves Carries cuts_at s place cause s (stay s)) h
 
   clears : (unit : ℕ) (s : Scene) → In first l table s → In first l table (clear_unit unit s)
   unfolding clear_unit
@@ -254,35 +208,19 @@ module _ (first l : Ledger) (table : Table) where
 
   -- ---- unsolicited statuses
 
-  announced : (place peer : ℕ) (node : NodeState) (r : Option LabelParts × (Layer Purpose × OutboxState)) → Is first l r.1.1 → Fits table node → In first l table (unsolicited_by place peer node r)
-  announced place peer node (Some label, (layer, outbox)) h f = record {
+  disc_tells : (place peer : ℕ) (node : NodeState) (r : Option LabelParts × (Layer Purpose × OutboxState)) → Is first l r.1.1 → Fits table node → In first l table (unsolicited_by place peer node r)
+  disc_tells place peer node (Some label, (layer, outbox)) h f = record {
     told = tells first l (sides.Unsolicited place) outbox h;
     fits = record { logins = f.logins; desks = length-set node.desks place _ ∙ f.desks };
   }
-  announced place peer node (None, (layer, outbox)) h f = record { told = tells first l (sides.Unsent place) outbox h; fits = record { logins = f.logins; desks = f.desks } }
+  disc_tells place peer node (None, (layer, outbox)) h f = record { told = tells first l (sides.Unsent place) outbox h; fits = record { logins = f.logins; desks = f.desks } }
 
-  announces_to : (place : ℕ) (login : Login) (s : Scene) → In first l table s → In first l table (announce_to place login s)
-  unfolding announce_to
-  announces_to place login s h =
-      let r = request_step s.node.layer s.outbox login.node (block_write login.fifo block) purposes.Unsolicited in
-      pick (is_pending login.node s.node.pending) (scene s.node (with_side s.outbox (sides.Unsent place))) (unsolicited_by place login.node s.node r)
-      (record { told = tells first l (sides.Unsent place) s.outbox h.told; fits = h.fits })
-      (announced place login.node s.node r (requests s.node.layer s.outbox login.node (block_write login.fifo block) purposes.Unsolicited h.told) h.fits)
-
-  announces_in : (unit from place : ℕ) (login : Option Login) (s : Scene) → In first l table s → In first l table (announce_in unit from place login s)
-  announces_in unit from place None s h = h
-  announces_in unit from place (Some login) s h =
-      pick (hears unit from place (desk_at s.node place) login) (announce_to place login s) s (announces_to place login s h) h
-
-  announces_at : (unit from place : ℕ) (s : Scene) → In first l table s → In first l table (announce_at unit from place s)
-  unfolding announce_at
-  announces_at unit from place s h = announces_in unit from place (login_at s.node place) s h
-
-  announces_from : (left place unit from : ℕ) (s : Scene) → In first l table s → In first l table (announce_from left place unit from s)
-  unfolding announce_from
-  announces_from zero place unit from s h = h
-  announces_from (suc left) place unit from s h = announces_from left (place + 1) unit from (announce_at unit from place s) (announces_at unit from place s h)
+  announced : (unit from : ℕ) (x y : Scene) → Announced unit from x y → In first l table x → In first l table y
+  announced unit from _ _ (pushes place login s e) h =
+      let body = block_write login.fifo block in
+      disc_tells place login.node s.node (request_step s.node.layer s.outbox login.node body purposes.Unsolicited) (requests s.node.layer s.outbox login.node body purposes.Unsolicited h.told) h.fits
+  announced unit from _ _ (withholds place login s e) h = record { told = tells first l (sides.Unsent place) s.outbox h.told; fits = h.fits }
 
   pub announces_by : (b : Bool) (unit place : ℕ) (s : Scene) → In first l table s → In first l table (announced_by b unit place s)
-  announces_by false unit place s h = h
-  announces_by true unit place s h = announces_from 8 0 unit place s h
+  announces_by b unit place s h =
+      kept (Announced unit place) (In first l table) (announced unit place) s _ (announced_moves (Announced unit place) unit place (λ x y m. m) s b s (stay s)) h

@@ -25,3 +25,5 @@ pub mod Asked
 pub mod Rowing
 pub mod Courses
 pub mod Coursed
+pub mod Moved
+pub mod Views

@@ -4,3 +4,4 @@ pub mod Labels
 pub mod Sides
 pub mod Transactions
 pub mod Judgements
+pub mod Moves

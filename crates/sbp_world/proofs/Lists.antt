@@ -73,6 +73,7 @@ pub mod FifoTurns
 pub mod FifoUps
 pub mod FifoWalk
 pub mod Firsts
+pub mod SameAgents
 pub mod Follows
 pub mod Frees
 pub mod Generations

@@ -1,5 +1,5 @@
 -- Unsolicited statuses that leave behind a step of an agent are none of its requests.
-use Rattle.std.proofs.Common.{arith, ◌≡◌, ◌≢◌, ◌∙◌, refl, sym, ap, ℕ, zero, suc, ◌+◌, ◌<◌, ◌≤◌, nat_eq, Bool, true, false, cond, List, length, Option, Some, None}
+use Rattle.std.proofs.Common.{arith, ◌≡◌, ◌≢◌, ◌∙◌, refl, sym, ap, ℕ, ◌<◌, nat_eq, Bool, true, false, cond, List, length, Option, Some, None}
 use Rattle.std.specs.Prelude.{slice_index_or, slice_set}
 use Rattle.std.proofs.Math.ListN.{length-set}
 use Rattle.std.proofs.lemmas.Bool.Decides.{nat_tests}
@@ -21,15 +21,18 @@ use Rattle.sbp_target.specs.declared.desk.Desk.{Desk}
 use Rattle.sbp_target.specs.declared.purpose.Purpose.{Purpose}
 use Rattle.sbp_target.specs.declared.purpose.Purpose.TheVariants as purposes
 use Rattle.sbp_target.specs.Desks.{new_desk}
-use Rattle.sbp_target.specs.Nodes.{NodeState, Scene, desk_at, login_at, scene}
+use Rattle.sbp_target.specs.Nodes.{NodeState, Scene, desk_at}
 use Rattle.sbp_target.specs.Replies.{announced_by}
 use Rattle.sbp_target.specs.Sending.{request_step, sent_by, with_packet, with_side}
-use Rattle.sbp_target.specs.Units.{announce_at, announce_from, announce_in, announce_to, hears, is_pending, unsolicited_by, unsolicited_from}
+use Rattle.sbp_target.specs.Units.{announce_from, unsolicited_by, unsolicited_from}
 use Rattle.sbp_world.specs.Agents.Crews.{Request, by_packets, by_side, by_sides, with_requests}
 use Rattle.sbp_world.proofs.Agents.Serials.{Paired, more_within, number_after, paired_at, paired_more}
 use Rattle.sbp_world.proofs.Agents.Follows.{Done, Settled, Unwanting}
 use Rattle.sbp_world.proofs.Agents.Walk.{Holds, Out, out_as, out_more, sides_more}
 use Rattle.sbp_world.proofs.Agents.Writes.{asked_writes}
+use Rattle.sbp_target.specs.Histories.Moves.{Announced, pushes, stay, withholds}
+use Rattle.sbp_target.proofs.Histories.Moved.{announced_moves}
+use Rattle.sbp_target.proofs.Histories.Views.{kept as moves_keep}
 
 -- the agent of place q is this machine, and all else of agents is as before
 pub record Stands (q : ℕ) (before : NodeState) (m : Machine) (node : NodeState) : Type 0 where
@@ -109,10 +112,6 @@ module _ (requests : List Request) (q : ℕ) (before : NodeState) (first : Agent
       ∙ ap (λ (x : Bool). cond x (record a { main = Some serial; asks = Nothing }) (cond (wants a.asks_ahead true) (record a { ahead = Some serial; asks_ahead = Nothing }) a)) u.asks
       ∙ ap (λ (x : Bool). cond x (record a { ahead = Some serial; asks_ahead = Nothing }) a) u.asks_ahead
 
-  pick : (b : Bool) (x y : Scene) → Passed x → Passed y → Passed (cond b x y)
-  pick true x y h i = h
-  pick false x y h i = i
-
   sent_past : (place : ℕ) (login : Login) (s : Scene) (r : Option Asked × Layer Purpose) → place < 8 → asking_step s.node.layer login.node (block_write login.fifo block) purposes.Unsolicited ≡ r → Passed s → Passed (unsolicited_by place login.node s.node (sent_by r s.outbox login.node))
   sent_past place login s (None, layer) b e h = record {
     out = out_still first now s.outbox (sides.Unsent place) (λ a. refl) h.out;
@@ -135,28 +134,13 @@ module _ (requests : List Request) (q : ℕ) (before : NodeState) (first : Agent
             (paired_more rs after (more_within last s.outbox.packets packet requests) (desk_at s.node q) (agent_over (now last)) (h.paired last));
       }
 
-  announces_to : (place : ℕ) (login : Login) (s : Scene) → place < 8 → Passed s → Passed (announce_to place login s)
-  unfolding announce_to request_step
-  announces_to place login s b h =
-      pick (is_pending login.node s.node.pending) (scene s.node (with_side s.outbox (sides.Unsent place))) (unsolicited_by place login.node s.node (request_step s.node.layer s.outbox login.node (block_write login.fifo block) purposes.Unsolicited))
-      (record { out = out_still first now s.outbox (sides.Unsent place) (λ a. refl) h.out; stands = h.stands; paired = h.paired })
-      (sent_past place login s (asking_step s.node.layer login.node (block_write login.fifo block) purposes.Unsolicited) b refl h)
-
-  announces_in : (unit from place : ℕ) (login : Option Login) (s : Scene) → place < 8 → Passed s → Passed (announce_in unit from place login s)
-  announces_in unit from place None s b h = h
-  announces_in unit from place (Some login) s b h = pick (hears unit from place (desk_at s.node place) login) (announce_to place login s) s (announces_to place login s b h) h
-
-  announces_at : (unit from place : ℕ) (s : Scene) → place < 8 → Passed s → Passed (announce_at unit from place s)
-  unfolding announce_at
-  announces_at unit from place s b h = announces_in unit from place (login_at s.node place) s b h
-
-  announces_from : (left place unit from : ℕ) (s : Scene) → place + left ≤ 8 → Passed s → Passed (announce_from left place unit from s)
-  unfolding announce_from
-  announces_from zero place unit from s b h = h
-  announces_from (suc left) place unit from s b h = announces_from left (place + 1) unit from (announce_at unit from place s) (omega arith) (announces_at unit from place s (omega arith) h)
+  tells : (unit from : ℕ) (x y : Scene) → Announced unit from x y → Passed x → Passed y
+  unfolding request_step
+  tells unit from _ _ (pushes place login s e) h = sent_past place login s (asking_step s.node.layer login.node (block_write login.fifo block) purposes.Unsolicited) e.small refl h
+  tells unit from _ _ (withholds place login s e) h = record { out = out_still first now s.outbox (sides.Unsent place) (λ a. refl) h.out; stands = h.stands; paired = h.paired }
 
   passes : (unit from : ℕ) (s : Scene) → Passed s → Passed (announce_from 8 0 unit from s)
-  passes unit from s h = announces_from 8 0 unit from s (omega arith) h
+  passes unit from s h = moves_keep (Announced unit from) Passed (tells unit from) s _ (announced_moves (Announced unit from) unit from (λ x y m. m) s true s (stay s)) h
 
 pub announces : (loaded : Bool) (requests : List Request) (q : ℕ) (before : NodeState) (first : Agent) (pointer : Option ℕ) (unit from : ℕ) (s : Scene) → Done requests q before first pointer (loaded ≡ true) s → Ended requests q before first pointer (announced_by loaded unit from s)
 announces false requests q before first pointer unit from s d = done_ended requests q before first pointer s d

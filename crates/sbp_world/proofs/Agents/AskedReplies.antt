@@ -1,5 +1,5 @@
 -- A reply to an agent leaves all desks waiting for what left.
-use Rattle.std.proofs.Common.{arith, ◌≡◌, ◌∙◌, refl, sym, ap, subst, ℕ, zero, suc, ◌+◌, ◌<◌, ◌≤◌, nat_lt, Bool, true, false, cond, List, length, Option, Some, None}
+use Rattle.std.proofs.Common.{◌≡◌, ◌∙◌, refl, sym, ap, subst, ℕ, ◌<◌, nat_lt, Bool, true, false, cond, List, length, Option, Some, None}
 use Rattle.std.specs.Prelude.{slice_set}
 use Rattle.std.proofs.Math.ListN.{length-set}
 use Rattle.async_packet.specs.Labels.{LabelParts}
@@ -18,7 +18,6 @@ use Rattle.command_agent.specs.declared.step.Which.TheVariants.{Ahead, Main}
 use Rattle.command_agent.specs.Machine.{Machine, is_ahead, is_sent}
 use Rattle.command_agent.specs.Steps.{reply_step}
 use Rattle.sbp_journal.specs.declared.outbox.Outgoing.{Outgoing}
-use Rattle.sbp_journal.specs.declared.side.Side.TheVariants as sides
 use Rattle.sbp_journal.specs.Outgoings.{OutboxState}
 use Rattle.sbp_target.specs.declared.desk.Desk.{Desk}
 use Rattle.sbp_target.specs.declared.purpose.Purpose.{Purpose}
@@ -29,8 +28,8 @@ use Rattle.sbp_target.specs.Calls.{after}
 use Rattle.sbp_target.specs.Desks.{is_that, taken, which_in}
 use Rattle.sbp_target.specs.Nodes.{NodeState, Scene, desk_at, login_at, scene}
 use Rattle.sbp_target.specs.Replies.{Stage, advance, announced_by, came, changed_by, follow_all, plain_in, replied, replied_by, replied_to, scene_of, served_login, stage, whole}
-use Rattle.sbp_target.specs.Sending.{request_step, sent_by, with_packet, with_side}
-use Rattle.sbp_target.specs.Units.{announce_at, announce_from, announce_in, announce_to, hears, is_pending, unsolicited_by, unsolicited_from}
+use Rattle.sbp_target.specs.Sending.{request_step, sent_by, with_packet}
+use Rattle.sbp_target.specs.Units.{unsolicited_by, unsolicited_from}
 use Rattle.target_base.specs.Logins.{if_served}
 use Rattle.sbp_target.proofs.Histories.Calling.{Good, not_eight}
 use Rattle.sbp_target.proofs.Histories.Following.{Fits}
@@ -43,6 +42,9 @@ use Rattle.sbp_world.proofs.Agents.AskedLate.{ahead_of, all_by, asks_more, follo
 use Rattle.sbp_world.proofs.Agents.AskedSteps.{under_law}
 use Rattle.sbp_world.proofs.Agents.Sized.{still_sized}
 use Rattle.sbp_world.proofs.Agents.Walk.{desk_set}
+use Rattle.sbp_target.specs.Histories.Moves.{Announced, pushes, stay, withholds}
+use Rattle.sbp_target.proofs.Histories.Moved.{announced_moves}
+use Rattle.sbp_target.proofs.Histories.Views.{kept}
 
 -- ---- unsolicited statuses behind a step
 -- a register is disabled
@@ -56,10 +58,6 @@ off_asks packets fifo d x a = record { main = a.main; ahead = a.ahead; sized = a
 pub record Fine (s : Scene) : Type 0 where
   pub desks : length s.node.desks ≡ 8
   pub all : AllAsk s.outbox.packets s.node
-
-pick : (b : Bool) (x y : Scene) → Fine x → Fine y → Fine (cond b x y)
-pick true x y h i = h
-pick false x y h i = i
 
 sent_fine : (place : ℕ) (login : Login) (s : Scene) (r : Option Asked × Layer Purpose) → place < 8 → Fine s → Fine (unsolicited_by place login.node s.node (sent_by r s.outbox login.node))
 sent_fine place login s (None, layer) b h = record { desks = h.desks; all = record { all = λ p l i e. h.all.all p l i e } }
@@ -78,29 +76,14 @@ sent_fine place login s (Some asked, layer) b h =
           h.all;
     }
 
-announces_to : (place : ℕ) (login : Login) (s : Scene) → place < 8 → Fine s → Fine (announce_to place login s)
-unfolding announce_to request_step
-announces_to place login s b h =
-    pick (is_pending login.node s.node.pending) (scene s.node (with_side s.outbox (sides.Unsent place))) (unsolicited_by place login.node s.node (request_step s.node.layer s.outbox login.node (block_write login.fifo block) purposes.Unsolicited))
-    (record { desks = h.desks; all = h.all })
-    (sent_fine place login s (asking_step s.node.layer login.node (block_write login.fifo block) purposes.Unsolicited) b h)
-
-announces_in : (unit from place : ℕ) (login : Option Login) (s : Scene) → place < 8 → Fine s → Fine (announce_in unit from place login s)
-announces_in unit from place None s b h = h
-announces_in unit from place (Some login) s b h = pick (hears unit from place (desk_at s.node place) login) (announce_to place login s) s (announces_to place login s b h) h
-
-announces_at : (unit from place : ℕ) (s : Scene) → place < 8 → Fine s → Fine (announce_at unit from place s)
-unfolding announce_at
-announces_at unit from place s b h = announces_in unit from place (login_at s.node place) s b h
-
-announces_from : (left place unit from : ℕ) (s : Scene) → place + left ≤ 8 → Fine s → Fine (announce_from left place unit from s)
-unfolding announce_from
-announces_from zero place unit from s b h = h
-announces_from (suc left) place unit from s b h = announces_from left (place + 1) unit from (announce_at unit from place s) (omega arith) (announces_at unit from place s (omega arith) h)
+tells : (unit from : ℕ) (x y : Scene) → Announced unit from x y → Fine x → Fine y
+unfolding request_step
+tells unit from _ _ (pushes place login s e) h = sent_fine place login s (asking_step s.node.layer login.node (block_write login.fifo block) purposes.Unsolicited) e.small h
+tells unit from _ _ (withholds place login s e) h = record { desks = h.desks; all = h.all }
 
 announces_by : (loaded : Bool) (unit from : ℕ) (s : Scene) → Fine s → Fine (announced_by loaded unit from s)
-announces_by false unit from s h = h
-announces_by true unit from s h = announces_from 8 0 unit from s (omega arith) h
+announces_by loaded unit from s h =
+    kept (Announced unit from) Fine (tells unit from) s _ (announced_moves (Announced unit from) unit from (λ x y m. m) s loaded s (stay s)) h
 
 changed_desks : (b : Bool) (unit place : ℕ) (node : NodeState) → (changed_by b unit place node).desks ≡ node.desks
 changed_desks true unit place node = refl

@@ -41,11 +41,11 @@ use Rattle.sbp_target.specs.declared.purpose.Purpose.TheVariants as purposes
 use Rattle.sbp_target.specs.Agents.{cut, told_cut}
 use Rattle.sbp_target.specs.Desks.{reset_desk}
 use Rattle.sbp_target.specs.Management.{ask_manager, clear_one, cut_placed, decided_by, effect_by, failed_by, lose_operation, lost_in, manager_asked, manager_body, manager_lost, manager_sent, place_in, tell_failed, with_manager}
-use Rattle.sbp_target.specs.Nodes.{NodeState, Scene, desk_at, login_at, scene, with_desk}
+use Rattle.sbp_target.specs.Nodes.{NodeState, Scene, desk_at, scene, with_desk}
 use Rattle.sbp_target.specs.Receiving.{expired_from, held_from, tell_held}
 use Rattle.sbp_target.specs.Sending.{request_step as asks_step, sent_by, with_side}
 use Rattle.sbp_target.specs.Serving.{answered, start, started_by}
-use Rattle.sbp_target.specs.Units.{clear_from, clear_unit, cut_all, cut_at, cut_from, is_cut}
+use Rattle.sbp_target.specs.Units.{clear_from, clear_unit, cut_all}
 use Rattle.sbp_world.specs.Agents.Management.Offices.{Office, by_managed, by_side, by_sides, placed, placed_by}
 use Rattle.sbp_world.proofs.Agents.Management.Places.{AreApart}
 use Rattle.sbp_world.specs.Agents.Enabled.{AreLive, HasLive}
@@ -56,6 +56,7 @@ use Rattle.sbp_world.proofs.Agents.Serves.{ask_keeps}
 use Rattle.sbp_world.proofs.Agents.Sparing.{Empties, IsOld, IsReplaced, Spares}
 use Rattle.sbp_world.proofs.Agents.Using.{off_at}
 use Rattle.sbp_world.proofs.Lists.Registers.{answered_sides}
+use Rattle.sbp_target.proofs.Histories.Views.{cuts_keep, placed_keep}
 
 -- ---- what is told of neither registers nor logins
 abbrev pub IsMute : Side → Type 0
@@ -209,21 +210,11 @@ module _ (before : ℕ → Bool) (logins : Table) where
     logins_are = h.logins_are;
   }
 
-  cut_if : (cause : CutCause) (unit : Option ℕ) (place : ℕ) (s : Scene) → Cut s → Cut (cut_at cause unit place s)
-  unfolding cut_at
-  cut_if cause unit place s h = pick (is_cut unit (login_at s.node place)) (cut cause place s) s (one_cut cause place s h) h
-
-  cuts_from : (left place : ℕ) (cause : CutCause) (unit : Option ℕ) (s : Scene) → Cut s → Cut (cut_from left place cause unit s)
-  unfolding cut_from
-  cuts_from zero place cause unit s h = h
-  cuts_from (suc left) place cause unit s h = cuts_from left (place + 1) cause unit (cut_at cause unit place s) (cut_if cause unit place s h)
-
   pub cuts_all : (cause : CutCause) (unit : Option ℕ) (s : Scene) → Cut s → Cut (cut_all cause unit s)
-  cuts_all cause unit s h = cuts_from 8 0 cause unit s h
+  cuts_all cause unit s c = cuts_keep Cut one_cut cause unit s c
 
   cuts_placed : (place : Option ℕ) (cause : CutCause) (s : Scene) → Cut s → Cut (cut_placed place cause s)
-  cuts_placed None cause s h = h
-  cuts_placed (Some place) cause s h = one_cut cause place s h
+  cuts_placed place cause s c = placed_keep Cut one_cut place cause s c
 
   clears : (unit : ℕ) (s : Scene) → Cut s → Cut (clear_unit unit s)
   unfolding clear_unit

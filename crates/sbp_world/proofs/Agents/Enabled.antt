@@ -36,8 +36,11 @@ use Rattle.sbp_target.specs.Receiving.{expire_agent, expired_by, expired_with}
 use Rattle.sbp_target.specs.Replies.{Stage, Whole, advance, advanced_with, announced_by, came, changed_by, follow_all, plain_at, replied, replied_by, replied_to, replied_with, served_login, stage}
 use Rattle.sbp_target.specs.Sending.{request_step}
 use Rattle.sbp_target.specs.Serving.{accessed_by, answered, asked_in, point, pointed_by, ring, rung_by}
-use Rattle.sbp_target.specs.Units.{announce_at, announce_from, announce_in, announce_to, clear_from, clear_unit, cut_all, cut_at, cut_from, hears, is_cut, is_pending, unsolicited_by}
+use Rattle.sbp_target.specs.Units.{clear_from, clear_unit, cut_all, unsolicited_by}
 use Rattle.sbp_target.proofs.Histories.Framed as framed
+use Rattle.sbp_target.specs.Histories.Moves.{Announced, pushes, stay, withholds}
+use Rattle.sbp_target.proofs.Histories.Moved.{announced_moves}
+use Rattle.sbp_target.proofs.Histories.Views.{cuts_keep, kept, placed_keep}
 
 -- each place whose register is enabled is one of these
 abbrev pub Enabled : (ℕ → Type 0) → NodeState → Type 0
@@ -71,25 +74,18 @@ module _ (Live : ℕ → Type 0) where
   cuts cause place s h =
       set_enabled (record s.node { layer = disowned (desk_at s.node place).ahead (disowned (desk_at s.node place).main s.node.layer) }) place (reset_desk (desk_at s.node place)) (λ g. h place g) h
 
+  abbrev In : Scene → Type 0
+  In s = Enabled Live s.node
+
   pub cuts_placed : (place : Option ℕ) (cause : CutCause) (s : Scene) → Enabled Live s.node → Enabled Live (cut_placed place cause s).node
-  cuts_placed None cause s h = h
-  cuts_placed (Some place) cause s h = cuts cause place s h
+  cuts_placed place cause s h = placed_keep In cuts place cause s h
+
+  pub cuts_all : (cause : CutCause) (unit : Option ℕ) (s : Scene) → Enabled Live s.node → Enabled Live (cut_all cause unit s).node
+  cuts_all cause unit s h = cuts_keep In cuts cause unit s h
 
   pick : (b : Bool) (x y : Scene) → Enabled Live x.node → Enabled Live y.node → Enabled Live (cond b x y).node
   pick true x y h g = h
   pick false x y h g = g
-
-  cuts_one : (cause : CutCause) (unit : Option ℕ) (place : ℕ) (s : Scene) → Enabled Live s.node → Enabled Live (cut_at cause unit place s).node
-  unfolding cut_at
-  cuts_one cause unit place s h = pick (is_cut unit (login_at s.node place)) (cut cause place s) s (cuts cause place s h) h
-
-  cuts_from : (left place : ℕ) (cause : CutCause) (unit : Option ℕ) (s : Scene) → Enabled Live s.node → Enabled Live (cut_from left place cause unit s).node
-  unfolding cut_from
-  cuts_from zero place cause unit s h = h
-  cuts_from (suc left) place cause unit s h = cuts_from left (place + 1) cause unit (cut_at cause unit place s) (cuts_one cause unit place s h)
-
-  pub cuts_all : (cause : CutCause) (unit : Option ℕ) (s : Scene) → Enabled Live s.node → Enabled Live (cut_all cause unit s).node
-  cuts_all cause unit s h = cuts_from 8 0 cause unit s h
 
   clears : (unit : ℕ) (s : Scene) → Enabled Live s.node → Enabled Live (clear_unit unit s).node
   unfolding clear_unit
@@ -108,28 +104,13 @@ module _ (Live : ℕ → Type 0) where
   sent_out place peer node (Some label, (layer, outbox)) h = set_enabled node place (record (desk_at node place) { is_enabled = false }) (λ g. absurd (false≢true g)) h
   sent_out place peer node (None, (layer, outbox)) h = h
 
-  announces_to : (place : ℕ) (login : Login) (s : Scene) → Enabled Live s.node → Enabled Live (announce_to place login s).node
-  unfolding announce_to
-  announces_to place login s h =
-      pick (is_pending login.node s.node.pending) _ (unsolicited_by place login.node s.node (request_step s.node.layer s.outbox login.node (block_write login.fifo block) purposes.Unsolicited)) h
-      (sent_out place login.node s.node (request_step s.node.layer s.outbox login.node (block_write login.fifo block) purposes.Unsolicited) h)
-
-  announces_in : (unit from place : ℕ) (login : Option Login) (s : Scene) → Enabled Live s.node → Enabled Live (announce_in unit from place login s).node
-  announces_in unit from place None s h = h
-  announces_in unit from place (Some login) s h = pick (hears unit from place (desk_at s.node place) login) (announce_to place login s) s (announces_to place login s h) h
-
-  announces_at : (unit from place : ℕ) (s : Scene) → Enabled Live s.node → Enabled Live (announce_at unit from place s).node
-  unfolding announce_at
-  announces_at unit from place s h = announces_in unit from place (login_at s.node place) s h
-
-  announces_from : (left place unit from : ℕ) (s : Scene) → Enabled Live s.node → Enabled Live (announce_from left place unit from s).node
-  unfolding announce_from
-  announces_from zero place unit from s h = h
-  announces_from (suc left) place unit from s h = announces_from left (place + 1) unit from (announce_at unit from place s) (announces_at unit from place s h)
+  tells : (unit from : ℕ) (x y : Scene) → Announced unit from x y → In x → In y
+  tells unit from _ _ (pushes place login s e) h =
+      sent_out place login.node s.node (request_step s.node.layer s.outbox login.node (block_write login.fifo block) purposes.Unsolicited) h
+  tells unit from _ _ (withholds place login s e) h = h
 
   announces_by : (b : Bool) (unit place : ℕ) (s : Scene) → Enabled Live s.node → Enabled Live (announced_by b unit place s).node
-  announces_by false unit place s h = h
-  announces_by true unit place s h = announces_from 8 0 unit place s h
+  announces_by b unit place s h = kept (Announced unit place) In (tells unit place) s _ (announced_moves (Announced unit place) unit place (λ x y m. m) s b s (stay s)) h
 
   changes_by : (b : Bool) (unit place : ℕ) (node : NodeState) → Enabled Live node → Enabled Live (changed_by b unit place node)
   changes_by false unit place node h = h

@@ -1,5 +1,5 @@
 -- Each call of a target leaves each desk whose register is enabled a live login.
-use Rattle.std.proofs.Common.{arith, ◌≡◌, ◌≢◌, ◌∙◌, refl, sym, ap, subst, ℕ, ◌<◌, ◌≤◌, is_some, nat_eq, nat_lt, Bool, true, false, cond, List, [], ◌∷◌, length, map, replicate, Option, Some, None, Result, Ok, Err}
+use Rattle.std.proofs.Common.{arith, ◌≡◌, ◌≢◌, ◌∙◌, refl, sym, ap, subst, ℕ, ◌<◌, ◌≤◌, nat_eq, nat_lt, Bool, true, false, cond, List, [], ◌∷◌, length, map, replicate, Option, Some, None, Result, Ok, Err}
 use Rattle.std.specs.Prelude.{slice_index_or}
 use Rattle.std.proofs.Math.ListN.{get_or-map}
 use Rattle.std.proofs.lemmas.Bool.Decides.{nat_tests}
@@ -8,11 +8,9 @@ use Rattle.std.proofs.lemmas.List.{set_past}
 use Rattle.std.proofs.lemmas.Bool.{false≢true}
 use Rattle.async_packet.specs.Labels.{LabelParts}
 use Rattle.async_packet.specs.Packet.{Packet, header_in}
-use Rattle.label_table.specs.declared.judgement.Asked.{Asked}
 use Rattle.label_table.specs.declared.reply.Stale.{Stale}
-use Rattle.label_table.specs.Bodies.{Body}
 use Rattle.label_table.specs.History as wire
-use Rattle.label_table.specs.Layer.{Finding, Layer, asking_step, expiring_step, judging_step, of_again, of_generation, of_grammar, of_label, of_request, of_response, seeing_step}
+use Rattle.label_table.specs.Layer.{Finding, Layer, expiring_step, judging_step, of_again, of_generation, of_grammar, of_label, of_request, of_response, seeing_step}
 use Rattle.label_table.proofs.Owned.{set_at}
 use Rattle.login_table.specs.declared.login.Login.{Login}
 use Rattle.login_table.specs.Table.{Table, is_last, is_live, one_less, ticked as login_ticked}
@@ -21,18 +19,17 @@ use Rattle.mgmt_agent.specs.declared.decision.Effect.{Effect}
 use Rattle.mgmt_agent.specs.declared.decision.Effect.TheVariants as effects
 use Rattle.mgmt_agent.specs.declared.decision.ManagerStep.{ManagerStep}
 use Rattle.mgmt_agent.specs.declared.operation.Busy.{Busy}
-use Rattle.mgmt_agent.specs.declared.operation.Operation.{Operation}
 use Rattle.mgmt_agent.specs.Machine as management
 use Rattle.orb_layout.specs.declared.ask.Ask.{Ask}
 use Rattle.orb_layout.specs.declared.ask.Ask.TheVariants.{Nothing}
-use Rattle.orb_layout.specs.Replies.{Answer, Expired, NoLabel}
+use Rattle.orb_layout.specs.Replies.{Answer, Expired}
 use Rattle.rbc_disk.specs.Disk.{Disk}
 use Rattle.rbc_disk.specs.Runs.{Told}
 use Rattle.sbp_journal.specs.declared.cause.CutCause.TheVariants as cuts
 use Rattle.sbp_journal.specs.declared.cause.Judged.{Judged}
 use Rattle.sbp_journal.specs.declared.cause.Judged.TheVariants as judgements
 use Rattle.sbp_journal.specs.declared.cause.Cause.TheVariants as ignored
-use Rattle.sbp_journal.specs.Outgoings.{OutboxState, empty_outbox}
+use Rattle.sbp_journal.specs.Outgoings.{empty_outbox}
 use Rattle.target_base.specs.declared.address.Access.{Access}
 use Rattle.target_base.specs.declared.address.Demand.{Demand}
 use Rattle.target_base.specs.declared.address.Demand.TheVariants as demands
@@ -42,11 +39,10 @@ use Rattle.sbp_target.specs.declared.purpose.Purpose.{Purpose}
 use Rattle.sbp_target.specs.declared.purpose.Purpose.TheVariants as purposes
 use Rattle.sbp_target.specs.Calls.{Call, after, alone, lets_expire, receives, sees, sets_key, ticks}
 use Rattle.sbp_target.specs.Desks.{disabled, new_desk}
-use Rattle.sbp_target.specs.Management.{ask_manager, cut_placed, decided_by, effect_by, failed_by, lose_operation, lost_in, manage, managed_in, managed_with, manager_asked, manager_body, manager_lost, manager_sent, place_in, with_manager}
+use Rattle.sbp_target.specs.Management.{ask_manager, cut_placed, decided_by, effect_by, failed_by, manage, managed_in, managed_with, place_in, with_manager}
 use Rattle.sbp_target.specs.Nodes.{NodeState, Scene, desk_at, scene, with_desk}
 use Rattle.sbp_target.specs.Receiving.{answer_in, concluded, expire_agent, expired, expired_in, judged_scene, new_node, received, received_as, reset_by, seen, ticked, timed_out, with_layer}
 use Rattle.sbp_target.specs.Replies.{Whole, replied_to, scene_of, whole}
-use Rattle.sbp_target.specs.Sending.{request_step as asks_step, sent_by}
 use Rattle.sbp_target.specs.Serving.{accessed_by, answered, is_barred, request_step, serve, served_as, start, started_by as target_started}
 use Rattle.sbp_target.specs.Units.{cut_all}
 use Rattle.command_agent.specs.Steps.{abort_step}
@@ -55,7 +51,6 @@ use Rattle.sbp_world.specs.Runs.{after as after_run, beginning}
 use Rattle.sbp_world.specs.Worlds.{begun as begun_scene}
 use Rattle.sbp_target.proofs.Histories.Calling.{Good}
 use Rattle.sbp_target.proofs.Histories.Found.{IsFound, found}
-use Rattle.sbp_target.proofs.Histories.Managing.{unlabelled}
 use Rattle.sbp_target.proofs.Histories.Primitives.{Known, closing_known, expiring_known, live_on}
 use Rattle.sbp_target.proofs.Histories.Seats.{Lives}
 use Rattle.sbp_target.proofs.Histories.Settled.{all_good, reaches}
@@ -73,6 +68,9 @@ use Rattle.sbp_world.proofs.Agents.Hiring.{reply_hires}
 use Rattle.sbp_world.proofs.Agents.Serves.{ask_keeps, start_keeps}
 use Rattle.sbp_world.proofs.Agents.Sparing.{Spares, reply_spares}
 use Rattle.sbp_world.proofs.Hosts.Runs.{are_told}
+use Rattle.sbp_target.specs.Histories.Moves.{stay, still}
+use Rattle.sbp_target.proofs.Histories.Moved.{ask_manager_moves}
+use Rattle.sbp_target.proofs.Histories.Views.{node_left}
 
 same_desks : (Live : ℕ → Type 0) (node now : NodeState) → now.desks ≡ node.desks → Enabled Live node → Enabled Live now
 same_desks Live node now e h = subst (λ (ds : List Desk). (place : ℕ) → (slice_index_or ds place new_desk).is_enabled ≡ true → Live place) (sym e) h
@@ -86,32 +84,8 @@ live_of : (logins : Table) (x : Scene) → Kept logins x → AreLive x.node
 live_of logins x k = subst (λ (t : Table). Enabled (HasLive t.places) x.node) (sym k.logins_are) k.enabled
 
 -- ---- what the operation asks for leaves the logins
-some_of : (operation : Option Operation) (source : ℕ) → management.source_in operation ≡ Some source → is_some operation ≡ true
-some_of None source e = absurd (let x : None ≡ Some source = e in cc)
-some_of (Some operation) source e = refl
-
-lost_logins : (other : Option ℕ) (s : Scene) → management.source_in s.node.manager.operation ≡ other → (lost_in other s).node.logins ≡ s.node.logins
-lost_logins None s e = refl
-lost_logins (Some source) s e =
-    by (management.reply_step s.node.manager s.node.logins s.node.keys NoLabel)
-    (ap (λ (x : management.Machine × Table). x.1) (unlabelled s.node.manager s.node.logins s.node.keys (some_of s.node.manager.operation source e)))
-  where
-    by : (r : ManagerStep × (management.Machine × Table)) → r.1.1 ≡ s.node.logins → (manager_lost source s r).node.logins ≡ s.node.logins
-    by (step, (m, t)) f = f
-
-sent_logins : (node : NodeState) (outbox : OutboxState) (peer : ℕ) (r : Option Asked × Layer Purpose) → (manager_sent node (sent_by r outbox peer)).node.logins ≡ node.logins
-unfolding lose_operation
-sent_logins node outbox peer (Some asked, layer) = refl
-sent_logins node outbox peer (None, layer) = lost_logins (management.source_in node.manager.operation) (scene (record node { layer = layer }) outbox) refl
-
-asked_logins : (body : Option Body) (source : ℕ) (s : Scene) → (manager_asked body source s).node.logins ≡ s.node.logins
-unfolding asks_step
-asked_logins None source s = refl
-asked_logins (Some body) source s = sent_logins s.node s.outbox source (asking_step s.node.layer source body purposes.Management)
-
 pub ask_logins : (source : ℕ) (ask : Ask) (s : Scene) → (ask_manager source ask s).node.logins ≡ s.node.logins
-unfolding ask_manager
-ask_logins source ask s = asked_logins (manager_body ask s.node.manager.outgoing) source s
+ask_logins source ask s = (node_left still s _ (ask_manager_moves still s tt tt source ask s (stay s))).logins (λ never. never)
 
 asks_kept : (logins : Table) (source : ℕ) (ask : Ask) (s : Scene) → Kept logins s → Kept logins (ask_manager source ask s)
 asks_kept logins source ask s k = record {

@@ -1,6 +1,6 @@
 -- What an agent of the target does to the registers for unsolicited status: each that is used up is told, behind the run that brought a disc, for another
 -- live login of the unit; and all others stay.
-use Rattle.std.proofs.Common.{arith, ◌≡◌, ◌∙◌, refl, sym, ap, subst, ℕ, zero, suc, ◌+◌, ◌<◌, ◌≤◌, ◌&&◌, not, nat_eq, nat_lt, is_some, Bool, true, false, cond, List, [], ◌∷◌, ◌++◌, length, Option, Some, None, Result, Ok, Err}
+use Rattle.std.proofs.Common.{arith, ◌≡◌, ◌∙◌, refl, sym, ap, subst, ℕ, ◌<◌, ◌≤◌, ◌&&◌, not, nat_eq, nat_lt, is_some, Bool, true, false, cond, List, [], ◌∷◌, ◌++◌, length, Option, Some, None, Result, Ok, Err}
 use Rattle.std.specs.Prelude.{slice_index_or}
 use Rattle.std.proofs.lemmas.Bool.Decides.{nat_tests}
 use Rattle.std.proofs.lemmas.Grind.{common_steps}
@@ -10,7 +10,7 @@ use Rattle.async_packet.specs.Labels.{LabelParts}
 use Rattle.async_packet.specs.Packet.{Packet, header_in}
 use Rattle.label_table.specs.declared.judgement.Asked.{Asked}
 use Rattle.label_table.specs.Bodies.{Body, block_write}
-use Rattle.label_table.specs.Layer.{Layer, asking_step, answering_step, free_labels}
+use Rattle.label_table.specs.Layer.{Layer, asking_step, answering_step}
 use Rattle.label_table.proofs.Owned.{set_at}
 use Rattle.login_table.specs.declared.login.Login.{Login}
 use Rattle.login_table.specs.Table.{is_live, place_at}
@@ -28,7 +28,7 @@ use Rattle.command_agent.specs.declared.step.AgentStep.{AgentStep}
 use Rattle.command_agent.specs.declared.step.PointRefusal.{PointRefusal}
 use Rattle.command_agent.specs.declared.step.Which.{Which}
 use Rattle.command_agent.specs.declared.step.Which.TheVariants.{Ahead, Main}
-use Rattle.command_agent.specs.Machine.{Machine, is_under_way, state_in}
+use Rattle.command_agent.specs.Machine.{Machine, state_in}
 use Rattle.command_agent.specs.Steps.{asks, doorbell_step, is_reset, lost_step, point_step, reply_step}
 use Rattle.sbp_journal.specs.declared.cause.CutCause.{CutCause}
 use Rattle.sbp_journal.specs.declared.cause.CutCause.TheVariants as cuts
@@ -40,7 +40,7 @@ use Rattle.target_base.specs.declared.address.Access.TheVariants as accesses
 use Rattle.sbp_target.specs.declared.desk.Desk.{Desk}
 use Rattle.sbp_target.specs.declared.purpose.Purpose.{Purpose}
 use Rattle.sbp_target.specs.declared.purpose.Purpose.TheVariants as purposes
-use Rattle.sbp_target.specs.Agents.{after_ahead, after_loss, after_main, agent_body, ahead_asked, ahead_sent, ask_main, cut, dropped_by, follow, lose, lose_main, lost_by, main_asked, main_sent, noted, promoted_by, send_ahead, sent_to, told_cut, without_ahead}
+use Rattle.sbp_target.specs.Agents.{ahead_sent, cut, dropped_by, follow, main_sent, noted, promoted_by, sent_to, told_cut, without_ahead}
 use Rattle.sbp_target.specs.Desks.{expired_desk, new_desk, point_desk, pointed_desk, promoted_desk, reset_desk, taken, which_in}
 use Rattle.sbp_target.specs.Nodes.{NodeState, Scene, desk_at, login_at, scene, with_agent, with_desk}
 use Rattle.sbp_target.specs.Receiving.{expire_agent, expired_by, expired_with}
@@ -48,9 +48,12 @@ use Rattle.sbp_target.specs.Replies.{Stage, Whole, advance, advanced_with, annou
 use Rattle.sbp_target.specs.Sending.{answer_step, answered_by, request_step, sent_by, with_side}
 use Rattle.sbp_target.specs.Serving.{accessed_by, answered, asked_in, enabled, point, pointed_by, ring, rung_by}
 use Rattle.sbp_target.specs.Telling.{orb_of, tell_dead, tell_ended, tell_ran, tell_step}
-use Rattle.sbp_target.specs.Units.{announce_at, announce_from, announce_in, announce_to, hears, is_pending, unsolicited_by}
+use Rattle.sbp_target.specs.Units.{announce_from, unsolicited_by}
 use Rattle.sbp_world.proofs.Agents.Loads.{came_not, came_there}
 use Rattle.sbp_world.proofs.Agents.AskedReplies.{served_is}
+use Rattle.sbp_target.specs.Histories.Moves.{Announced, Behind, asks_ahead, asks_main, loses, pushes, stay, withholds}
+use Rattle.sbp_target.proofs.Histories.Moved.{announced_moves, behind_moves}
+use Rattle.sbp_target.proofs.Histories.Views.{kept}
 
 none_loads : (ran : Option Outcome) (cdb payload : List ℕ) (place : ℕ) (plain : PlainDisk) → came plain.medium (left_by ran cdb payload place plain).medium ≡ true → is_some ran ≡ true
 none_loads None cdb payload place plain e = absurd (came_not plain.medium e)
@@ -286,62 +289,22 @@ module _ (q unit : ℕ) (places : List (Option Login)) (before : ℕ → Bool) w
     main_leaves peer s (Some label, (layer, outbox)) e h = changes s layer outbox q (record (desk_at s.node q) { main = Some (sent_to peer label) }) refl e h
     main_leaves peer s (None, (layer, outbox)) e h = keeps s (scene (record s.node { layer = layer }) outbox) refl refl e h
 
-    main_asks : (body : Option Body) (login : Login) (s : Scene) → C ran s → C ran (main_asked body q login s).1
-    main_asks None login s h = h
-    main_asks (Some body) login s h =
-        main_leaves login.node s (request_step s.node.layer s.outbox login.node body (purposes.Agent q)) (requests_same s.node.layer s.outbox login.node body (purposes.Agent q)) h
-
-    asks_main : (login : Login) (step : AgentStep) (s : Scene) → C ran s → C ran (ask_main q login step s).1
-    unfolding ask_main
-    asks_main login step s h = main_asks (agent_body step.ask (is_some step.ended) login.fifo (desk_at s.node q).agent.outgoing) login s h
-
-    loses_if : (b : Bool) (login : Login) (which : Which) (s : Scene) → C ran s → C ran (lost_by b q login which s).1
-    loses_if false login which s h = h
-    loses_if true login which s h =
-        let x = lost_step (desk_at s.node q).agent which causes.Label in
-        let t = scene (with_agent s.node q x.1) s.outbox in
-        asks_main login x.0 (noted q x.0 t) (notes x.0 t (changes s s.node.layer s.outbox q (record (desk_at s.node q) { agent = x.1 }) refl refl h))
-
-    loses : (login : Login) (which : Which) (s : Scene) → C ran s → C ran (lose q login which s).1
-    unfolding lose
-    loses login which s h = loses_if (is_under_way which (desk_at s.node q).agent) login which s h
-
     ahead_leaves : (peer : ℕ) (s : Scene) (r : Option LabelParts × (Layer Purpose × OutboxState)) → Same s.outbox r → C ran s → C ran (ahead_sent q peer s.node r).1
     ahead_leaves peer s (Some label, (layer, outbox)) e h = changes s layer outbox q (record (desk_at s.node q) { ahead = Some (sent_to peer label) }) refl e h
     ahead_leaves peer s (None, (layer, outbox)) e h = keeps s (scene (record s.node { layer = layer }) outbox) refl refl e h
 
-    ahead_if : (b : Bool) (body : Body) (login : Login) (s : Scene) → C ran s → C ran (cond b (false, s) (ahead_sent q login.node s.node (request_step s.node.layer s.outbox login.node body (purposes.Agent q)))).1
-    ahead_if true body login s h = h
-    ahead_if false body login s h =
+    behind : (login : Login) (x y : Scene) → Behind q login x y → C ran x → C ran y
+    behind login _ _ (loses which s e) h =
+        let x = lost_step (desk_at s.node q).agent which causes.Label in
+        notes x.0 (scene (with_agent s.node q x.1) s.outbox) (changes s s.node.layer s.outbox q (record (desk_at s.node q) { agent = x.1 }) refl refl h)
+    behind login _ _ (asks_main ask b body s e) h =
+        main_leaves login.node s (request_step s.node.layer s.outbox login.node body (purposes.Agent q)) (requests_same s.node.layer s.outbox login.node body (purposes.Agent q)) h
+    behind login _ _ (asks_ahead ask body s e) h =
         ahead_leaves login.node s (request_step s.node.layer s.outbox login.node body (purposes.Agent q)) (requests_same s.node.layer s.outbox login.node body (purposes.Agent q)) h
 
-    ahead_asks : (body : Option Body) (login : Login) (s : Scene) → C ran s → C ran (ahead_asked body q login s).1
-    ahead_asks None login s h = h
-    ahead_asks (Some body) login s h = ahead_if (nat_lt (free_labels s.node.layer login.node) 16) body login s h
-
-    sends_ahead : (login : Login) (ask : Ask) (s : Scene) → C ran s → C ran (send_ahead q login ask s).1
-    unfolding send_ahead
-    sends_ahead login ask s h = ahead_asks (agent_body ask false login.fifo (desk_at s.node q).agent.outgoing) login s h
-
-    behind_ahead : (login : Login) (r : Bool × Scene) → C ran r.1 → C ran (after_ahead q login r)
-    behind_ahead login (true, s) h = h
-    behind_ahead login (false, s) h = loses login Ahead s h
-
-    behind_loss : (login : Login) (r : Bool × Scene) → C ran r.1 → C ran (after_loss q login r)
-    behind_loss login (true, s) h = h
-    behind_loss login (false, s) h = loses login Main s h
-
-    loses_main : (login : Login) (s : Scene) → C ran s → C ran (lose_main q login s)
-    unfolding lose_main
-    loses_main login s h = behind_loss login (lose q login Main s) (loses login Main s h)
-
-    behind_main : (login : Login) (step : AgentStep) (r : Bool × Scene) → C ran r.1 → C ran (after_main q login step r)
-    behind_main login step (true, s) h = behind_ahead login (send_ahead q login step.ahead s) (sends_ahead login step.ahead s h)
-    behind_main login step (false, s) h = loses_main login s h
-
     behind_noted : (login : Login) (step : AgentStep) (s : Scene) → C ran (noted q step s) → C ran (follow q login step s)
-    unfolding follow
-    behind_noted login step s h = let t = noted q step s in behind_main login step (ask_main q login step t) (asks_main login step t h)
+    behind_noted login step s h =
+        let t = noted q step s in kept (Behind q login) (C ran) (behind login) t _ (behind_moves (Behind q login) q login (λ x y m. m) t step s (stay t)) h
 
     follows : (login : Login) (step : AgentStep) (s : Scene) → C ran s → C ran (follow q login step s)
     follows login step s h = behind_noted login step s (notes step s h)
@@ -374,38 +337,24 @@ module _ (q unit : ℕ) (places : List (Option Login)) (before : ℕ → Bool) w
   announced place peer s (None, (layer, outbox)) e i h =
       tells true (sides.Unsent place) (scene (record s.node { layer = layer }) outbox) tt (λ other b. refl) (λ b f. f) (keeps true s (scene (record s.node { layer = layer }) outbox) refl refl e h)
 
-  announces_to : (place : ℕ) (login : Login) (s : Scene) → Hears unit places place → C true s → C true (announce_to place login s)
-  unfolding announce_to
-  announces_to place login s i h =
-      let r = request_step s.node.layer s.outbox login.node (block_write login.fifo block) purposes.Unsolicited in
-      pick true (is_pending login.node s.node.pending) (scene s.node (with_side s.outbox (sides.Unsent place))) (unsolicited_by place login.node s.node r)
-      (tells true (sides.Unsent place) s tt (λ other b. refl) (λ b e. e) h)
-      (announced place login.node s r (requests_same true s.node.layer s.outbox login.node (block_write login.fifo block) purposes.Unsolicited) i h)
-
   heard_parts : (a b c d : Bool) → (a && (b && (not c && d))) ≡ true → (a ≡ true) × (b ≡ true)
   heard_parts true true c d e = (refl, refl)
   heard_parts true false c d e = absurd (false≢true e)
   heard_parts false b c d e = absurd (false≢true e)
 
-  announces_in : (from place : ℕ) (login : Option Login) (s : Scene) → place_at places place ≡ login → C true s → C true (announce_in unit from place login s)
-  announces_in from place None s e h = h
-  announces_in from place (Some login) s e h = by (hears unit from place (desk_at s.node place) login) refl
-    where
-      by : (b : Bool) → hears unit from place (desk_at s.node place) login ≡ b → C true (cond b (announce_to place login s) s)
-      by true f =
-          let p = heard_parts (nat_eq login.unit unit) (is_live login) (nat_eq place from) (desk_at s.node place).is_enabled f in
-          let unit_test = p.0 in
-          announces_to place login s (record { login = login; is = e; live = p.1; unit_is = grind (arith, nat_tests) }) h
-      by false f = h
+  disc_tells : (from : ℕ) (x y : Scene) → Announced unit from x y → C true x → C true y
+  disc_tells from _ _ (pushes place login s e) h =
+      let p = heard_parts (nat_eq login.unit unit) (is_live login) (nat_eq place from) (desk_at s.node place).is_enabled e.heard in
+      let unit_test = p.0 in
+      let there = ap (λ ps. place_at ps place) (sym h.logins) ∙ e.is in
+      let body = block_write login.fifo block in
+      announced place login.node s (request_step s.node.layer s.outbox login.node body purposes.Unsolicited) (requests_same true s.node.layer s.outbox login.node body purposes.Unsolicited)
+      (record { login = login; is = there; live = p.1; unit_is = grind (arith, nat_tests) }) h
+  disc_tells from _ _ (withholds place login s e) h = tells true (sides.Unsent place) s tt (λ other b. refl) (λ b e. e) h
 
-  announces_at : (from place : ℕ) (s : Scene) → C true s → C true (announce_at unit from place s)
-  unfolding announce_at
-  announces_at from place s h = announces_in from place (login_at s.node place) s (ap (λ ps. place_at ps place) (sym h.logins)) h
-
-  announces_from : (left place from : ℕ) (s : Scene) → C true s → C true (announce_from left place unit from s)
-  unfolding announce_from
-  announces_from zero place from s h = h
-  announces_from (suc left) place from s h = announces_from left (place + 1) from (announce_at unit from place s) (announces_at from place s h)
+  announces : (from : ℕ) (s : Scene) → C true s → C true (announce_from 8 0 unit from s)
+  announces from s h =
+      kept (Announced unit from) (C true) (disc_tells from) s _ (announced_moves (Announced unit from) unit from (λ x y m. m) s true s (stay s)) h
 
   -- ---- a reply
   changed : (ran b : Bool) (which place : ℕ) (s : Scene) → C ran s → C ran (scene (changed_by b which place s.node) s.outbox)
@@ -426,7 +375,7 @@ module _ (q unit : ℕ) (places : List (Option Login)) (before : ℕ → Bool) w
       let t = scene (changed_by true login.unit q s.node) s.outbox in
       let told = behind_noted true login step t (runs_noted step.ran step t refl (f refl) (changed false true login.unit q s h)) in
       weaken true (announced_by true login.unit q (follow q login step t))
-      (subst (λ u. C true (announce_from 8 0 u q (follow q login step t))) (sym e) (announces_from 8 0 q (follow q login step t) told))
+      (subst (λ u. C true (announce_from 8 0 u q (follow q login step t))) (sym e) (announces q (follow q login step t) told))
 
   taken_same : (which : Which) (d : Desk) → (taken which d).is_enabled ≡ d.is_enabled
   taken_same Main d = refl

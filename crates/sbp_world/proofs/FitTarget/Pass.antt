@@ -1,6 +1,6 @@
 -- What is kept by telling, by giving up a transaction with a known node, and by asking a known node for what fits a packet, is kept by all
 -- that a target does behind its answer; and what fits stays so.
-use Rattle.std.proofs.Common.{arith, ◌≡◌, refl, subst, ℕ, zero, suc, ◌+◌, ◌^◌, ◌<◌, ◌≤◌, ◌&&◌, nat_lt, is_some, Bool, true, false, cond, List, [], ◌∷◌, ◌++◌, length, Option, Some, None}
+use Rattle.std.proofs.Common.{arith, ◌≡◌, refl, subst, ℕ, ◌^◌, ◌<◌, ◌≤◌, nat_lt, is_some, Bool, true, false, cond, List, [], ◌∷◌, ◌++◌, length, Option, Some, None}
 use Rattle.async_packet.specs.Labels.{LabelParts}
 use Rattle.bus_transactions.specs.Fitting.{AreBytes, FitsRequest}
 use Rattle.bus_transactions.specs.Steps.{IsPlainSide, with_asked}
@@ -23,21 +23,22 @@ use Rattle.command_agent.specs.Steps.{is_reset, lost_step}
 use Rattle.sbp_journal.specs.declared.cause.CutCause.{CutCause}
 use Rattle.sbp_journal.specs.declared.outbox.Outgoing.{Outgoing}
 use Rattle.sbp_journal.specs.declared.side.Side.{Side}
-use Rattle.sbp_journal.specs.declared.side.Side.TheVariants as sides
 use Rattle.sbp_journal.specs.Outgoings.{OutboxState}
-use Rattle.sbp_target.specs.declared.desk.Desk.{Desk}
 use Rattle.sbp_target.specs.declared.purpose.Purpose.{Purpose}
 use Rattle.sbp_target.specs.declared.purpose.Purpose.TheVariants as purposes
 use Rattle.sbp_target.specs.declared.purpose.Sent.{Sent}
 use Rattle.sbp_target.specs.Desks.{promoted_desk, reset_desk}
-use Rattle.sbp_target.specs.Sending.{request_step, sent_by, with_side}
+use Rattle.sbp_target.specs.Sending.{request_step, sent_by}
 use Rattle.sbp_target.specs.Telling.{tell_step, tell_ran, tell_dead, tell_ended}
 use Rattle.sbp_target.specs.Nodes.{NodeState, Scene, scene, desk_at, login_at, with_agent}
 use Rattle.sbp_target.specs.Agents.{agent_body, disowned, without_ahead, dropped_by, promoted_by, noted, main_sent, main_asked, ask_main, lost_by, lose, ahead_sent, ahead_asked, after_ahead, send_ahead, after_loss, lose_main, after_main, follow, sent_to, told_cut, cut}
-use Rattle.sbp_target.specs.Units.{is_pending, unsolicited_by, announce_to, announce_in, announce_at, announce_from, hears, is_cut, cut_at, cut_from, cut_all}
+use Rattle.sbp_target.specs.Units.{unsolicited_by, announce_from, cut_all}
 use Rattle.sbp_world.specs.FitTarget.{Fits, FitsAgent, FitsLogin, IsOfKnown}
 use Rattle.sbp_world.proofs.FitTarget.Agents.{FitsAsk, lost_fits, quads_bytes, reset_fits}
 use Rattle.sbp_world.proofs.FitTarget.Nodes.{IfBody, agent_body_fits, fits_desk, fits_layer, none_main, seat_reset}
+use Rattle.sbp_target.specs.Histories.Moves.{Announced, pushes, stay, withholds}
+use Rattle.sbp_target.proofs.Histories.Moved.{announced_moves}
+use Rattle.sbp_target.proofs.Histories.Views.{cuts_keep, heard_live, kept}
 
 -- what is said of a layer, the packets handed out, and what was told
 abbrev pub Said : Type 1
@@ -156,17 +157,8 @@ module _ (known : ℕ → Type 0) (P : Said) where
           fits = fits_desk known q (record s.node { layer = two }) (reset_desk d) (reset_fits d.agent (h.fits.agents q)) (seat_reset known (login_at s.node q)) (fits_layer known s.node two h.fits);
         }
 
-    cuts_one : (cause : CutCause) (unit : Option ℕ) (q : ℕ) (s : Scene) → In known P s → In known P (cut_at cause unit q s)
-    unfolding cut_at
-    cuts_one cause unit q s h = pick (is_cut unit (login_at s.node q)) (cut cause q s) s (cuts_at cause q s h) h
-
-    cuts_from : (left place : ℕ) (cause : CutCause) (unit : Option ℕ) (s : Scene) → In known P s → In known P (cut_from left place cause unit s)
-    unfolding cut_from
-    cuts_from zero place cause unit s h = h
-    cuts_from (suc left) place cause unit s h = cuts_from left (place + 1) cause unit (cut_at cause unit place s) (cuts_one cause unit place s h)
-
     pub cuts_all : (cause : CutCause) (unit : Option ℕ) (s : Scene) → In known P s → In known P (cut_all cause unit s)
-    cuts_all cause unit s h = cuts_from 8 0 cause unit s h
+    cuts_all cause unit s h = cuts_keep (In known P) cuts_at cause unit s h
 
   -- ---- what asks
   module _ (k : Keeps known P) where
@@ -302,39 +294,17 @@ module _ (known : ℕ → Type 0) (P : Said) where
     unfolding block_head
     block_bytes = quads_bytes (0x85000000 ∷ 0x00000000 ∷ 0x02062800 ∷ 0 ∷ 0 ∷ 0 ∷ [])
 
-    announces_to : (place : ℕ) (login : Login) (s : Scene) → IsServed known login → In known P s → In known P (announce_to place login s)
-    unfolding announce_to
-    announces_to place login s v h =
-        let r = request_step s.node.layer s.outbox login.node (block_write login.fifo block) purposes.Unsolicited in
-        pick (is_pending login.node s.node.pending) (scene s.node (with_side s.outbox (sides.Unsent place))) (unsolicited_by place login.node s.node r)
-        (record { made = k.leaves.tells s.node.layer s.outbox.packets s.outbox.sides _ tt h.made; fits = h.fits })
-        (announced place login.node s r h (requests s.node.layer s.outbox login.node (block_write login.fifo block) purposes.Unsolicited v.there (v.fifo, block_few, block_bytes) h.made))
+    served : (place : ℕ) (login : Login) (s : Scene) → login_at s.node place ≡ Some login → is_live login ≡ true → In known P s → IsServed known login
+    served place login s e live h = let f = subst (FitsLogin known) e (h.fits.logins place) in record { there = f.1 live; fifo = f.0 }
 
-    heard_live : (unit from place : ℕ) (d : Desk) (login : Login) → hears unit from place d login ≡ true → is_live login ≡ true
-    heard_live unit from place d login e = both _ (is_live login) _ e
-      where
-        both : (a b c : Bool) → (a && (b && c)) ≡ true → b ≡ true
-        both true true c f = refl
-        both true false c f = cc
-        both false b c f = cc
-
-    announces_if : (b : Bool) (unit from place : ℕ) (login : Login) (s : Scene) → hears unit from place (desk_at s.node place) login ≡ b → FitsLogin known (Some login) → In known P s → In known P (cond b (announce_to place login s) s)
-    announces_if true unit from place login s e f h =
-        announces_to place login s (record { there = f.1 (heard_live unit from place (desk_at s.node place) login e); fifo = f.0 }) h
-    announces_if false unit from place login s e f h = h
-
-    announces_in : (unit from place : ℕ) (login : Option Login) (s : Scene) → FitsLogin known login → In known P s → In known P (announce_in unit from place login s)
-    announces_in unit from place None s f h = h
-    announces_in unit from place (Some login) s f h = announces_if (hears unit from place (desk_at s.node place) login) unit from place login s refl f h
-
-    announces_at : (unit from place : ℕ) (s : Scene) → In known P s → In known P (announce_at unit from place s)
-    unfolding announce_at
-    announces_at unit from place s h = announces_in unit from place (login_at s.node place) s (h.fits.logins place) h
-
-    announces_from : (left place unit from : ℕ) (s : Scene) → In known P s → In known P (announce_from left place unit from s)
-    unfolding announce_from
-    announces_from zero place unit from s h = h
-    announces_from (suc left) place unit from s h = announces_from left (place + 1) unit from (announce_at unit from place s) (announces_at unit from place s h)
+    tells : (unit from : ℕ) (x y : Scene) → Announced unit from x y → In known P x → In known P y
+    tells unit from _ _ (pushes place login s e) h =
+        let v = served place login s e.is (heard_live unit from place login s e) h in
+        let body = block_write login.fifo block in
+        announced place login.node s (request_step s.node.layer s.outbox login.node body purposes.Unsolicited) h
+        (requests s.node.layer s.outbox login.node body purposes.Unsolicited v.there (v.fifo, block_few, block_bytes) h.made)
+    tells unit from _ _ (withholds place login s e) h = record { made = k.leaves.tells s.node.layer s.outbox.packets s.outbox.sides _ tt h.made; fits = h.fits }
 
     pub announces_all : (unit from : ℕ) (s : Scene) → In known P s → In known P (announce_from 8 0 unit from s)
-    announces_all unit from s h = announces_from 8 0 unit from s h
+    announces_all unit from s h =
+        kept (Announced unit from) (In known P) (tells unit from) s _ (announced_moves (Announced unit from) unit from (λ x y m. m) s true s (stay s)) h

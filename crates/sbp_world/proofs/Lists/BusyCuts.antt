@@ -1,5 +1,5 @@
 -- A call of the target leaves each agent in its phase, where it makes no step, or tells a cut of it, before which it told cuts alone.
-use Rattle.std.proofs.Common.{◌≡◌, ◌∙◌, refl, sym, ap, subst, inl, inr, ◌⊎◌, ℕ, zero, suc, ◌+◌, Bool, true, false, cond, List, [], ◌∷◌, ◌++◌, length, map, Option, Some, None, Result, Ok, Err}
+use Rattle.std.proofs.Common.{◌≡◌, ◌∙◌, refl, sym, ap, subst, inl, inr, ◌⊎◌, ℕ, zero, suc, ◌+◌, Bool, true, false, cond, List, [], ◌∷◌, ◌++◌, length, Option, Some, None, Result, Ok, Err}
 use Rattle.std.specs.Prelude.{slice_index_or, slice_set}
 use Rattle.std.proofs.Math.ListN.{length-map, length-set}
 use Rattle.async_packet.specs.Packet.{Packet, header_in}
@@ -31,17 +31,18 @@ use Rattle.sbp_target.specs.declared.purpose.Purpose.TheVariants as purposes
 use Rattle.sbp_target.specs.Agents.{cut, cut_node, told_cut}
 use Rattle.sbp_target.specs.Desks.{disabled, new_desk, reset_desk}
 use Rattle.sbp_target.specs.Management.{ask_manager, cut_place, cut_placed, decided_by, effect_by, failed_by, fresh_desk, left_desk, lose_operation, lost_in, manage, managed_in, managed_with, manager_asked, manager_body, manager_lost, manager_sent, place_in, tell_failed, tell_left, with_manager}
-use Rattle.sbp_target.specs.Nodes.{NodeState, Scene, desk_at, login_at, scene, with_desk}
+use Rattle.sbp_target.specs.Nodes.{NodeState, Scene, desk_at, scene, with_desk}
 use Rattle.sbp_target.specs.Receiving.{after_reset, cleared_node, expired_from, held_from, reset_by, seen, tell_held, ticked, ticked_by}
 use Rattle.sbp_target.specs.Sending.{answer_step, answered_by, request_step, sent_by, with_side}
 use Rattle.sbp_target.specs.Serving.{answered, start, started_by}
-use Rattle.sbp_target.specs.Units.{clear_from, clear_unit, cut_all, cut_at, cut_from, is_cut}
+use Rattle.sbp_target.specs.Units.{clear_from, clear_unit, cut_all}
 use Rattle.command_agent.specs.declared.phase.Phase.{Phase}
 use Rattle.command_agent.specs.declared.phase.Phase.TheVariants as phases
-use Rattle.sbp_world.proofs.Lists.Follows.{AreSame}
+use Rattle.sbp_world.proofs.Lists.SameAgents.{AreSame}
 use Rattle.sbp_world.proofs.Lists.Kept.{IsBeside}
 use Rattle.sbp_world.proofs.Lists.Full.{IsClosed}
 use Rattle.sbp_world.proofs.Lists.StatusRests.{map_agents}
+use Rattle.sbp_target.proofs.Histories.Views.{cuts_keep, placed_keep}
 
 desk_either : (desks : List Desk) (k p : ℕ) (d : Desk) → ((p ≡ k) × (slice_index_or (slice_set desks k d) p new_desk ≡ d)) ⊎ (slice_index_or (slice_set desks k d) p new_desk ≡ slice_index_or desks p new_desk)
 desk_either [] k p d = inr refl
@@ -225,26 +226,15 @@ module _ (F : ℕ → Machine → Type 0) (closed : IsClosed F) (before : ℕ �
     cuts_one =
         let o = told_cut (is_reset (state_in (Here s.node place).phase)) place cause s.outbox in first_desks (scene there o) (cut_node place s.node) o refl refl cut_there
 
-  pick_first : (b : Bool) (s t : Scene) → First s → First t → First (cond b s t)
-  pick_first true s t c e = c
-  pick_first false s t c e = e
-
   pick : (b : Bool) (s t : Scene) → Cutting s → Cutting t → Cutting (cond b s t)
   pick true s t c e = c
   pick false s t c e = e
 
-  cuts_if : (cause : CutCause) (unit : Option ℕ) (place : ℕ) (s : Scene) → First s → First (cut_at cause unit place s)
-  unfolding cut_at
-  cuts_if cause unit place s c = pick_first (is_cut unit (login_at s.node place)) (cut cause place s) s (cuts_one cause place s c) c
-
-  cuts_from : (left place : ℕ) (cause : CutCause) (unit : Option ℕ) (s : Scene) → First s → First (cut_from left place cause unit s)
-  unfolding cut_from
-  cuts_from zero place cause unit s c = c
-  cuts_from (suc left) place cause unit s c = cuts_from left (place + 1) cause unit (cut_at cause unit place s) (cuts_if cause unit place s c)
+  cuts_all : (cause : CutCause) (unit : Option ℕ) (s : Scene) → First s → First (cut_all cause unit s)
+  cuts_all cause unit s c = cuts_keep First cuts_one cause unit s c
 
   cuts_placed : (place : Option ℕ) (cause : CutCause) (s : Scene) → First s → First (cut_placed place cause s)
-  cuts_placed None cause s c = c
-  cuts_placed (Some place) cause s c = cuts_one cause place s c
+  cuts_placed place cause s c = placed_keep First cuts_one place cause s c
 
   -- ---- units
   clears : (unit : ℕ) (s : Scene) → Cutting s → Cutting (clear_unit unit s)
@@ -280,10 +270,10 @@ module _ (F : ℕ → Machine → Type 0) (closed : IsClosed F) (before : ℕ �
   effects_by (effects.AbortSet place) login s c = (cuts_placed (place_in place) cuts.AbortSet s c).cutting
   effects_by (effects.UnitReset unit) login s c =
       let t = cut_all cuts.UnitReset (Some unit) s in
-      let k = (cuts_from 8 0 cuts.UnitReset (Some unit) s c).cutting in
+      let k = (cuts_all cuts.UnitReset (Some unit) s c).cutting in
       pick _ (clear_unit unit t) t (clears unit t k) k
   effects_by effects.TargetReset login s c =
-      let t = cut_all cuts.TargetReset None s in clears_from (length t.node.units) 0 t (cuts_from 8 0 cuts.TargetReset None s c).cutting
+      let t = cut_all cuts.TargetReset None s in clears_from (length t.node.units) 0 t (cuts_all cuts.TargetReset None s c).cutting
 
   decides : (d : Option Decision) (effect : Effect) (source : ℕ) (s : Scene) → First s → Cutting (decided_by d effect source s)
   unfolding decided_by
@@ -370,7 +360,7 @@ module _ (F : ℕ → Machine → Type 0) (closed : IsClosed F) (before : ℕ �
   sees_by (true, layer) s c =
       let t = scene (cleared_node layer s.node) s.outbox in
       let x = cut_all cuts.Reset None t in
-      let k = (cuts_from 8 0 cuts.Reset None t (first_desks s t.node s.outbox refl refl c)).cutting in
+      let k = (cuts_all cuts.Reset None t (first_desks s t.node s.outbox refl refl c)).cutting in
       let y = scene (after_reset x.node) x.outbox in
       let z : AreSame x.node (after_reset x.node) = record { desks = length-map x.node.desks disabled; agents = map_agents x.node.desks } in
       holds_from 8 0 x.node.logins.places y (cut_alike x y z refl k)

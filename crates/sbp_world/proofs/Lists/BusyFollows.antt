@@ -1,12 +1,8 @@
 -- What follows a step of the agent of a place, which has an ORB that has not ended: it has it still, or an end of it is told; and nothing is told but of runs,
 -- ends and deaths of that place, and of unsolicited statuses.
-use Rattle.std.proofs.Common.{◌≡◌, ◌∙◌, refl, sym, ap, subst, inl, inr, ◌⊎◌, ◌<◌, ◌≤◌, ℕ, zero, suc, ◌+◌, is_some, Bool, true, false, cond, List, [], ◌∷◌, ◌++◌, length, Option, Some, None, arith}
+use Rattle.std.proofs.Common.{◌≡◌, ◌∙◌, refl, sym, ap, subst, inl, inr, ◌⊎◌, ◌<◌, ◌≤◌, ℕ, ◌+◌, is_some, Bool, true, false, cond, List, [], ◌∷◌, ◌++◌, length, Option, Some, None, arith}
 use Rattle.std.proofs.Math.ListN.{length-set}
-use Rattle.label_table.specs.declared.judgement.Asked.{Asked}
-use Rattle.label_table.specs.Bodies.{Body, block_write}
-use Rattle.label_table.specs.Layer.{Layer, asking_step}
 use Rattle.login_table.specs.declared.login.Login.{Login}
-use Rattle.media_bay.specs.Unsolicited.{block}
 use Rattle.orb_layout.specs.declared.ask.Ask.{Ask}
 use Rattle.orb_layout.specs.declared.ask.FailCause.{FailCause}
 use Rattle.orb_layout.specs.declared.ask.FailCause.TheVariants as causes
@@ -14,21 +10,19 @@ use Rattle.orb_layout.specs.declared.status.StatusKind.{StatusKind}
 use Rattle.rbc_disk.specs.declared.command.Outcome.{Outcome}
 use Rattle.command_agent.specs.declared.step.AgentStep.{AgentStep}
 use Rattle.command_agent.specs.declared.step.Which.{Which}
-use Rattle.command_agent.specs.declared.step.Which.TheVariants.{Ahead, Main}
-use Rattle.command_agent.specs.Machine.{Machine, is_under_way}
+use Rattle.command_agent.specs.Machine.{Machine}
 use Rattle.command_agent.specs.Steps.{lost_step}
 use Rattle.sbp_journal.specs.Outgoings.{OutboxState}
 use Rattle.sbp_journal.specs.declared.side.Side.{Side}
 use Rattle.sbp_journal.specs.declared.side.Side.TheVariants as sides
 use Rattle.sbp_target.specs.declared.desk.Desk.{Desk}
-use Rattle.sbp_target.specs.declared.purpose.Purpose.{Purpose}
-use Rattle.sbp_target.specs.declared.purpose.Purpose.TheVariants as purposes
-use Rattle.sbp_target.specs.Agents.{after_ahead, after_loss, after_main, agent_body, ahead_asked, ahead_sent, ask_main, dropped_by, follow, lose, lose_main, lost_by, main_asked, main_sent, noted, promoted_by, send_ahead, without_ahead}
-use Rattle.sbp_target.specs.Nodes.{NodeState, Scene, desk_at, login_at, scene, with_agent}
-use Rattle.sbp_target.specs.Sending.{request_step, sent_by, with_side}
+use Rattle.sbp_target.specs.Agents.{follow, noted}
+use Rattle.sbp_target.specs.Histories.Moves.{lost_at}
+use Rattle.sbp_target.specs.Nodes.{Scene, desk_at, scene, with_agent}
+use Rattle.sbp_target.specs.Sending.{with_side}
 use Rattle.sbp_target.specs.Telling.{orb_of, tell_dead, tell_ended, tell_ran, tell_step}
-use Rattle.sbp_target.specs.Units.{announce_at, announce_from, announce_in, announce_to, hears, is_pending, unsolicited_by, unsolicited_from}
-use Rattle.sbp_world.proofs.Lists.Follows.{AreSame, are_self, are_then, set_here, set_there, with_same}
+use Rattle.sbp_target.specs.Units.{announce_from}
+use Rattle.sbp_world.proofs.Lists.SameAgents.{AreSame, announce_alike, follow_alike, noted_same, set_here, set_there}
 use Rattle.sbp_world.proofs.Lists.Busy.{is_busy, lost_busy}
 use Rattle.command_agent.specs.Steps as steps
 use Rattle.sbp_world.proofs.Lists.Full.{IsClosed}
@@ -136,21 +130,6 @@ module _ (q : ℕ) (b : q < 8) (Known Given : Type 0) (F : ℕ → Machine → T
   unfolding tell_step
   step_ends step m o e = ended_tells step.ended m (tell_dead q step.dead (tell_ran q m step.ran o)) e
 
-  dropped_same : (dead : Option FailCause) (node : NodeState) → length node.desks ≡ 8 → AreSame node (dropped_by dead q node)
-  unfolding without_ahead
-  dropped_same None node e = are_self node
-  dropped_same (Some cause) node e = let w = with_same node q (record (desk_at node q) { ahead = None }) (omega (arith, e)) refl in record { desks = w.desks; agents = w.agents }
-
-  promoted_same : (x : Bool) (node : NodeState) → length node.desks ≡ 8 → AreSame node (promoted_by x q node)
-  promoted_same false node e = are_self node
-  promoted_same true node e = with_same node q (record (desk_at node q) { main = (desk_at node q).ahead; ahead = None }) (omega (arith, e)) refl
-
-  noted_same : (step : AgentStep) (s : Scene) → length s.node.desks ≡ 8 → AreSame s.node (noted q step s).node
-  unfolding noted
-  noted_same step s e =
-      let d = dropped_same step.dead s.node e in
-      are_then s.node (dropped_by step.dead q s.node) (promoted_by step.promoted q (dropped_by step.dead q s.node)) d (promoted_same step.promoted (dropped_by step.dead q s.node) (d.desks ∙ e))
-
   noted_outbox : (step : AgentStep) (s : Scene) → (noted q step s).outbox ≡ tell_step q (desk_at s.node q).agent step s.outbox
   unfolding noted
   noted_outbox step s = refl
@@ -166,31 +145,14 @@ module _ (q : ℕ) (b : q < 8) (Known Given : Type 0) (F : ℕ → Machine → T
 
   pub noted_acts : (step : AgentStep) (s : Scene) → Steps step s → Acts (noted q step s)
   noted_acts step s m =
-      let a = noted_same step s m.desks in
+      let a = noted_same q b step s m.desks in
       let e : (noted q step s).outbox.sides ≡ (tell_step q (desk_at s.node q).agent step s.outbox).sides = ap (λ (o : OutboxState). o.sides) (noted_outbox step s) in
       record { of = subst (AreOf q) (sym e) (step_of step (desk_at s.node q).agent s.outbox m.of); desks = a.desks ∙ m.desks; same = λ p f. a.agents p ∙ m.same p f; busy = λ known. by (m.busy known); full = λ g f. subst (λ x. F q x) (sym (a.agents q)) (m.full g f); up = λ h. subst (λ (x : Machine). IsUp x) (sym (a.agents q)) (m.up h) }
     where
       by : ((is_busy (desk_at s.node q).agent.phase ≡ true) ⊎ (is_some step.ended ≡ true)) ⊎ (has_end s.outbox.sides ≡ true) → (is_busy (desk_at (noted q step s).node q).agent.phase ≡ true) ⊎ (has_end (noted q step s).outbox.sides ≡ true)
-      by (inl (inl h)) = inl (ap (λ (m : Machine). is_busy m.phase) ((noted_same step s m.desks).agents q) ∙ h)
+      by (inl (inl h)) = inl (ap (λ (m : Machine). is_busy m.phase) ((noted_same q b step s m.desks).agents q) ∙ h)
       by (inl (inr h)) = inr (ap (λ (o : OutboxState). has_end o.sides) (noted_outbox step s) ∙ step_ends step (desk_at s.node q).agent s.outbox h)
       by (inr h) = inr (ap (λ (o : OutboxState). has_end o.sides) (noted_outbox step s) ∙ step_keeps step (desk_at s.node q).agent s.outbox h)
-
-  -- ---- requests
-  sent_acts : (s : Scene) (peer : ℕ) (r : Option Asked × Layer Purpose) → Acts s → Acts (main_sent q peer s.node (sent_by r s.outbox peer)).1
-  sent_acts s peer (None, layer) m = alike s _ (record { desks = refl; agents = λ p. refl }) refl m
-  sent_acts s peer (Some asked, layer) m =
-      let node = record s.node { layer = layer } in
-      let w = with_same node q (record (desk_at node q) { main = Some (record { peer = peer; label = asked.label }) }) (let e = m.desks in omega (arith, e)) refl in
-      alike s _ (record { desks = w.desks; agents = w.agents }) refl m
-
-  main_acts : (body : Option Body) (login : Login) (s : Scene) → Acts s → Acts (main_asked body q login s).1
-  unfolding request_step
-  main_acts None login s m = m
-  main_acts (Some body) login s m = sent_acts s login.node (asking_step s.node.layer login.node body (purposes.Agent q)) m
-
-  ask_acts : (login : Login) (step : AgentStep) (s : Scene) → Acts s → Acts (ask_main q login step s).1
-  unfolding ask_main
-  ask_acts login step s m = main_acts (agent_body step.ask (is_some step.ended) login.fifo (desk_at s.node q).agent.outgoing) login s m
 
   -- ---- a transaction that finds no label
   lost_steps : (s : Scene) (which : Which) → Acts s → (let l = lost_step (desk_at s.node q).agent which causes.Label in Steps l.0 (scene (with_agent s.node q l.1) s.outbox))
@@ -216,61 +178,13 @@ module _ (q : ℕ) (b : q < 8) (Known Given : Type 0) (F : ℕ → Machine → T
       by (inl h) = inl (done (lost_busy (desk_at s.node q).agent which causes.Label h))
       by (inr h) = inr h
 
-  lost_acts : (x : Bool) (login : Login) (which : Which) (s : Scene) → Acts s → Acts (lost_by x q login which s).1
-  lost_acts false login which s m = m
-  lost_acts true login which s m =
-      let l = lost_step (desk_at s.node q).agent which causes.Label in
-      let t = scene (with_agent s.node q l.1) s.outbox in
-      ask_acts login l.0 (noted q l.0 t) (noted_acts l.0 t (lost_steps s which m))
-
-  lose_acts : (login : Login) (which : Which) (s : Scene) → Acts s → Acts (lose q login which s).1
-  unfolding lose
-  lose_acts login which s m = lost_acts (is_under_way which (desk_at s.node q).agent) login which s m
-
-  loss_acts : (login : Login) (r : Bool × Scene) → Acts r.1 → Acts (after_loss q login r)
-  loss_acts login (true, s) m = m
-  loss_acts login (false, s) m = lose_acts login Main s m
-
-  lose_main_acts : (login : Login) (s : Scene) → Acts s → Acts (lose_main q login s)
-  unfolding lose_main
-  lose_main_acts login s m = loss_acts login (lose q login Main s) (lose_acts login Main s m)
-
-  -- ---- the read ahead
-  ahead_sent_acts : (s : Scene) (peer : ℕ) (r : Option Asked × Layer Purpose) → Acts s → Acts (ahead_sent q peer s.node (sent_by r s.outbox peer)).1
-  ahead_sent_acts s peer (None, layer) m = alike s _ (record { desks = refl; agents = λ p. refl }) refl m
-  ahead_sent_acts s peer (Some asked, layer) m =
-      let node = record s.node { layer = layer } in
-      let w = with_same node q (record (desk_at node q) { ahead = Some (record { peer = peer; label = asked.label }) }) (let e = m.desks in omega (arith, e)) refl in
-      alike s _ (record { desks = w.desks; agents = w.agents }) refl m
-
-  pick_acts : (x : Bool) (s t : Bool × Scene) → Acts s.1 → Acts t.1 → Acts (cond x s t).1
-  pick_acts true s t m k = m
-  pick_acts false s t m k = k
-
-  ahead_acts : (body : Option Body) (login : Login) (s : Scene) → Acts s → Acts (ahead_asked body q login s).1
-  unfolding request_step
-  ahead_acts None login s m = m
-  ahead_acts (Some body) login s m =
-      pick_acts _ (false, s) (ahead_sent q login.node s.node (request_step s.node.layer s.outbox login.node body (purposes.Agent q))) m
-      (ahead_sent_acts s login.node (asking_step s.node.layer login.node body (purposes.Agent q)) m)
-
-  send_ahead_acts : (login : Login) (ask : Ask) (s : Scene) → Acts s → Acts (send_ahead q login ask s).1
-  unfolding send_ahead
-  send_ahead_acts login ask s m = ahead_acts (agent_body ask false login.fifo (desk_at s.node q).agent.outgoing) login s m
-
-  after_ahead_acts : (login : Login) (r : Bool × Scene) → Acts r.1 → Acts (after_ahead q login r)
-  after_ahead_acts login (true, s) m = m
-  after_ahead_acts login (false, s) m = lose_acts login Ahead s m
-
-  after_main_acts : (login : Login) (step : AgentStep) (r : Bool × Scene) → Acts r.1 → Acts (after_main q login step r)
-  after_main_acts login step (true, s) m = after_ahead_acts login (send_ahead q login step.ahead s) (send_ahead_acts login step.ahead s m)
-  after_main_acts login step (false, s) m = lose_main_acts login s m
+  lost_acts : (which : Which) (s : Scene) → Acts s → Acts (lost_at q which s)
+  lost_acts which s m =
+      let l = lost_step (desk_at s.node q).agent which causes.Label in noted_acts l.0 (scene (with_agent s.node q l.1) s.outbox) (lost_steps s which m)
 
   -- ---- what follows a step
   pub follow_acts : (login : Login) (step : AgentStep) (s : Scene) → Steps step s → Acts (follow q login step s)
-  unfolding follow
-  follow_acts login step s m =
-      let t = noted q step s in after_main_acts login step (ask_main q login step t) (ask_acts login step t (noted_acts step s m))
+  follow_acts login step s m = follow_alike Acts (λ s m. m.desks) alike q b login lost_acts step s (noted_acts step s m)
 
   -- a step that tells nothing
   pub asks_acts : (login : Login) (ask : Ask) (s : Scene) → Acts s → Acts (follow q login (steps.asks ask) s)
@@ -295,37 +209,5 @@ module _ (q : ℕ) (b : q < 8) (Known Given : Type 0) (F : ℕ → Machine → T
       by (inl h) = inl h
       by (inr h) = inr (ends_more s.outbox.sides (heard x) h)
 
-  unsolicited_acts : (place : ℕ) → place < 8 → (s : Scene) (peer : ℕ) (r : Option Asked × Layer Purpose) → Acts s → Acts (unsolicited_by place peer s.node (sent_by r s.outbox peer))
-  unsolicited_acts place c s peer (None, layer) m =
-      let t = scene (record s.node { layer = layer }) s.outbox in heard_acts place false t (alike s t (record { desks = refl; agents = λ p. refl }) refl m)
-  unsolicited_acts place c s peer (Some asked, layer) m =
-      let o = (sent_by (Some asked, layer) s.outbox peer).1.1 in
-      let t = scene (unsolicited_from place peer layer s.node) o in
-      let w = with_same s.node place (record (desk_at s.node place) { is_enabled = false }) (let e = m.desks in omega (arith, e)) refl in
-      heard_acts place true t (alike s t (record { desks = w.desks; agents = w.agents }) refl m)
-
-  pick_scene : (x : Bool) (s t : Scene) → Acts s → Acts t → Acts (cond x s t)
-  pick_scene true s t m k = m
-  pick_scene false s t m k = k
-
-  announce_acts : (place : ℕ) → place < 8 → (login : Login) (s : Scene) → Acts s → Acts (announce_to place login s)
-  unfolding announce_to request_step
-  announce_acts place c login s m =
-      pick_scene (is_pending login.node s.node.pending) (scene s.node (with_side s.outbox (sides.Unsent place)))
-      (unsolicited_by place login.node s.node (request_step s.node.layer s.outbox login.node (block_write login.fifo block) purposes.Unsolicited)) (heard_acts place false s m)
-      (unsolicited_acts place c s login.node (asking_step s.node.layer login.node (block_write login.fifo block) purposes.Unsolicited) m)
-
-  announce_in_acts : (unit from place : ℕ) → place < 8 → (login : Option Login) (s : Scene) → Acts s → Acts (announce_in unit from place login s)
-  announce_in_acts unit from place c None s m = m
-  announce_in_acts unit from place c (Some login) s m =
-      pick_scene (hears unit from place (desk_at s.node place) login) (announce_to place login s) s (announce_acts place c login s m) m
-
-  announce_at_acts : (unit from place : ℕ) → place < 8 → (s : Scene) → Acts s → Acts (announce_at unit from place s)
-  unfolding announce_at
-  announce_at_acts unit from place c s m = announce_in_acts unit from place c (login_at s.node place) s m
-
   pub announce_from_acts : (left place unit from : ℕ) → left + place ≤ 8 → (s : Scene) → Acts s → Acts (announce_from left place unit from s)
-  unfolding announce_from
-  announce_from_acts zero place unit from c s m = m
-  announce_from_acts (suc left) place unit from c s m =
-      announce_from_acts left (place + 1) unit from (omega arith) (announce_at unit from place s) (announce_at_acts unit from place (omega arith) s m)
+  announce_from_acts left place unit from c s m = announce_alike Acts (λ s m. m.desks) alike heard_acts left place unit from c s m

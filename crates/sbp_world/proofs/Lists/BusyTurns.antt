@@ -45,7 +45,7 @@ use Rattle.sbp_world.proofs.Lists.Busy.{StaysBusy, is_busy, lost_busy, replied_b
 use Rattle.sbp_world.proofs.Lists.BusyCuts.{Cutting, answers, desk_more}
 use Rattle.sbp_world.proofs.Lists.StepsUp.{IsUp, doorbell_up, lost_up, point_up, reply_up}
 use Rattle.sbp_world.proofs.Lists.BusyFollows.{Acts, Steps, alike, announce_from_acts, asks_acts, follow_acts}
-use Rattle.sbp_world.proofs.Lists.Follows.{AreSame, are_self, set_here, set_there}
+use Rattle.sbp_world.proofs.Lists.SameAgents.{AreSame, are_self, set_here, set_there}
 use Rattle.sbp_world.proofs.Lists.Full.{IsClosed}
 use Rattle.sbp_world.proofs.Lists.Pointers.{not_taken, deaf_by}
 

@@ -1,6 +1,6 @@
 -- What the agent of a place writes in a call of the target, by a reply, a time-out and a request for a read: what its step asks for, or to FIFOs of logins; so do the
 -- unsolicited status blocks for other logins.
-use Rattle.std.proofs.Common.{arith, ◌≡◌, ◌∙◌, refl, sym, ap, subst, ◌<◌, ◌+◌, ◌&&◌, ℕ, zero, suc, Bool, true, false, cond, List, [], length, Option, Some, None}
+use Rattle.std.proofs.Common.{arith, ◌≡◌, ◌∙◌, refl, sym, ap, subst, ◌<◌, ℕ, Bool, true, false, cond, List, [], length, Option, Some, None}
 use Rattle.std.proofs.Math.ListN.{length-set}
 use Rattle.command_agent.specs.declared.step.AgentStep.{AgentStep}
 use Rattle.command_agent.specs.declared.step.Which.{Which}
@@ -29,30 +29,24 @@ use Rattle.sbp_target.specs.Nodes.{NodeState, Scene, desk_at, login_at, scene, w
 use Rattle.sbp_target.specs.Receiving.{expired_by}
 use Rattle.sbp_target.specs.Replies.{Stage, advance, announced_by, came, changed_by, follow_all, plain_in, replied, stage, whole}
 use Rattle.sbp_target.specs.Sending.{request_step, sent_by, with_side}
-use Rattle.sbp_target.specs.Units.{announce_at, announce_from, announce_in, announce_to, hears, is_pending, unsolicited_by}
+use Rattle.sbp_target.specs.Units.{unsolicited_by}
 use Rattle.sbp_world.specs.Worlds.{WorldState}
 use Rattle.sbp_target.proofs.Histories.Calling.{Good}
 use Rattle.sbp_world.proofs.Agents.AskedLate.{follow_logins}
 use Rattle.sbp_world.proofs.Lists.DataFollows.{AllSo, IsSo, follows_so, more_so, to_fifo}
-use Rattle.sbp_world.proofs.Lists.Follows.{AreSame, are_self, set_here}
+use Rattle.sbp_world.proofs.Lists.SameAgents.{AreSame, are_self, set_here}
 use Rattle.sbp_world.proofs.Lists.StatusActs.{first, there}
 use Rattle.sbp_world.proofs.Lists.StatusBytes.{wrote}
 use Rattle.sbp_world.proofs.Lists.StatusPackets.{unsolicited_small}
 use Rattle.sbp_world.proofs.Lists.StatusReads.{IsOfBody, asked_body}
 use Rattle.sbp_world.proofs.Lists.StatusSteps.{lost_leaves, replied_leaves}
+use Rattle.sbp_target.specs.Histories.Moves.{Announced, pushes, stay, withholds}
+use Rattle.sbp_target.proofs.Histories.Moved.{announced_moves}
+use Rattle.sbp_target.proofs.Histories.Views.{heard_live, kept}
 
 -- these are the FIFOs of the live logins of a table, each at its node
 abbrev pub AreFifos : (ℕ → ℕ → Type 0) → Table → Type 0
 AreFifos Fifo table = (place : ℕ) (other : Login) → place_at table.places place ≡ Some other → is_live other ≡ true → Fifo other.node other.fifo
-
--- who hears of a disc has a live login
-heard_live : (unit from place : ℕ) (d : Desk) (login : Login) → hears unit from place d login ≡ true → is_live login ≡ true
-heard_live unit from place d login e = both _ (is_live login) _ e
-  where
-    both : (a b c : Bool) → (a && (b && c)) ≡ true → b ≡ true
-    both true true c f = refl
-    both true false c f = cc
-    both false b c f = cc
 
 -- ---- other logins hear of a disc
 module _ (Fifo : ℕ → ℕ → Type 0) (step : AgentStep) (m : Machine) (node : ℕ) where
@@ -75,37 +69,15 @@ module _ (Fifo : ℕ → ℕ → Type 0) (step : AgentStep) (m : Machine) (node 
     so = more_so Fifo step m node s.outbox.packets (record { to = other.node; label = Some asked.label; bytes = asked.bytes }) d.so (other_so s.node.layer other asked f of);
   }
 
-  pick : (x : Bool) (s t : Scene) → Written s → Written t → Written (cond x s t)
-  pick true s t h k = h
-  pick false s t h k = k
-
-  announces_to : (place : ℕ) (other : Login) (s : Scene) → Fifo other.node other.fifo → Written s → Written (announce_to place other s)
-  unfolding announce_to request_step
-  announces_to place other s f d =
-      pick (is_pending other.node s.node.pending) (scene s.node (with_side s.outbox (sides.Unsent place)))
-      (unsolicited_by place other.node s.node (request_step s.node.layer s.outbox other.node (block_write other.fifo block) purposes.Unsolicited)) (heard s place false d)
-      (announced place s other f (asking_step s.node.layer other.node (block_write other.fifo block) purposes.Unsolicited) (asked_body s.node.layer other.node (block_write other.fifo block) purposes.Unsolicited) d)
-
-  announces_if : (b : Bool) (unit from place : ℕ) (other : Login) (s : Scene) → hears unit from place (desk_at s.node place) other ≡ b → login_at s.node place ≡ Some other → Written s → Written (cond b (announce_to place other s) s)
-  announces_if true unit from place other s e is d = announces_to place other s (d.fifos place other is (heard_live unit from place (desk_at s.node place) other e)) d
-  announces_if false unit from place other s e is d = d
-
-  announces_in : (unit from place : ℕ) (other : Option Login) (s : Scene) → login_at s.node place ≡ other → Written s → Written (announce_in unit from place other s)
-  announces_in unit from place None s is d = d
-  announces_in unit from place (Some other) s is d = announces_if (hears unit from place (desk_at s.node place) other) unit from place other s refl is d
-
-  announces_at : (unit from place : ℕ) (s : Scene) → Written s → Written (announce_at unit from place s)
-  unfolding announce_at
-  announces_at unit from place s d = announces_in unit from place (login_at s.node place) s refl d
-
-  announces_from : (left place unit from : ℕ) (s : Scene) → Written s → Written (announce_from left place unit from s)
-  unfolding announce_from
-  announces_from zero place unit from s d = d
-  announces_from (suc left) place unit from s d = announces_from left (place + 1) unit from (announce_at unit from place s) (announces_at unit from place s d)
+  tells : (unit from : ℕ) (x y : Scene) → Announced unit from x y → Written x → Written y
+  unfolding request_step
+  tells unit from _ _ (pushes place other s e) d =
+      let body = block_write other.fifo block in
+      announced place s other (d.fifos place other e.is (heard_live unit from place other s e)) (asking_step s.node.layer other.node body purposes.Unsolicited) (asked_body s.node.layer other.node body purposes.Unsolicited) d
+  tells unit from _ _ (withholds place other s e) d = heard s place false d
 
   announces_by : (q : ℕ) (x : Bool) (unit : ℕ) (s : Scene) → Written s → Written (announced_by x unit q s)
-  announces_by q true unit s d = announces_from 8 0 unit q s d
-  announces_by q false unit s d = d
+  announces_by q x unit s d = kept (Announced unit q) Written (tells unit q) s _ (announced_moves (Announced unit q) unit q (λ y z m. m) s x s (stay s)) d
 
 -- ---- a call of the target
 module _ (w : WorldState) (g : Good w.target) (layer : Layer Purpose) (Fifo : ℕ → ℕ → Type 0) (fifos : AreFifos Fifo w.target.logins) where

@@ -54,7 +54,8 @@ use Rattle.sbp_target.specs.Replies.{Whole, advance, advanced_with, announced_by
 use Rattle.sbp_target.specs.Sending.{answer_step, answered_by, with_side}
 use Rattle.sbp_target.specs.Serving.{accessed_by, answered, asked_in, enabled, is_barred, point, pointed_by, request_step as served_step, ring, rung_by, serve, served_as, start}
 use Rattle.sbp_target.specs.Telling.{orb_of, tell_dead, tell_ended, tell_ran, tell_step}
-use Rattle.sbp_target.proofs.Histories.Followed.{Loses, TellsDiscs, announces_by, follows as follows_behind}
+use Rattle.sbp_target.proofs.Histories.Followed.{TellsDiscs, announces_by, follows as follows_behind}
+use Rattle.sbp_target.proofs.Histories.Views.{Loses}
 use Rattle.sbp_world.specs.Delivering.{whole_of}
 use Rattle.sbp_world.proofs.Lists.OrbSteps.{ends_read}
 use Rattle.sbp_world.proofs.Lists.RunTells.{served_there}

@@ -34,7 +34,7 @@ use Rattle.sbp_world.specs.Telling.{told, told_all}
 use Rattle.sbp_world.specs.Worlds.{WorldState}
 use Rattle.sbp_world.proofs.Agents.Granting.{IsBack}
 use Rattle.sbp_world.proofs.Agents.Sparing.{IsOld}
-use Rattle.sbp_world.proofs.Lists.Follows.{set_here}
+use Rattle.sbp_world.proofs.Lists.SameAgents.{set_here}
 use Rattle.sbp_world.proofs.Lists.Frees.{Frees, HasHeld, HasId}
 use Rattle.sbp_world.proofs.Lists.OpenPlaces.{Has, decided_keeps, left_keeps}
 use Rattle.sbp_world.proofs.Lists.OpenSpares.{SameCuts, cut_noted}

@@ -39,7 +39,7 @@ use Rattle.sbp_world.specs.Worlds.{WorldState}
 use Rattle.sbp_target.proofs.Histories.Calling.{Good}
 use Rattle.sbp_target.proofs.Histories.Following.{IsServed}
 use Rattle.sbp_world.proofs.Agents.AskedLate.{quiet_follow}
-use Rattle.sbp_world.proofs.Lists.Follows.{set_there}
+use Rattle.sbp_world.proofs.Lists.SameAgents.{set_there}
 use Rattle.sbp_world.proofs.Lists.OpenCuts.{Here, Listing, is_up, Open, OwnsLogin, desk_more}
 use Rattle.sbp_world.proofs.Lists.OpenFollows.{Beside, alike, announce_from_beside, follow_beside}
 use Rattle.sbp_world.proofs.Lists.OpenManages.{answers}

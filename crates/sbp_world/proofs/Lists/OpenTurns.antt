@@ -32,7 +32,7 @@ use Rattle.sbp_target.proofs.Histories.Following.{IsServed}
 use Rattle.sbp_target.proofs.Histories.Stepped.{is_bare}
 use Rattle.sbp_world.specs.Agents.Alike.{has_list}
 use Rattle.sbp_world.proofs.Agents.AskedLate.{ahead_of, main_of}
-use Rattle.sbp_world.proofs.Lists.Follows.{AreSame, are_self, set_there}
+use Rattle.sbp_world.proofs.Lists.SameAgents.{AreSame, are_self, set_there}
 use Rattle.sbp_world.proofs.Lists.OpenCuts.{Here, Listing, is_up, Open, OwnsLogin}
 use Rattle.sbp_world.proofs.Lists.OpenFollows.{Beside}
 use Rattle.sbp_world.proofs.Lists.OpenPlaces.{Has}

@@ -28,7 +28,7 @@ use Rattle.sbp_target.specs.Management.{ask_manager, cut_placed, decided_by, eff
 use Rattle.sbp_target.specs.Nodes.{Scene, desk_at, login_at, scene}
 use Rattle.sbp_target.specs.Sending.{request_step, sent_by}
 use Rattle.sbp_target.specs.Units.{clear_from, clear_unit, cut_all, cut_at, cut_from, is_cut}
-use Rattle.sbp_world.proofs.Lists.Follows.{set_here}
+use Rattle.sbp_world.proofs.Lists.SameAgents.{set_here}
 use Rattle.sbp_world.proofs.Lists.OpenCuts.{Listing, is_up, set_less}
 use Rattle.sbp_world.proofs.Lists.ManageTerms.{none_is, untrue}
 use Rattle.sbp_world.proofs.Agents.Managed.{clears_desks}

@@ -33,7 +33,7 @@ use Rattle.sbp_target.specs.Nodes.{NodeState, Scene as TargetScene, desk_at}
 use Rattle.sbp_target.specs.Receiving.{judged_scene, received_as}
 use Rattle.sbp_target.specs.Replies.{Whole, scene_of}
 use Rattle.sbp_target.specs.Serving.{answered, is_barred, request_step, serve, served_as}
-use Rattle.sbp_world.proofs.Lists.Follows.{set_here}
+use Rattle.sbp_world.proofs.Lists.SameAgents.{set_here}
 use Rattle.sbp_world.proofs.Lists.OpenCuts.{Here, Listing, is_up}
 use Rattle.sbp_world.proofs.Lists.OpenedAddresses.{IsBase, IsNear, block_base, demand_served, near_register}
 use Rattle.sbp_world.proofs.Wire.Kept.{and_false}

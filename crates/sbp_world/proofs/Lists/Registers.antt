@@ -49,7 +49,8 @@ use Rattle.sbp_world.proofs.Agents.AskedLate.{quiet_follow}
 use Rattle.sbp_world.specs.Lists.Lists.{orbs}
 use Rattle.sbp_world.specs.Lists.Needs.{IsPointed, machine_at}
 use Rattle.sbp_world.proofs.Lists.Cuts.{Cutting, answers, desk_more}
-use Rattle.sbp_world.proofs.Lists.Follows.{AreSame, Mid, alike, asks_mid, set_here, set_there}
+use Rattle.sbp_world.proofs.Lists.Follows.{Mid, alike, asks_mid}
+use Rattle.sbp_world.proofs.Lists.SameAgents.{AreSame, set_here, set_there}
 use Rattle.sbp_world.proofs.Lists.Kept.{IsLess, Kept, same}
 use Rattle.sbp_world.proofs.Lists.Lists.{laid}
 use Rattle.sbp_world.proofs.Lists.Looks.{Looks, kept_looks, opened_looks}

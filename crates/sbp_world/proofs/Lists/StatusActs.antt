@@ -1,7 +1,6 @@
 -- What a step of the agent of a place hands out in a call of the target, as far as status blocks go: a reply, a time-out, and a read that is asked for.
-use Rattle.std.proofs.Common.{arith, ◌≡◌, ◌&&◌, ◌∙◌, refl, sym, ap, subst, ◌<◌, ◌≤◌, ◌+◌, ℕ, zero, suc, Bool, true, false, cond, List, [], ◌∷◌, ◌++◌, length, Option, Some, None}
+use Rattle.std.proofs.Common.{arith, ◌≡◌, ◌∙◌, refl, sym, ap, subst, ◌<◌, ℕ, Bool, true, false, cond, List, [], ◌∷◌, ◌++◌, length, Option, Some, None}
 use Rattle.std.proofs.Math.ListN.{length-set}
-use Rattle.std.proofs.lemmas.Bool.{false≢true}
 use Rattle.async_packet.specs.Packet.{Packet, header_in}
 use Rattle.command_agent.specs.declared.step.AgentStep.{AgentStep}
 use Rattle.command_agent.specs.declared.step.Which.{Which}
@@ -34,15 +33,18 @@ use Rattle.sbp_target.specs.Receiving.{expired_by}
 use Rattle.sbp_target.specs.Replies.{Stage, advance, announced_by, came, changed_by, follow_all, plain_in, replied, stage, whole}
 use Rattle.sbp_target.specs.Sending.{answer_step, answered_by, request_step, sent_by, with_side}
 use Rattle.sbp_target.specs.Serving.{answered, asked_in}
-use Rattle.sbp_target.specs.Units.{announce_at, announce_from, announce_in, announce_to, hears, is_pending, unsolicited_by, unsolicited_from}
+use Rattle.sbp_target.specs.Units.{unsolicited_by, unsolicited_from}
 use Rattle.sbp_world.specs.Worlds.{WorldState}
 use Rattle.sbp_target.proofs.Histories.Calling.{Good}
-use Rattle.sbp_world.proofs.Lists.Follows.{AreSame, are_self, set_here, set_there, with_same}
+use Rattle.sbp_world.proofs.Lists.SameAgents.{AreSame, are_self, set_here, set_there, with_same}
 use Rattle.sbp_world.proofs.Lists.StatusBytes.{wrote}
 use Rattle.sbp_world.proofs.Lists.StatusFollows.{Done, Followed, Quiet, Step, follows}
 use Rattle.sbp_world.proofs.Lists.StatusPackets.{logged_more, plain_logged, EndSide, IsApart, IsFed, IsPlain, apart_named, at_other, end_of, fed_more, named_more, of_more, one_plain, or_before, reads_more, told_more, unsolicited_apart, unsolicited_small, unsolicited_unread}
 use Rattle.sbp_world.proofs.Lists.StatusReads.{IsOfBody, IsRead, answer_reads, asked_body}
 use Rattle.sbp_world.proofs.Lists.StatusSteps.{lost_leaves, replied_leaves, rests}
+use Rattle.sbp_target.specs.Histories.Moves.{Announced, pushes, stay, withholds}
+use Rattle.sbp_target.proofs.Histories.Moved.{announced_moves}
+use Rattle.sbp_target.proofs.Histories.Views.{heard_live, kept}
 
 -- ---- other logins hear of a disc
 module _ (q : ℕ) (b : q < 8) (login : Login) (Ours : Type 0) (machines : ℕ → Machine) (told : Option EndSide) (m : Machine) where
@@ -91,40 +93,15 @@ module _ (q : ℕ) (b : q < 8) (login : Login) (Ours : Type 0) (machines : ℕ �
       } in
       heard t place true k
 
-  pick : (x : Bool) (s t : Scene) → (x ≡ true → D s) → D t → D (cond x s t)
-  pick true s t h k = h refl
-  pick false s t h k = k
-
-  -- a login that hears of it is live
-  heard_live : (here live rest : Bool) → (here && (live && rest)) ≡ true → live ≡ true
-  heard_live true true rest e = refl
-  heard_live true false rest e = absurd (false≢true e)
-  heard_live false live rest e = absurd (false≢true e)
-
-  announces_to : (place : ℕ) → place < 8 → (other : Login) (s : Scene) → login_at s.node place ≡ Some other → is_live other ≡ true → D s → D (announce_to place other s)
-  unfolding announce_to request_step
-  announces_to place c other s there live d =
-      pick (is_pending other.node s.node.pending) (scene s.node (with_side s.outbox (sides.Unsent place)))
-      (unsolicited_by place other.node s.node (request_step s.node.layer s.outbox other.node (block_write other.fifo block) purposes.Unsolicited)) (λ e. heard s place false d)
-      (announced place c s other there live (asking_step s.node.layer other.node (block_write other.fifo block) purposes.Unsolicited) (asked_body s.node.layer other.node (block_write other.fifo block) purposes.Unsolicited) d)
-
-  announces_in : (unit from place : ℕ) → place < 8 → (other : Option Login) (s : Scene) → login_at s.node place ≡ other → D s → D (announce_in unit from place other s)
-  announces_in unit from place c None s there d = d
-  announces_in unit from place c (Some other) s there d = pick (hears unit from place (desk_at s.node place) other) (announce_to place other s) s (λ e. announces_to place c other s there (heard_live _ (is_live other) _ e) d) d
-
-  announces_at : (unit from place : ℕ) → place < 8 → (s : Scene) → D s → D (announce_at unit from place s)
-  unfolding announce_at
-  announces_at unit from place c s d = announces_in unit from place c (login_at s.node place) s refl d
-
-  announces_from : (left place unit from : ℕ) → left + place ≤ 8 → (s : Scene) → D s → D (announce_from left place unit from s)
-  unfolding announce_from
-  announces_from zero place unit from c s d = d
-  announces_from (suc left) place unit from c s d =
-      announces_from left (place + 1) unit from (omega arith) (announce_at unit from place s) (announces_at unit from place (omega arith) s d)
+  tells : (unit from : ℕ) (x y : Scene) → Announced unit from x y → D x → D y
+  unfolding request_step
+  tells unit from _ _ (pushes place other s e) d =
+      let body = block_write other.fifo block in
+      announced place e.small s other e.is (heard_live unit from place other s e) (asking_step s.node.layer other.node body purposes.Unsolicited) (asked_body s.node.layer other.node body purposes.Unsolicited) d
+  tells unit from _ _ (withholds place other s e) d = heard s place false d
 
   pub announces_by : (x : Bool) (unit : ℕ) (s : Scene) → D s → D (announced_by x unit q s)
-  announces_by true unit s d = announces_from 8 0 unit q (omega arith) s d
-  announces_by false unit s d = d
+  announces_by x unit s d = kept (Announced unit q) D (tells unit q) s _ (announced_moves (Announced unit q) unit q (λ y z m. m) s x s (stay s)) d
 
 -- ---- a call of the target
 module _ (w : WorldState) (g : Good w.target) (layer : Layer Purpose) where

@@ -65,7 +65,7 @@ use Rattle.sbp_world.specs.Worlds.{WorldState}
 use Rattle.sbp_target.proofs.Histories.Calling.{Good}
 use Rattle.sbp_target.proofs.Histories.Settled.{reaches}
 use Rattle.sbp_world.specs.Agents.Alike.{has_list}
-use Rattle.sbp_world.proofs.Lists.Follows.{set_here, set_there}
+use Rattle.sbp_world.proofs.Lists.SameAgents.{set_here, set_there}
 use Rattle.sbp_world.proofs.Lists.Pointers.{refused, not_taken}
 use Rattle.sbp_world.proofs.Lists.StatusActs.{Acts, M, answered_quiet, asked_acts, first, late_acts, reply_acts, there}
 use Rattle.sbp_world.proofs.Lists.StatusFollows.{Quiet, Step}

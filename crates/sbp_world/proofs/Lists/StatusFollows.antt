@@ -19,7 +19,6 @@ use Rattle.sbp_journal.specs.Addresses.{Access}
 use Rattle.login_table.specs.declared.login.Login.{Login}
 use Rattle.orb_layout.specs.declared.ask.Ask.{Ask}
 use Rattle.orb_layout.specs.declared.ask.Ask.TheVariants as asks
-use Rattle.orb_layout.specs.declared.ask.FailCause.{FailCause}
 use Rattle.orb_layout.specs.declared.ask.FailCause.TheVariants as causes
 use Rattle.orb_layout.specs.declared.status.StatusBlock.{StatusBlock}
 use Rattle.orb_layout.specs.declared.status.StatusKind.{StatusKind}
@@ -30,13 +29,13 @@ use Rattle.sbp_laws.specs.Packets.{access_in_bytes}
 use Rattle.sbp_target.specs.declared.desk.Desk.{Desk}
 use Rattle.sbp_target.specs.declared.purpose.Purpose.{Purpose}
 use Rattle.sbp_target.specs.declared.purpose.Purpose.TheVariants as purposes
-use Rattle.sbp_target.specs.Agents.{after_ahead, after_loss, after_main, agent_body, ahead_asked, ahead_sent, ask_main, dropped_by, follow, lose, lose_main, lost_by, main_asked, main_sent, noted, promoted_by, send_ahead, without_ahead}
+use Rattle.sbp_target.specs.Agents.{after_ahead, after_loss, after_main, agent_body, ahead_asked, ahead_sent, ask_main, follow, lose, lose_main, lost_by, main_asked, main_sent, noted, send_ahead}
 use Rattle.sbp_target.specs.Nodes.{NodeState, Scene, desk_at, scene, with_agent, with_desk}
 use Rattle.sbp_target.specs.Sending.{request_step, sent_by}
 use Rattle.sbp_target.specs.Telling.{orb_of, tell_step}
 use Rattle.sbp_world.specs.Agents.Alike.{has_list}
 use Rattle.sbp_world.specs.Lists.Statuses.{IsFifo, IsStatusWrite}
-use Rattle.sbp_world.proofs.Lists.Follows.{AreSame, are_self, are_then, set_here, set_there, with_same}
+use Rattle.sbp_world.proofs.Lists.SameAgents.{AreSame, noted_same as told_same, set_here, set_there, with_same}
 use Rattle.sbp_world.proofs.Lists.StatusBytes.{Wrote, written_at, wrote}
 use Rattle.sbp_world.proofs.Lists.StatusLosses.{block_ends, lost_asks, lost_present, place_ends, quiet_ahead, sent_has}
 use Rattle.sbp_world.proofs.Lists.StatusPackets.{AllFed, AllLogged, IsLogged, all_logged, logged_more, plain_logged, AllNamed, AllRead, AreOf, EndSide, IsEnd, IsEndOf, IsFed, IsFedBy, IsInbox, IsNamed, IsOfEnd, Spelled, ToldSo, all_fed, all_named, all_reads, apart_named, at_own, end_of, fed_more, named_more, of_another, of_buffer, of_fifo, one_plain, one_writes, or_before, read_apart, read_fed, read_plain, reads_more, spelled_as, step_end, step_of, step_packets, told_end}
@@ -73,20 +72,8 @@ module _ (q : ℕ) (b : q < 8) (login : Login) (Ours : Type 0) (machines : ℕ �
   inside node e = omega (arith, e)
 
   -- ---- a step is told
-  dropped_same : (dead : Option FailCause) (node : NodeState) → length node.desks ≡ 8 → AreSame node (dropped_by dead q node)
-  unfolding without_ahead
-  dropped_same None node e = are_self node
-  dropped_same (Some cause) node e = let w = with_same node q (record (desk_at node q) { ahead = None }) (inside node e) refl in record { desks = w.desks; agents = w.agents }
-
-  promoted_same : (x : Bool) (node : NodeState) → length node.desks ≡ 8 → AreSame node (promoted_by x q node)
-  promoted_same false node e = are_self node
-  promoted_same true node e = with_same node q (record (desk_at node q) { main = (desk_at node q).ahead; ahead = None }) (inside node e) refl
-
   pub noted_same : (step : AgentStep) (s : Scene) → length s.node.desks ≡ 8 → AreSame s.node (noted q step s).node
-  unfolding noted
-  noted_same step s e =
-      let d = dropped_same step.dead s.node e in
-      are_then s.node (dropped_by step.dead q s.node) (promoted_by step.promoted q (dropped_by step.dead q s.node)) d (promoted_same step.promoted (dropped_by step.dead q s.node) (d.desks ∙ e))
+  noted_same step s e = told_same q b step s e
 
   pub noted_outbox : (step : AgentStep) (s : Scene) → (noted q step s).outbox ≡ tell_step q (desk_at s.node q).agent step s.outbox
   unfolding noted

@@ -2,7 +2,6 @@
 -- is of a place of management. So each status that it sends then is as it is to be.
 use Rattle.std.proofs.Common.{arith, ◌≡◌, ◌∙◌, refl, sym, ap, subst, ◌<◌, ◌≤◌, ◌+◌, ◌==◌, nat_le, ℕ, zero, suc, Bool, true, false, cond, List, [], ◌∷◌, ◌++◌, map, length, Option, Some, None}
 use Rattle.std.proofs.lemmas.Bool.Decides.{nat_tests}
-use Rattle.std.proofs.lemmas.Bool.{false≢true}
 use Rattle.std.proofs.lemmas.Option.{none-some}
 use Rattle.bus_memory.specs.declared.window.Window.TheVariants as windows
 use Rattle.bus_memory.specs.Windows.{slot_of, start as start_of}
@@ -37,9 +36,9 @@ use Rattle.sbp_target.specs.declared.purpose.Purpose.{Purpose}
 use Rattle.sbp_target.specs.declared.purpose.Purpose.TheVariants as purposes
 use Rattle.sbp_target.specs.Agents.{cut, cut_node, told_cut}
 use Rattle.sbp_target.specs.Management.{ask_manager, cut_placed, decided_by, effect_by, failed_by, fresh_desk, manage, managed_in, managed_with, manager_asked, manager_body, manager_sent, place_in, tell_left, with_manager}
-use Rattle.sbp_target.specs.Nodes.{Scene, desk_at, login_at, scene}
+use Rattle.sbp_target.specs.Nodes.{Scene, desk_at, scene}
 use Rattle.sbp_target.specs.Sending.{request_step, sent_by}
-use Rattle.sbp_target.specs.Units.{clear_from, clear_unit, cut_all, cut_at, cut_from, is_cut}
+use Rattle.sbp_target.specs.Units.{clear_from, clear_unit, cut_all}
 use Rattle.sbp_world.specs.Handing.{handed_out}
 use Rattle.sbp_world.specs.Sending.{sent_all}
 use Rattle.sbp_world.specs.Telling.{told as told_side, told_all}
@@ -59,6 +58,7 @@ use Rattle.sbp_world.proofs.Lists.StatusReads.{IsOfBody, IsRead, asked_body, bod
 use Rattle.sbp_world.proofs.Lists.StatusSends.{AllOut, all_send}
 use Rattle.sbp_world.proofs.Lists.StatusTurn.{Behind, IsFirst, got_first, ignored_first, late_first}
 use Rattle.sbp_world.proofs.Lists.StatusCalls.{lose_packets}
+use Rattle.sbp_target.proofs.Histories.Views.{cuts_keep, placed_keep}
 
 -- ---- what its decision leaves: no packet, and the management as it is
 module _ (m : management.Machine) where
@@ -79,18 +79,11 @@ module _ (m : management.Machine) where
   cut_kept cause place s k =
       told_kept (is_reset (state_in (desk_at s.node place).agent.phase)) place cause (scene (cut_node place s.node) s.outbox) (record { packets = k.packets; manager = k.manager })
 
-  cut_if : (cause : CutCause) (unit : Option ℕ) (place : ℕ) (s : Scene) → Kept s → Kept (cut_at cause unit place s)
-  unfolding cut_at
-  cut_if cause unit place s k = pick_kept (is_cut unit (login_at s.node place)) (cut cause place s) s (cut_kept cause place s k) k
-
-  cuts_kept : (left place : ℕ) (cause : CutCause) (unit : Option ℕ) (s : Scene) → Kept s → Kept (cut_from left place cause unit s)
-  unfolding cut_from
-  cuts_kept zero place cause unit s k = k
-  cuts_kept (suc left) place cause unit s k = cuts_kept left (place + 1) cause unit (cut_at cause unit place s) (cut_if cause unit place s k)
+  cuts_all : (cause : CutCause) (unit : Option ℕ) (s : Scene) → Kept s → Kept (cut_all cause unit s)
+  cuts_all cause unit s c = cuts_keep Kept cut_kept cause unit s c
 
   placed_kept : (place : Option ℕ) (cause : CutCause) (s : Scene) → Kept s → Kept (cut_placed place cause s)
-  placed_kept None cause s k = k
-  placed_kept (Some place) cause s k = cut_kept cause place s k
+  placed_kept place cause s c = placed_keep Kept cut_kept place cause s c
 
   clear_kept : (unit : ℕ) (s : Scene) → Kept s → Kept (clear_unit unit s)
   unfolding clear_unit
@@ -118,10 +111,10 @@ module _ (m : management.Machine) where
   effect_kept (effects.AbortSet place) login s k = placed_kept (place_in place) cuts.AbortSet s k
   effect_kept (effects.UnitReset unit) login s k =
       let t = cut_all cuts.UnitReset (Some unit) s in
-      let c = cuts_kept 8 0 cuts.UnitReset (Some unit) s k in
+      let c = cuts_all cuts.UnitReset (Some unit) s k in
       pick_kept _ (clear_unit unit t) t (clear_kept unit t c) c
   effect_kept effects.TargetReset login s k =
-      let t = cut_all cuts.TargetReset None s in clears_kept (length t.node.units) 0 t (cuts_kept 8 0 cuts.TargetReset None s k)
+      let t = cut_all cuts.TargetReset None s in clears_kept (length t.node.units) 0 t (cuts_all cuts.TargetReset None s k)
 
   pub decided_kept : (d : Option Decision) (effect : Effect) (source : ℕ) (s : Scene) → Kept s → Kept (decided_by d effect source s)
   unfolding decided_by

@@ -32,14 +32,15 @@ use Rattle.sbp_target.specs.declared.purpose.Purpose.TheVariants as purposes
 use Rattle.sbp_target.specs.Agents.{cut, cut_node, told_cut}
 use Rattle.sbp_target.specs.Desks.{disabled, new_desk, reset_desk}
 use Rattle.sbp_target.specs.Management.{ask_manager, cut_place, cut_placed, decided_by, effect_by, failed_by, fresh_desk, left_desk, lose_operation, lost_in, manage, managed_in, managed_with, manager_asked, manager_body, manager_lost, manager_sent, place_in, tell_failed, tell_left, with_manager}
-use Rattle.sbp_target.specs.Nodes.{NodeState, Scene, desk_at, login_at, scene, with_desk}
+use Rattle.sbp_target.specs.Nodes.{NodeState, Scene, desk_at, scene, with_desk}
 use Rattle.sbp_target.specs.Receiving.{after_reset, cleared_node, expired_from, held_from, reset_by, seen, tell_held, ticked, ticked_by}
 use Rattle.sbp_target.specs.Sending.{answer_step, answered_by, request_step, sent_by, with_side}
 use Rattle.sbp_target.specs.Serving.{answered, start, started_by}
-use Rattle.sbp_target.specs.Units.{clear_from, clear_unit, cut_all, cut_at, cut_from, is_cut}
-use Rattle.sbp_world.proofs.Lists.Follows.{AreSame}
+use Rattle.sbp_target.specs.Units.{clear_from, clear_unit, cut_all}
+use Rattle.sbp_world.proofs.Lists.SameAgents.{AreSame}
 use Rattle.sbp_world.proofs.Lists.StatusPackets.{one_end, or_before, told_end, told_more}
 use Rattle.sbp_world.proofs.Lists.StatusSteps.{rests}
+use Rattle.sbp_target.proofs.Histories.Views.{cuts_keep, placed_keep}
 
 -- a desk that is set is there, and the others are as they were
 pub desk_either : (desks : List Desk) (k p : ℕ) (d : Desk) → ((p ≡ k) × (slice_index_or (slice_set desks k d) p new_desk ≡ d)) ⊎ (slice_index_or (slice_set desks k d) p new_desk ≡ slice_index_or desks p new_desk)
@@ -119,18 +120,11 @@ module _ (before : ℕ → Machine) where
   pick true s t c e = c
   pick false s t c e = e
 
-  cuts_if : (cause : CutCause) (unit : Option ℕ) (place : ℕ) (s : Scene) → Resting s → Resting (cut_at cause unit place s)
-  unfolding cut_at
-  cuts_if cause unit place s c = pick (is_cut unit (login_at s.node place)) (cut cause place s) s (cuts_one cause place s c) c
-
-  cuts_from : (left place : ℕ) (cause : CutCause) (unit : Option ℕ) (s : Scene) → Resting s → Resting (cut_from left place cause unit s)
-  unfolding cut_from
-  cuts_from zero place cause unit s c = c
-  cuts_from (suc left) place cause unit s c = cuts_from left (place + 1) cause unit (cut_at cause unit place s) (cuts_if cause unit place s c)
+  cuts_all : (cause : CutCause) (unit : Option ℕ) (s : Scene) → Resting s → Resting (cut_all cause unit s)
+  cuts_all cause unit s c = cuts_keep Resting cuts_one cause unit s c
 
   cuts_placed : (place : Option ℕ) (cause : CutCause) (s : Scene) → Resting s → Resting (cut_placed place cause s)
-  cuts_placed None cause s c = c
-  cuts_placed (Some place) cause s c = cuts_one cause place s c
+  cuts_placed place cause s c = placed_keep Resting cuts_one place cause s c
 
   -- ---- units
   clears : (unit : ℕ) (s : Scene) → Resting s → Resting (clear_unit unit s)
@@ -166,10 +160,10 @@ module _ (before : ℕ → Machine) where
   effects_by (effects.AbortSet place) login s c = cuts_placed (place_in place) cuts.AbortSet s c
   effects_by (effects.UnitReset unit) login s c =
       let t = cut_all cuts.UnitReset (Some unit) s in
-      let k = cuts_from 8 0 cuts.UnitReset (Some unit) s c in
+      let k = cuts_all cuts.UnitReset (Some unit) s c in
       pick _ (clear_unit unit t) t (clears unit t k) k
   effects_by effects.TargetReset login s c =
-      let t = cut_all cuts.TargetReset None s in clears_from (length t.node.units) 0 t (cuts_from 8 0 cuts.TargetReset None s c)
+      let t = cut_all cuts.TargetReset None s in clears_from (length t.node.units) 0 t (cuts_all cuts.TargetReset None s c)
 
   decides : (d : Option Decision) (effect : Effect) (source : ℕ) (s : Scene) → Resting s → Resting (decided_by d effect source s)
   unfolding decided_by
@@ -256,7 +250,7 @@ module _ (before : ℕ → Machine) where
   sees_by (true, layer) s c =
       let t = scene (cleared_node layer s.node) s.outbox in
       let x = cut_all cuts.Reset None t in
-      let k = cuts_from 8 0 cuts.Reset None t (same_desks s t.node s.outbox refl refl c) in
+      let k = cuts_all cuts.Reset None t (same_desks s t.node s.outbox refl refl c) in
       let y = scene (after_reset x.node) x.outbox in
       let z : AreSame x.node (after_reset x.node) = record { desks = length-map x.node.desks disabled; agents = map_agents x.node.desks } in
       holds_from 8 0 x.node.logins.places y (cut_alike x y z refl k)

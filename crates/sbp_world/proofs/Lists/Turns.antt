@@ -46,7 +46,8 @@ use Rattle.sbp_world.specs.Agents.Alike.{has_list}
 use Rattle.sbp_world.specs.Lists.Running.{Unrun, UnrunLaw}
 use Rattle.sbp_world.specs.Lists.Lists.{orbs}
 use Rattle.sbp_world.specs.Lists.Needs.{IsCalm, IsOpenAt, Needs, machine_at}
-use Rattle.sbp_world.proofs.Lists.Follows.{AreSame, Mid, Pending, announce_from_mid, are_self, follow_mid, set_here, set_there}
+use Rattle.sbp_world.proofs.Lists.Follows.{Mid, Pending, announce_from_mid, follow_mid}
+use Rattle.sbp_world.proofs.Lists.SameAgents.{AreSame, are_self, set_here, set_there}
 use Rattle.sbp_world.proofs.Lists.Kept.{Kept, keeps}
 use Rattle.sbp_world.proofs.Lists.Lists.{laid}
 use Rattle.sbp_world.proofs.Lists.Looks.{Looks, kept_looks, looks_as}

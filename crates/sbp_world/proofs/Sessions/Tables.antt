@@ -1,5 +1,5 @@
 -- What a delivery to a target and a time-out make of its logins: what the reply to the management operation makes of them, and else nothing.
-use Rattle.std.proofs.Common.{◌≡◌, ◌∙◌, refl, sym, subst, ℕ, Bool, true, false, cond, List, [], length, Option, Some, None, Result, Ok, Err}
+use Rattle.std.proofs.Common.{◌≡◌, ◌∙◌, refl, sym, ℕ, List, Option, Some, None, Result, Ok, Err}
 use Rattle.async_packet.specs.Labels.{LabelParts}
 use Rattle.async_packet.specs.Packet.{Packet, header_in}
 use Rattle.label_table.specs.declared.reply.Stale.{Stale}
@@ -14,12 +14,7 @@ use Rattle.orb_layout.specs.Replies.{Answer, Expired}
 use Rattle.rbc_disk.specs.Disk.{Disk}
 use Rattle.rbc_disk.specs.Runs.{Told}
 use Rattle.sbp_journal.specs.declared.cause.Judged.{Judged}
-use Rattle.sbp_journal.specs.declared.cause.Judged.TheVariants as judgements
-use Rattle.sbp_journal.specs.declared.cause.Cause.TheVariants as ignored
 use Rattle.sbp_journal.specs.Outgoings.{empty_outbox}
-use Rattle.target_base.specs.declared.address.Demand.{Demand}
-use Rattle.target_base.specs.declared.address.Demand.TheVariants as demands
-use Rattle.target_base.specs.Addresses.{demand_of}
 use Rattle.sbp_target.specs.declared.purpose.Purpose.{Purpose}
 use Rattle.sbp_target.specs.declared.purpose.Purpose.TheVariants as purposes
 use Rattle.sbp_target.specs.Calls.{alone, lets_expire}
@@ -27,17 +22,20 @@ use Rattle.sbp_target.specs.Management.{decided_by, failed_by, manage, managed_i
 use Rattle.sbp_target.specs.Nodes.{NodeState, Scene, scene}
 use Rattle.sbp_target.specs.Receiving.{answer_in, concluded, expired, expired_in, judged_scene, received, received_as, timed_out, with_layer}
 use Rattle.sbp_target.specs.Replies.{Whole, scene_of, whole}
-use Rattle.sbp_target.specs.Serving.{answered, is_barred, request_step, serve, served_as, start}
+use Rattle.sbp_target.specs.Serving.{request_step}
 use Rattle.sbp_target.proofs.Histories.Calling.{Good}
 use Rattle.sbp_target.proofs.Histories.Found.{IsFound, found}
-use Rattle.sbp_target.proofs.Histories.Primitives.{Known, closing_known, expiring_known, live_on}
+use Rattle.sbp_target.proofs.Histories.Primitives.{closing_known, expiring_known, live_on}
 use Rattle.sbp_target.proofs.Histories.Seats.{Lives}
 use Rattle.sbp_world.specs.Agents.Management.Offices.{Office}
 use Rattle.sbp_world.proofs.Agents.Management.Calm as calm
 use Rattle.sbp_world.proofs.Agents.Management.Calm.{Calm, From}
 use Rattle.sbp_world.proofs.Agents.Management.Managing.{decision_stands}
-use Rattle.sbp_world.proofs.Agents.Enabling.{ask_logins, start_logins}
+use Rattle.sbp_world.proofs.Agents.Enabling.{ask_logins}
 use Rattle.sbp_world.proofs.Agents.Management.Calls.{from_self}
+use Rattle.sbp_target.specs.Histories.Moves.{stay, still}
+use Rattle.sbp_target.proofs.Histories.Moved.{request_moves}
+use Rattle.sbp_target.proofs.Histories.Views.{acts, asked, node_left}
 
 -- the logins behind a delivery, by what the packet is found to be, and behind a time-out, by what was waited for
 abbrev pub tabled : Finding Purpose → NodeState → Table
@@ -60,9 +58,6 @@ idle_table m t keys answer e = by m.operation e
 module _ (node : NodeState) (g : Good node) where
   abbrev office : Office
   office = record { table = node.logins; keys = node.keys; manager = node.manager; manages = None; asks = Nothing; decided = None }
-
-  from_same : (layer : Layer Purpose) → layer ≡ node.layer → From g.lives layer
-  from_same layer same_layer = from_self layer g.lives (subst (λ (l : Layer Purpose). Known l g.lives) (sym same_layer) g.mid.known)
 
   begins : (layer : Layer Purpose) (lives : Lives) → From lives layer → Calm lives (record node { layer = layer }) (scene (record node { layer = layer }) empty_outbox)
   begins layer lives f = record { logins = refl; keys = refl; manager = refl; rom = refl; quiet = tt; from = f }
@@ -93,31 +88,10 @@ module _ (node : NodeState) (g : Good node) where
   concludes run p peer label disks layer lives f (Some purposes.Unsolicited) = refl
 
   -- ---- a request
-  module _ (p : Packet) (bytes : List ℕ) (layer : Layer Purpose) (same_layer : layer ≡ node.layer) where
-    abbrev begun : Scene
-    begun = scene (record node { layer = layer }) empty_outbox
-
-    starts : (orb : ℕ) → (start orb p bytes begun).node.logins ≡ node.logins
-    unfolding start
-    starts orb = start_logins (header_in p).source p bytes (management.start_step node.manager (header_in p).source orb) begun
-
-    demands_same : (demand : Demand) → (served_as demand p bytes begun).node.logins ≡ node.logins
-    demands_same (demands.Refused rcode) = refl
-    demands_same (demands.Rom at_offset len) = refl
-    demands_same (demands.Manage orb) = starts orb
-    demands_same (demands.Agent place access) = (calm.accesses_by g.lives (record node { layer = layer }) access place p bytes begun (begins layer g.lives (from_same layer same_layer))).logins
-
-    serves : (serve p bytes begun).node.logins ≡ node.logins
-    unfolding serve
-    serves = demands_same (demand_of (length node.rom) p)
-
-    requests : (request_step p bytes begun).1.node.logins ≡ node.logins
-    unfolding request_step
-    requests = by (is_barred (record node { layer = layer }) p)
-      where
-        by : (b : Bool) → (cond {A = Judged × Scene} b (judgements.Ignored ignored.Login, answered p bytes 7 [] begun) (judgements.Got, serve p bytes begun)).1.node.logins ≡ node.logins
-        by true = refl
-        by false = serves
+  requests : (p : Packet) (bytes : List ℕ) (layer : Layer Purpose) → (request_step p bytes (scene (record node { layer = layer }) empty_outbox)).1.node.logins ≡ node.logins
+  requests p bytes layer =
+      let s = scene (record node { layer = layer }) empty_outbox in
+      (node_left still s _ (request_moves still s acts asked tt p bytes tt s (stay s))).logins (λ never. never)
 
   as_judged : (r : Judged × Scene) (w : Whole) → r.1.node.logins ≡ node.logins → (scene_of (judged_scene r w).1).node.logins ≡ node.logins
   as_judged (judged, s) w l = l
@@ -132,7 +106,7 @@ module _ (node : NodeState) (g : Good node) where
       concludes run p (header_in p).source label disks layer lives (from_self layer lives c.known) purpose
   finds run disks generation bytes (of_again p rcode) layer e f = refl
   finds run disks generation bytes (of_request p) layer e f =
-      as_judged (request_step p bytes (scene (record node { layer = layer }) empty_outbox)) (with_layer layer (whole (scene node empty_outbox) disks)) (requests p bytes layer f.0)
+      as_judged (request_step p bytes (scene (record node { layer = layer }) empty_outbox)) (with_layer layer (whole (scene node empty_outbox) disks)) (requests p bytes layer)
 
   pub delivery_tabled : (run : Option Told) (disks : List Disk) (generation : ℕ) (bytes : List ℕ) → (received run generation bytes (whole (scene node empty_outbox) disks)).1.node.logins ≡ tabled (judging_step node.layer generation bytes).0 node
   unfolding received

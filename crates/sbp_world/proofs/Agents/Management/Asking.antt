@@ -1,6 +1,5 @@
 -- What the management operation asks for leaves where it finds a label, and else the operation ends.
-use Rattle.std.proofs.Common.{◌≡◌, ◌∙◌, refl, sym, ap, subst, ℕ, is_some, true, false, List, [], ◌∷◌, ◌++◌, Option, Some, None, Result, Ok, Err}
-use Rattle.async_packet.specs.Labels.{LabelParts}
+use Rattle.std.proofs.Common.{◌≡◌, ◌∙◌, refl, sym, ap, subst, ℕ, is_some, true, false, List, [], ◌∷◌, ◌++◌, Option, Some, None}
 use Rattle.async_packet.specs.Packet.{Packet, header_in}
 use Rattle.label_table.specs.declared.judgement.Asked.{Asked}
 use Rattle.label_table.specs.Bodies.{Body}
@@ -8,7 +7,6 @@ use Rattle.label_table.specs.Layer.{Layer, asking_step}
 use Rattle.login_table.specs.Sound.{IsSound}
 use Rattle.login_table.specs.Table.{Table}
 use Rattle.mgmt_agent.specs.declared.decision.ManagerStep.{ManagerStep}
-use Rattle.mgmt_agent.specs.declared.operation.Busy.{Busy}
 use Rattle.mgmt_agent.specs.declared.operation.Operation.{Operation}
 use Rattle.mgmt_agent.specs.declared.operation.Phase.{Phase}
 use Rattle.mgmt_agent.specs.declared.operation.Phase.TheVariants as phases
@@ -36,6 +34,9 @@ use Rattle.sbp_world.proofs.Agents.Management.Calm.{AreQuiet, Calm, From, answer
 use Rattle.sbp_world.proofs.Agents.Management.Deciding.{by_decision, reply_steps}
 use Rattle.sbp_world.proofs.Agents.Management.Managing.{FailsClean, Says, decision_stands, failed_if, failing_stands, fails_clean, quiet_says, says_more}
 use Rattle.sbp_world.specs.Agents.Management.Offices.{Agrees, Office, failed, replied, started, started_by, stepped}
+use Rattle.sbp_target.specs.Histories.Moves.{free, stay, still}
+use Rattle.sbp_target.proofs.Histories.Moved.{manage_moves, start_moves}
+use Rattle.sbp_target.proofs.Histories.Views.{acts, asked, ends, node_left}
 
 -- the one request that left for the operation, under a label that it found
 pub record Leaves (first : Office) (old : Lives) (source : ℕ) (now : Office) (node : NodeState) (before packets : List Outgoing) : Type 0 where
@@ -229,45 +230,8 @@ module _ (o : Office) (old : Lives) (orb : ℕ) (request : Packet) (bytes : List
 
 -- ---- the ROM stays
 
-sent_rom : (node : NodeState) (r : Option LabelParts × (Layer Purpose × OutboxState)) → (manager_sent node r).node.rom ≡ node.rom
-unfolding lose_operation
-sent_rom node (Some label, (layer, outbox)) = refl
-sent_rom node (None, (layer, outbox)) = lost_rom (management.source_in node.manager.operation) (scene (record node { layer = layer }) outbox)
-  where
-    lost_with_rom : (other : ℕ) (s : Scene) (r : ManagerStep × (management.Machine × Table)) → (manager_lost other s r).node.rom ≡ s.node.rom
-    lost_with_rom other s (step, (m, t)) = refl
-
-    lost_rom : (other : Option ℕ) (s : Scene) → (lost_in other s).node.rom ≡ s.node.rom
-    lost_rom None s = refl
-    lost_rom (Some other) s = lost_with_rom other s (management.reply_step s.node.manager s.node.logins s.node.keys NoLabel)
-
-asked_rom : (body : Option Body) (source : ℕ) (s : Scene) → (manager_asked body source s).node.rom ≡ s.node.rom
-asked_rom None peer s = refl
-asked_rom (Some body) peer s = sent_rom s.node (request_step s.node.layer s.outbox peer body purposes.Management)
-
-ask_rom : (source : ℕ) (a : Ask) (s : Scene) → (ask_manager source a s).node.rom ≡ s.node.rom
-unfolding ask_manager
-ask_rom source a s = asked_rom (manager_body a s.node.manager.outgoing) source s
-
-managed_rom : (source : ℕ) (o : Office) (old : Lives) (s : Scene) (r : ManagerStep × (management.Machine × Table)) → s.outbox.sides ≡ [] → From old s.node.layer → (managed_with source s r).node.rom ≡ s.node.rom
-managed_rom source o old s (step, (m, t)) none f =
-    let node = with_manager s.node (m, t) in
-    let decided = target.decided_by step.decided step.effect source (scene node s.outbox) in
-    let h = failing_stands o (by_decision step.decided step.effect o) old node s.outbox.packets source step.failed decided (decision_stands o old node s.outbox none f step.decided step.effect source) in
-    ask_rom source step.ask (failed_by source step.failed decided) ∙ h.rom
-
-manages_rom : (other : Option ℕ) (answer : Answer) (o : Office) (old : Lives) (s : Scene) → s.outbox.sides ≡ [] → From old s.node.layer → (managed_in other answer s).node.rom ≡ s.node.rom
-manages_rom None answer o old s none f = refl
-manages_rom (Some source) answer o old s none f = managed_rom source o old s (management.reply_step s.node.manager s.node.logins s.node.keys answer) none f
-
 pub manage_rom : (answer : Answer) (o : Office) (old : Lives) (s : Scene) → s.outbox.sides ≡ [] → From old s.node.layer → (manage answer s).node.rom ≡ s.node.rom
-unfolding manage
-manage_rom answer o old s none f = manages_rom (management.source_in s.node.manager.operation) answer o old s none f
-
-started_rom : (source : ℕ) (request : Packet) (bytes : List ℕ) (r : Result Ask Busy × management.Machine) (s : Scene) → (target_started source request bytes r s).node.rom ≡ s.node.rom
-started_rom peer request bytes (Ok a, m) s = ask_rom peer a (answered request bytes 0 [] (scene (record s.node { manager = m }) s.outbox))
-started_rom peer request bytes (Err busy, m) s = refl
+manage_rom answer o old s none f = (node_left free s _ (manage_moves free s ends answer s (stay s))).rom
 
 pub start_rom : (orb : ℕ) (request : Packet) (bytes : List ℕ) (s : Scene) → (start orb request bytes s).node.rom ≡ s.node.rom
-unfolding start
-start_rom orb request bytes s = started_rom (header_in request).source request bytes (management.start_step s.node.manager (header_in request).source orb) s
+start_rom orb request bytes s = (node_left still s _ (start_moves still s acts asked tt request bytes tt orb s (stay s))).rom
