@@ -200,10 +200,6 @@ module _ (q unit : ℕ) (places : List (Option Login)) (before : ℕ → Bool) w
 
   -- ---- with or without one by now
   module _ (ran : Bool) where
-    pick : (b : Bool) (x y : Scene) → C ran x → C ran y → C ran (cond b x y)
-    pick true x y h i = h
-    pick false x y h i = i
-
     -- another node with the same registers and logins, and what was told
     moves : (s t : Scene) → SameRegisters s.node t.node → t.node.logins.places ≡ s.node.logins.places → t.outbox.sides ≡ s.outbox.sides → C ran s → C ran t
     moves s t r l o h = record {
