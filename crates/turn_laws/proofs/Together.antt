@@ -1,5 +1,6 @@
 -- The laws of turns of every run, together.
 use Rattle.turn_laws.specs.Together.{TurnsLaw}
+use Rattle.turn_laws.proofs.Aborts.{aborts_law}
 use Rattle.turn_laws.proofs.Announcing.{announced_law}
 use Rattle.turn_laws.proofs.Cleared.{cleared_law}
 use Rattle.turn_laws.proofs.Codes.{codes_law}
@@ -31,6 +32,7 @@ turns_law = record {
     once = once_law.after_lines line run is some most size;
     deaths = deaths_law.after_lines line run is some most size;
     codes = codes_law.after_lines line run is some most size;
+    aborts = aborts_law.after_lines line run is some most size;
     silent = silent_law.after_lines line run is some most size;
     unserved = unserved_law.after_lines line run is some most size;
     faults = faults_law.after_lines line run is some most size;
@@ -50,6 +52,7 @@ turns_law = record {
     once = once_law.between line run is some most size next deliveries told may;
     deaths = deaths_law.between line run is some most size next deliveries told may;
     codes = codes_law.between line run is some most size next deliveries told may;
+    aborts = aborts_law.between line run is some most size next deliveries told may;
     silent = silent_law.between line run is some most size next deliveries told may;
     unserved = unserved_law.between line run is some most size next deliveries told may;
     faults = faults_law.between line run is some most size next deliveries told may;
