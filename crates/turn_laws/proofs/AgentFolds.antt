@@ -4,7 +4,7 @@ use Rattle.std.specs.Prelude.{slice_set}
 use Rattle.std.proofs.lemmas.Bool.Decides.{nat_tests}
 use Rattle.command_agent.specs.declared.step.Which.{Which}
 use Rattle.command_agent.specs.Machine.{new_machine}
-use Rattle.command_agent.specs.Steps.{abort_step, reply_step, reset_step}
+use Rattle.command_agent.specs.Steps.{reply_step, reset_step}
 use Rattle.orb_layout.specs.Replies.{Answer}
 use Rattle.rbc_disk.specs.Runs.{Told}
 use Rattle.rbc_disk.specs.Units.{PlainDisk}
@@ -15,12 +15,12 @@ use Rattle.sbp_world.proofs.Lists.FedFolds.{is_for}
 use Rattle.sbp_world.proofs.Lists.OrbFolds.{at_place, cut_or}
 
 -- ---- one agent of a list is replaced
-data SetAgent (agents : List Agent) (k : ℕ) (x : Agent) (q : ℕ) : Type 0 where
+pub data SetAgent (agents : List Agent) (k : ℕ) (x : Agent) (q : ℕ) : Type 0 where
   is_it : q ≡ k → at_place (slice_set agents k x) q ≡ x → SetAgent agents k x q
   is_other : (k == q) ≡ false → at_place (slice_set agents k x) q ≡ at_place agents q → SetAgent agents k x q
   is_none : at_place (slice_set agents k x) q ≡ new_agent → at_place agents q ≡ new_agent → SetAgent agents k x q
 
-set_agent : (agents : List Agent) (k : ℕ) (x : Agent) (q : ℕ) → SetAgent agents k x q
+pub set_agent : (agents : List Agent) (k : ℕ) (x : Agent) (q : ℕ) → SetAgent agents k x q
 set_agent [] k x q = is_none refl refl
 set_agent (a ∷ agents) zero x zero = is_it refl refl
 set_agent (a ∷ agents) zero x (suc q) = is_other (let e : (0 == suc q) ≡ false = grind (arith, nat_tests) in e) refl
@@ -42,10 +42,8 @@ cut_new : cut_agent new_agent ≡ new_agent
 unfolding reset_step
 cut_new = refl
 
--- ---- what is done with an agent keeps it
-pub record AreKept (P : ℕ → Agent → Type 0) : Type 0 where
-  pub cuts : (q : ℕ) (a : Agent) → P q a → P q (cut_agent a)
-  pub aborts : (q : ℕ) (a : Agent) (orb : ℕ) → P q a → P q (record a { machine = abort_step a.machine orb })
+-- ---- what is done with an agent keeps it, as a turn goes on
+pub record AreLasting (P : ℕ → Agent → Type 0) : Type 0 where
   pub untells : (q : ℕ) (a : Agent) (b : Bool) → P q a → P q (record a { untold = b })
   pub sends : (q : ℕ) (a : Agent) (is_write : Bool) (serial : ℕ) → P q a → P q (sends_of is_write serial a)
   pub loses : (q : ℕ) (a : Agent) → P q a → P q (main_lost a)
@@ -53,6 +51,11 @@ pub record AreKept (P : ℕ → Agent → Type 0) : Type 0 where
   -- a reply takes a new agent nowhere
   pub stays : (q : ℕ) (which : Which) (answer : Answer) (plain : PlainDisk) (told : Option Told) (b : Bool)
       → P q (moved (reply_step new_machine q plain told which answer) (closed which (record new_agent { untold = b }))) → P q new_agent
+
+-- and as its list is cut
+pub record AreKept (P : ℕ → Agent → Type 0) : Type 0 where
+  pub lasting : AreLasting P
+  pub cuts : (q : ℕ) (a : Agent) → P q a → P q (cut_agent a)
 
 module _ (P : ℕ → Agent → Type 0) where
   -- as a reply takes its agent on
@@ -110,21 +113,22 @@ module _ (P : ℕ → Agent → Type 0) where
     none = r ∙ h.none;
   }
 
-module _ (P : ℕ → Agent → Type 0) (kept : AreKept P) where
+module _ (P : ℕ → Agent → Type 0) (cuts : (q : ℕ) (a : Agent) → P q a → P q (cut_agent a)) where
   pub cut_still : (t : Target) (place : ℕ) → AreStill P t → AreStill P (with_agent t place (cut_agent (agent_at t place)))
-  cut_still t place h = set_still P t place (cut_agent (agent_at t place)) h (λ a. kept.cuts place (agent_at t place) a)
+  cut_still t place h = set_still P t place (cut_agent (agent_at t place)) h (λ a. cuts place (agent_at t place) a)
 
   pub all_cut : (now t : Target) → now.agents ≡ map cut_agent t.agents → now.reply ≡ t.reply → AreStill P t → AreStill P now
-  all_cut now t e f h = map_still P cut_agent cut_new kept.cuts now t e f h
+  all_cut now t e f h = map_still P cut_agent cut_new cuts now t e f h
 
   pub where_still : (now t : Target) (test : ℕ → Bool) → now.agents ≡ cut_where test 0 t.agents → now.reply ≡ t.reply → AreStill P t → AreStill P now
   where_still now t test e f h = record { agents = λ q. subst (λ (xs : List Agent). P q (at_place xs q)) (sym e) (by q (cut_or test 0 t.agents q)); none = f ∙ h.none }
     where
       by : (q : ℕ) → (at_place (cut_where test 0 t.agents) q ≡ cut_agent (at_place t.agents q)) ⊎ (at_place (cut_where test 0 t.agents) q ≡ at_place t.agents q)
           → P q (at_place (cut_where test 0 t.agents) q)
-      by q (inl g) = subst (P q) (sym g) (kept.cuts q (at_place t.agents q) (h.agents q))
+      by q (inl g) = subst (P q) (sym g) (cuts q (at_place t.agents q) (h.agents q))
       by q (inr g) = subst (P q) (sym g) (h.agents q)
 
+module _ (P : ℕ → Agent → Type 0) (kept : AreLasting P) where
   -- ---- a reply takes an agent on
   taken_each : (told : Option Told) (reply : Reply) (t : Target) → t.reply ≡ Some reply → AreSo P t → (q : ℕ) → P q (agent_at (taken_on told (Some reply) t) q)
   taken_each told reply t e h q = by (set_agent t.agents reply.place x q)

@@ -1,5 +1,5 @@
 -- What is said of each agent of the terms of the target, where what is done with an agent keeps it: each note keeps it, but for a packet that is got, a time-out and a login, which are said apart.
-use Rattle.std.proofs.Common.{refl, ℕ, ◌==◌, not, Bool, true, false, cond, List, Option, Some, None}
+use Rattle.std.proofs.Common.{◌≡◌, refl, ℕ, ◌==◌, not, Bool, true, false, cond, List, Option, Some, None}
 use Rattle.std.specs.Prelude.{position}
 use Rattle.command_agent.specs.Steps.{abort_step}
 use Rattle.login_table.specs.Table.{Table}
@@ -36,23 +36,26 @@ module _ (P : ℕ → Agent → Type 0) (kept : AreKept P) where
   pick false x y h k = k
 
   -- ---- the management's effects
-  effects_kept : (effect : Effect) (t : Target) → Settled t → Settled (effect_on effect t)
-  effects_kept effects.Nothing t h = h
-  effects_kept (effects.Entered place replaced) t h = h
-  effects_kept (effects.Back place) t h = h
-  effects_kept (effects.Left place) t h = cut_still P kept t place h
-  effects_kept (effects.Abort place orb) t h =
-      set_still P t place (record (agent_at t place) { machine = abort_step (agent_at t place).machine orb }) h (λ a. kept.aborts place (agent_at t place) orb a)
-  effects_kept (effects.AbortSet place) t h = cut_still P kept t place h
-  effects_kept (effects.UnitReset unit) t h = where_still P kept (effect_on (effects.UnitReset unit) t) t (on_unit unit t.table.places) refl refl h
-  effects_kept effects.TargetReset t h = all_cut P kept (effect_on effects.TargetReset t) t refl refl h
+  abbrev Aborts : Effect → Type 0
+  Aborts effect = (place orb : ℕ) → effect ≡ effects.Abort place orb → (a : Agent) → P place a → P place (record a { machine = abort_step a.machine orb })
 
-  pub managed_kept : (s : ManagerStep × (manager.Machine × Table)) (answer : Answer) (t : Target) → Settled t → Settled (managed_by s answer t)
-  managed_kept (step, (machine, table)) answer t h = effects_kept step.effect _ (stand_still P _ t refl refl h)
+  effects_kept : (effect : Effect) (t : Target) → Aborts effect → Settled t → Settled (effect_on effect t)
+  effects_kept effects.Nothing t f h = h
+  effects_kept (effects.Entered place replaced) t f h = h
+  effects_kept (effects.Back place) t f h = h
+  effects_kept (effects.Left place) t f h = cut_still P kept.cuts t place h
+  effects_kept (effects.Abort place orb) t f h =
+      set_still P t place (record (agent_at t place) { machine = abort_step (agent_at t place).machine orb }) h (λ a. f place orb refl (agent_at t place) a)
+  effects_kept (effects.AbortSet place) t f h = cut_still P kept.cuts t place h
+  effects_kept (effects.UnitReset unit) t f h = where_still P kept.cuts (effect_on (effects.UnitReset unit) t) t (on_unit unit t.table.places) refl refl h
+  effects_kept effects.TargetReset t f h = all_cut P kept.cuts (effect_on effects.TargetReset t) t refl refl h
+
+  pub managed_kept : (s : ManagerStep × (manager.Machine × Table)) (answer : Answer) (t : Target) → Aborts s.0.effect → Settled t → Settled (managed_by s answer t)
+  managed_kept (step, (machine, table)) answer t f h = effects_kept step.effect _ f (stand_still P _ t refl refl h)
 
   -- ---- a packet is sent
   sent_for_kept : (place : Option ℕ) (is_write : Bool) (serial : ℕ) (t : Target) → Settled t → Settled (sent_for place is_write serial t)
-  sent_for_kept (Some place) is_write serial t h = set_still P t place (sends_of is_write serial (agent_at t place)) h (λ a. kept.sends place (agent_at t place) is_write serial a)
+  sent_for_kept (Some place) is_write serial t h = set_still P t place (sends_of is_write serial (agent_at t place)) h (λ a. kept.lasting.sends place (agent_at t place) is_write serial a)
   sent_for_kept None is_write serial t h = pick (wants t.manager_asks is_write) _ _ (stand_still P _ t refl refl h) (stand_still P _ t refl refl h)
 
   sent_kept : (part : Part) (is_write : Bool) (serial : ℕ) (t : Target) → Settled t → Settled (sent_as part is_write serial t)
@@ -63,14 +66,14 @@ module _ (P : ℕ → Agent → Type 0) (kept : AreKept P) where
   pub leaves_kept : (serial generation from to : ℕ) (bytes : List ℕ) (past : List Moment) (wire : Terms) (t : Target) → Is t
       → Settled (target_by (notes.Sent serial generation from to bytes) past wire t)
   leaves_kept serial generation from to bytes past wire t h =
-      let s = settles P kept t h in
+      let s = settles P kept.lasting t h in
       pick (from == 0) (sent_as (part_of bytes) (is_write_access (access_in_bytes bytes)) serial (taken_on None t.reply t)) (taken_on None t.reply t)
       (sent_kept (part_of bytes) (is_write_access (access_in_bytes bytes)) serial (taken_on None t.reply t) s) s
 
   -- ---- each note
-  sees_kept : (b : Bool) (t : Target) → Settled t → Settled (reset_seen b t)
+  pub sees_kept : (b : Bool) (t : Target) → Settled t → Settled (reset_seen b t)
   sees_kept false t h = h
-  sees_kept true t h = all_cut P kept (reset_seen true t) t refl refl h
+  sees_kept true t h = all_cut P kept.cuts (reset_seen true t) t refl refl h
 
   key_kept : (event : Option Event) (unit : ℕ) (t : Target) → Is t → Is (key_by event unit t)
   key_kept (Some (events.Key other key)) unit t h = stand P _ t refl refl h
@@ -78,14 +81,15 @@ module _ (P : ℕ → Agent → Type 0) (kept : AreKept P) where
   key_kept (Some event) unit t h = h
 
   going : (note : Note) (t : Target) → Is t → Is (going_on note t)
-  going note t h = so P (going_on note t) (going_still P kept note t h)
+  going note t h = so P (going_on note t) (going_still P kept.lasting note t h)
 
   running : (is_own : Bool) (note : Note) (t : Target) → Is t → Is (ran_on is_own note t)
   running true note t h = going note t h
-  running false note t h = so P (taken_on None t.reply t) (settles P kept t h)
+  running false note t h = so P (taken_on None t.reply t) (settles P kept.lasting t h)
 
   dead_note : (i : ℕ) (list : Option ℕ) (cause : FailCause) (past : List Moment) (wire : Terms) (t : Target) → Is t → Is (target_by (notes.Dead i list cause) past wire t)
-  dead_note i list causes.Label past wire t h = so P _ (lost_still P kept (target_by (notes.Dead i list causes.Label) past wire t) (taken_on None t.reply t) refl refl (settles P kept t h))
+  dead_note i list causes.Label past wire t h =
+      so P _ (lost_still P kept.lasting (target_by (notes.Dead i list causes.Label) past wire t) (taken_on None t.reply t) refl refl (settles P kept.lasting t h))
   dead_note i list cause past wire t h = going (notes.Dead i list cause) t h
 
   -- what is said apart
@@ -104,7 +108,7 @@ module _ (P : ℕ → Agent → Type 0) (kept : AreKept P) where
   note_kept (notes.Begin initiators ready) past wire t h g = stand P _ t refl refl h
   note_kept (notes.Got serial) past wire t h g = g
   note_kept (notes.TimedOut serial) past wire t h g = g
-  note_kept (notes.Ignored serial cause) past wire t h g = so P (over t) (over_still P kept t h)
+  note_kept (notes.Ignored serial cause) past wire t h g = so P (over t) (over_still P kept.lasting t h)
   note_kept (notes.Sent serial generation from to bytes) past wire t h g = so P _ (leaves_kept serial generation from to bytes past wire t h)
   note_kept (notes.Ran i n k unit cdb bytes check) past wire t h g =
       let own = is_own_run t.reply i wire t in
@@ -118,10 +122,10 @@ module _ (P : ℕ → Agent → Type 0) (kept : AreKept P) where
   note_kept (notes.Left id) past wire t h g = stand P _ t refl refl h
   note_kept (notes.Cleared unit) past wire t h g = stand P _ t refl refl h
   note_kept (notes.Seen node generation) past wire t h g =
-      let s = over_still P kept t h in
+      let s = over_still P kept.lasting t h in
       let fresh = not (generation == wire.generation 0) in
       so P _ (pick (node == 0) (reset_seen fresh (over t)) (over t) (sees_kept fresh (over t) s) s)
-  note_kept notes.Tick past wire t h g = stand P _ (over t) refl refl (so P (over t) (over_still P kept t h))
+  note_kept notes.Tick past wire t h g = stand P _ (over t) refl refl (so P (over t) (over_still P kept.lasting t h))
   note_kept (notes.Key unit) past wire t h g = key_kept (event_of past) unit t h
   note_kept (notes.Unsolicited i) past wire t h g = stand P _ t refl refl h
   note_kept note past wire t h g = going note t h

@@ -82,12 +82,12 @@ purpose_replies T serial (for_agent place which) f told reply e =
 purpose_replies T serial for_manager f told reply e = absurd (nothing_no reply e)
 purpose_replies T serial for_nobody f told reply e = absurd (nothing_no reply e)
 
-record GotReply (T : Target) (wire : Terms) (serial : ℕ) (reply : Reply) : Type 0 where
-  own : ℕ
-  answered : answered_at wire serial ≡ Some own
-  of : Replies T own (answer_in (packet_at wire serial)) reply
+pub record GotReply (T : Target) (wire : Terms) (serial : ℕ) (reply : Reply) : Type 0 where
+  pub own : ℕ
+  pub answered : answered_at wire serial ≡ Some own
+  pub of : Replies T own (answer_in (packet_at wire serial)) reply
 
-got_reply : (T : Target) (wire : Terms) (serial : ℕ) (reply : Reply) → event_by (said (notes.Got serial)) T wire ≡ replies reply → GotReply T wire serial reply
+pub got_reply : (T : Target) (wire : Terms) (serial : ℕ) (reply : Reply) → event_by (said (notes.Got serial)) T wire ≡ replies reply → GotReply T wire serial reply
 got_reply T wire serial reply e = by_receiver (is_serial (receiver_in (wire.sent serial)) 0) e
   where
     by_own : (x : Option ℕ) → answered_at wire serial ≡ x → got_in x T wire serial ≡ replies reply → GotReply T wire serial reply
@@ -98,7 +98,7 @@ got_reply T wire serial reply e = by_receiver (is_serial (receiver_in (wire.sent
     by_receiver true f = by_own (answered_at wire serial) refl f
     by_receiver false f = absurd (nothing_no reply f)
 
-late_reply : (T : Target) (wire : Terms) (serial : ℕ) (reply : Reply) → event_by (said (notes.TimedOut serial)) T wire ≡ replies reply → Expired ≡ reply.answer
+pub late_reply : (T : Target) (wire : Terms) (serial : ℕ) (reply : Reply) → event_by (said (notes.TimedOut serial)) T wire ≡ replies reply → Expired ≡ reply.answer
 late_reply T wire serial reply e = by (is_serial (sender_in (wire.sent serial)) 0) e
   where
     by : (b : Bool) → cond b (reply_to (purpose_of T serial) Expired) nothing ≡ replies reply → Expired ≡ reply.answer

@@ -62,12 +62,12 @@ Fits places word subject effects.TargetReset = word ≡ words.TargetReset
 abbrev pub good_by : (status : ℕ) → FunctionWord → FunctionWord
 good_by status word = cond (status == 0) word words.Other
 
-abbrev FitsAs : List (Option Login) → FunctionWord → (subject : ℕ) → Outcome → Type 0
+abbrev pub FitsAs : List (Option Login) → FunctionWord → (subject : ℕ) → Outcome → Type 0
 FitsAs places word subject x = Fits places (good_by (number_of x.status) word) subject x.effect
 
 -- ---- a decision
 module _ (orb : ManagementOrb) (source eui : ℕ) (t : Table) (sound : IsSound t.places) (keys : List (List ℕ)) where
-  abbrev F : FunctionWord → Outcome → Type 0
+  abbrev pub F : FunctionWord → Outcome → Type 0
   F word x = FitsAs t.places word orb.subject x
 
   refused : (word : FunctionWord) (refusal : LoginRefusal) → F word (with_status (status_of refusal))
@@ -144,7 +144,7 @@ module _ (orb : ManagementOrb) (source eui : ℕ) (t : Table) (sound : IsSound t
   fits_if true word x y p q = p
   fits_if false word x y p q = q
 
-  decision_fits : F (word_by (function_of orb.function)) (decide orb source eui t keys).0
+  pub decision_fits : F (word_by (function_of orb.function)) (decide orb source eui t keys).0
   unfolding decide
   decision_fits = fits_if (orb.format == 0) (word_by (function_of orb.function)) (decide_function (function_of orb.function) orb source eui t keys) (with_status statuses.RequestType, t) (function_fits (function_of orb.function)) tt
 

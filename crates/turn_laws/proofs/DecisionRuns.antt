@@ -1,6 +1,6 @@
 -- In each turn of every run what a decision brings is what its note says.
 use Rattle.std.proofs.Common.{refl, sym, subst, ℕ, ◌<◌, List}
-use Rattle.login_table.specs.Sound.{IsSound}
+use Rattle.login_table.specs.Sound.{IsSound, IsTable}
 use Rattle.login_table.specs.Table.{Table}
 use Rattle.rbc_disk.specs.Disk.{Disk}
 use Rattle.sbp_journal.specs.Run.{Moment}
@@ -38,9 +38,12 @@ module _ (units ready : ℕ) (has : 0 < units) (start : List Disk) where
   L = login_cases units ready has start
 
   -- the logins of the terms are the target's
+  pub sound_table : (past : List Moment) (s : Scene) → Place units ready start past s → IsTable (over (target_at start (hist past s.world))).table
+  sound_table past s here =
+      subst (λ (t : Table). IsTable t) (sym (agrees units ready has start s.world here.holds).table) (good_of units ready here.holds.calls s.world.target has here.holds.made).table
+
   sound_at : (past : List Moment) (s : Scene) → Place units ready start past s → IsSound (over (target_at start (hist past s.world))).table.places
-  sound_at past s here =
-      subst (λ (t : Table). IsSound t.places) (sym (agrees units ready has start s.world here.holds).table) (good_of units ready here.holds.calls s.world.target has here.holds.made).table.sound
+  sound_at past s here = (sound_table past s here).sound
 
   decided_cases : Cases units ready start (DecisionStands start)
   decided_cases = record {

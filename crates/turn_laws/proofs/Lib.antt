@@ -84,6 +84,13 @@ pub mod Progresses
 pub mod PresentOrbs
 pub mod SilentTurns
 pub mod Silent
+pub mod AbortSteps
+pub mod AbortMarks
+pub mod AbortHistory
+pub mod AbortFacts
+pub mod AbortTurns
+pub mod AbortRuns
+pub mod Aborts
 pub mod DecisionEffects
 pub mod DecisionWords
 pub mod DecisionRuns

@@ -9,7 +9,7 @@ use Rattle.command_agent.specs.declared.step.Which.TheVariants.{Ahead, Main}
 use Rattle.command_agent.specs.declared.phase.Phase.TheVariants as phases
 use Rattle.command_agent.specs.Checks.{reads_table, verdict}
 use Rattle.command_agent.specs.Machine.{Machine, is_ahead, new_machine, plan_of}
-use Rattle.command_agent.specs.Steps.{abort_step, advanced, ahead_lost as forgets, ahead_of, answer_step, asks, check_step, checked, end_step, judge_step, judged, lost_step, passed_step, quiet, ran_as, reply_step, reset_step, run_step, served, told_or, unread_buffer}
+use Rattle.command_agent.specs.Steps.{advanced, ahead_lost as forgets, ahead_of, answer_step, asks, check_step, checked, end_step, judge_step, judged, lost_step, passed_step, quiet, ran_as, reply_step, reset_step, run_step, served, told_or, unread_buffer}
 use Rattle.orb_layout.specs.declared.ask.Ask.TheVariants.{Nothing, Read}
 use Rattle.orb_layout.specs.declared.ask.FailCause.{FailCause}
 use Rattle.orb_layout.specs.declared.ask.FailCause.TheVariants as causes
@@ -105,10 +105,6 @@ reset_present : (m : Machine) → (reset_step m).present ≡ m.present
 unfolding reset_step
 reset_present m = refl
 
-abort_present : (m : Machine) (orb : ℕ) → (abort_step m orb).present ≡ m.present
-unfolding abort_step
-abort_present m orb = refl
-
 sends_present : (is_write : Bool) (serial : ℕ) (a : Agent) → (sends_of is_write serial a).machine.present ≡ a.machine.present
 sends_present is_write serial a = by (wants a.asks is_write) (wants a.asks_ahead is_write)
   where
@@ -160,7 +156,7 @@ calm_notes (notes.Managed i word subject status login ∷ rest) c e = absurd (le
 calm_notes (note ∷ rest) c e = (c.0, calm_notes rest c.1 e)
 
 -- no reply waits behind it
-dead_rests : (i : ℕ) (list : Option ℕ) (cause : FailCause) (past : List Moment) (wire : Terms) (t : Target) → (target_by (notes.Dead i list cause) past wire t).reply ≡ None
+pub dead_rests : (i : ℕ) (list : Option ℕ) (cause : FailCause) (past : List Moment) (wire : Terms) (t : Target) → (target_by (notes.Dead i list cause) past wire t).reply ≡ None
 dead_rests i list causes.Label past wire t = taken_rests None t.reply t refl
 dead_rests i list cause past wire t = going_rests _ t
 
@@ -174,11 +170,11 @@ part_rests (request label kind) is_write serial t = sends_for (position (wants_i
 part_rests (response label kind) is_write serial t = refl
 part_rests no_packet is_write serial t = refl
 
-sent_rests : (b : Bool) (part : Part) (is_write : Bool) (serial : ℕ) (t : Target) → t.reply ≡ None → (cond b (sent_as part is_write serial t) t).reply ≡ None
+pub sent_rests : (b : Bool) (part : Part) (is_write : Bool) (serial : ℕ) (t : Target) → t.reply ≡ None → (cond b (sent_as part is_write serial t) t).reply ≡ None
 sent_rests true part is_write serial t e = part_rests part is_write serial t ∙ e
 sent_rests false part is_write serial t e = e
 
-note_rests : (note : Note) (past : List Moment) (wire : Terms) (t : Target) → IsCalm note → t.reply ≡ None → (target_by note past wire t).reply ≡ None
+pub note_rests : (note : Note) (past : List Moment) (wire : Terms) (t : Target) → IsCalm note → t.reply ≡ None → (target_by note past wire t).reply ≡ None
 note_rests (notes.Begin initiators ready) past wire t c e = e
 note_rests (notes.Got serial) past wire t c e = absurd c
 note_rests (notes.Ignored serial cause) past wire t c e = absurd c
@@ -201,7 +197,7 @@ note_rests (notes.Unsolicited i) past wire t c e = e
 note_rests note past wire t c e = going_rests note t
 
 -- ---- the history goes on by notes
-told_one : (note : Note) (rest : List Note) (past : List Moment) → once_told past (note ∷ rest) ≡ once_told (said note ∷ past) rest
+pub told_one : (note : Note) (rest : List Note) (past : List Moment) → once_told past (note ∷ rest) ≡ once_told (said note ∷ past) rest
 told_one note rest past = ap (λ ns. map said ns ++ past) (reversed note rest) ∙ said_split (reverse rest) (note ∷ []) past
 
 module _ (start : List Disk) where
@@ -225,13 +221,14 @@ module _ (place at : ℕ) where
 
   are_kept : AreKept Stands
   are_kept = record {
+    lasting = record {
+      untells = λ q a b h e. h e;
+      sends = λ q a is_write serial h e. sends_present is_write serial a ∙ h e;
+      loses = λ q a h e. loses_present a ∙ h e;
+      ends = λ q a h e. over_present a ∙ h e;
+      stays = λ q which answer plain told b h e. sym (new_present q plain told which answer) ∙ h e;
+    };
     cuts = λ q a h e. reset_present a.machine ∙ h e;
-    aborts = λ q a orb h e. abort_present a.machine orb ∙ h e;
-    untells = λ q a b h e. h e;
-    sends = λ q a is_write serial h e. sends_present is_write serial a ∙ h e;
-    loses = λ q a h e. loses_present a ∙ h e;
-    ends = λ q a h e. over_present a ∙ h e;
-    stays = λ q which answer plain told b h e. sym (new_present q plain told which answer) ∙ h e;
   }
 
   none_apart : (note : Note) (past : List Moment) (start : List Disk) → IsCalm note → IfApart Stands are_kept note past (known_at start past).wire (target_at start past)

@@ -37,7 +37,7 @@ use Rattle.sbp_world.proofs.Agents.Management.Firsts.{wire_is}
 use Rattle.sbp_world.proofs.Common.{none_is, same_number, untrue}
 use Rattle.sbp_world.proofs.Lists.OrbFolds.{at_place, new_there}
 use Rattle.sbp_world.proofs.Lists.OrbSteps.{has_read, holds_read, yes}
-use Rattle.turn_laws.proofs.AgentFolds.{AreKept, AreSo, AreStill, Pends, cut_still, over_still, set_so, set_still, so, stand, stand_still}
+use Rattle.turn_laws.proofs.AgentFolds.{AreKept, AreLasting, AreSo, AreStill, Pends, cut_still, over_still, set_so, set_still, so, stand, stand_still}
 use Rattle.turn_laws.proofs.AgentNotes.{leaves_kept, managed_kept, note_kept, pick}
 use Rattle.turn_laws.proofs.DeathAnswers.{NoReply, write_no}
 use Rattle.turn_laws.proofs.NextSteps.{AheadIs, IsTracked, abort_ahead, abort_tracked, ahead_tracked, bell_ahead, bell_tracked, free_is, keeps_orb, lost_free, lost_looks, lost_tracked, main_tracked, none_read, point_tracked, reset_tracked, unheard_looks, unheard_tracked}
@@ -124,16 +124,20 @@ module _ (p : Progress) where
 abbrev pub Whole : (ℕ → Progress) → ℕ → Agent → Type 0
 Whole p q a = IsWhole (p q) a
 
-are_kept : (p : ℕ → Progress) → AreKept (Whole p)
-are_kept p = record {
-  cuts = λ q a h. cuts (p q) a;
-  aborts = λ q a orb h. machine_whole (p q) a (record a { machine = abort_step a.machine orb }) (abort_tracked (p q) a.machine orb h.tracked) (abort_ahead a.machine orb) refl refl h;
+lasts : (p : ℕ → Progress) → AreLasting (Whole p)
+lasts p = record {
   untells = λ q a b h. record { tracked = h.tracked; waits = h.waits; looks = h.looks };
   sends = λ q a is_write serial h. sends (p q) a is_write serial h;
   loses = λ q a h. loses (p q) a h;
   ends = λ q a h. ends (p q) a h;
   stays = λ q which answer plain told b h. new_whole (p q);
 }
+
+are_kept : (p : ℕ → Progress) → AreKept (Whole p)
+are_kept p = record { lasting = lasts p; cuts = λ q a h. cuts (p q) a }
+
+aborts : (p : ℕ → Progress) (q : ℕ) (a : Agent) (orb : ℕ) → Whole p q a → Whole p q (record a { machine = abort_step a.machine orb })
+aborts p q a orb h = machine_whole (p q) a (record a { machine = abort_step a.machine orb }) (abort_tracked (p q) a.machine orb h.tracked) (abort_ahead a.machine orb) refl refl h
 
 -- ---- its progress goes on
 -- a reply
@@ -253,12 +257,12 @@ module _ (p : ℕ → Progress) (T : Target) (h : AreStill (Whole p) T) where
 
   replied_whole : (own : ℕ) (answer : Answer) (purpose : Purpose) → purpose_of T own ≡ purpose → AreSo (Whole (Then (reply_to purpose answer))) (replied_to purpose answer T)
   replied_whole own answer (for_agent place which) e = agent_whole place which own e answer
-  replied_whole own answer for_manager e = so (Whole p) _ (managed_kept (Whole p) (are_kept p) (manager_step T answer) answer T h)
+  replied_whole own answer for_manager e = so (Whole p) _ (managed_kept (Whole p) (are_kept p) (manager_step T answer) answer T (λ place orb e a w. aborts p place a orb w) h)
   replied_whole own answer for_nobody e = so (Whole p) T h
 
   -- a request
   register_whole : (name : Register) (place : ℕ) (access : Access) → AreStill (Whole p) (register_got name place access T)
-  register_whole agent_reset place access = cut_still (Whole p) (are_kept p) T place h
+  register_whole agent_reset place access = cut_still (Whole p) (are_kept p).cuts T place h
   register_whole orb_pointer place access =
       let a = agent_at T place in
       let pointer = pointer_at access.payload 0 in
@@ -324,12 +328,12 @@ module _ (start : List Disk) where
   on_note : (note : Note) (past : List Moment) → AreSo (Whole (At past)) (target_at start past) → AreSo (Whole (At (said note ∷ past))) (target_at start (said note ∷ past))
   on_note (notes.Got serial) past h =
       let wire = terms past in
-      let s = over_still (Whole (At past)) (are_kept (At past)) (target_at start past) h in
+      let s = over_still (Whole (At past)) (lasts (At past)) (target_at start past) h in
       subst (λ (w : Terms). AreSo (Whole (At (said (notes.Got serial) ∷ past))) (target_by (notes.Got serial) past w (target_at start past))) (sym (wire_is start past))
       (got_whole (At past) (over (target_at start past)) s wire serial (is_serial (receiver_in (wire.sent serial)) 0) (answered_at wire serial))
   on_note (notes.TimedOut serial) past h =
       let wire = terms past in
-      let s = over_still (Whole (At past)) (are_kept (At past)) (target_at start past) h in
+      let s = over_still (Whole (At past)) (lasts (At past)) (target_at start past) h in
       subst (λ (w : Terms). AreSo (Whole (At (said (notes.TimedOut serial) ∷ past))) (target_by (notes.TimedOut serial) past w (target_at start past))) (sym (wire_is start past))
       (late_whole (At past) (over (target_at start past)) s serial (is_serial (sender_in (wire.sent serial)) 0))
   on_note (notes.Sent serial generation zero to bytes) past h =
@@ -345,8 +349,8 @@ module _ (start : List Disk) where
 
   whole : (past : List Moment) → AreSo (Whole (At past)) (target_at start past)
   whole [] = record { agents = λ q e. subst (λ (a : Agent). IsWhole no_progress a) (sym (new_there 8 q)) (new_whole no_progress); pending = λ reply e. none_is reply e }
-  whole (asked line event ∷ past) = so (Whole (At past)) (over (target_at start past)) (over_still (Whole (At past)) (are_kept (At past)) (target_at start past) (whole past))
+  whole (asked line event ∷ past) = so (Whole (At past)) (over (target_at start past)) (over_still (Whole (At past)) (lasts (At past)) (target_at start past) (whole past))
   whole (said note ∷ past) = on_note note past (whole past)
 
   pub whole_before : (past : List Moment) (q : ℕ) → IsWhole (progress start past q) (agent_at (over (target_at start past)) q)
-  whole_before past q = (over_still (Whole (At past)) (are_kept (At past)) (target_at start past) (whole past)).agents q
+  whole_before past q = (over_still (Whole (At past)) (lasts (At past)) (target_at start past) (whole past)).agents q

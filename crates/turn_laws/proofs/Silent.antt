@@ -66,10 +66,10 @@ inner_from (said notes.Settled ∷ past) rest h = (h, inner_from past [] tt)
 inner_from (said notes.Stopped ∷ past) rest h = (h, inner_from past [] tt)
 inner_from (said note ∷ past) rest h = inner_from past (note ∷ rest) (tt, h)
 
-abbrev IsWithin : List Disk → Turn → Type 0
+abbrev pub IsWithin : List Disk → Turn → Type 0
 IsWithin start t = AllInner t.rest
 
-inner_law : OfEveryRun (λ start past. EachTurn (IsWithin start) past)
+pub inner_law : OfEveryRun (λ start past. EachTurn (IsWithin start) past)
 inner_law = record {
   after_lines = λ line run is some most size. inner_from (history_of line run) [] tt;
   between = λ line run is some most size next deliveries told may. inner_from (history_between line run next deliveries told) [] tt;

@@ -1,6 +1,7 @@
 -- The laws of turns of every run, together.
 use Rattle.turn_laws.specs.Together.{TurnsLaw}
 use Rattle.turn_laws.proofs.Alone.{alone_law}
+use Rattle.turn_laws.proofs.Aborts.{aborts_law}
 use Rattle.turn_laws.proofs.Announcing.{announced_law}
 use Rattle.turn_laws.proofs.AnswerRuns.{answered_law}
 use Rattle.turn_laws.proofs.Cleared.{cleared_law}
@@ -34,6 +35,7 @@ turns_law = record {
     once = once_law.after_lines line run is some most size;
     deaths = deaths_law.after_lines line run is some most size;
     codes = codes_law.after_lines line run is some most size;
+    aborts = aborts_law.after_lines line run is some most size;
     silent = silent_law.after_lines line run is some most size;
     unserved = unserved_law.after_lines line run is some most size;
     faults = faults_law.after_lines line run is some most size;
@@ -55,6 +57,7 @@ turns_law = record {
     once = once_law.between line run is some most size next deliveries told may;
     deaths = deaths_law.between line run is some most size next deliveries told may;
     codes = codes_law.between line run is some most size next deliveries told may;
+    aborts = aborts_law.between line run is some most size next deliveries told may;
     silent = silent_law.between line run is some most size next deliveries told may;
     unserved = unserved_law.between line run is some most size next deliveries told may;
     faults = faults_law.between line run is some most size next deliveries told may;

@@ -2,6 +2,7 @@
 use Rattle.std.specs.Prelude.{List}
 use Rattle.rbc_disk.specs.Disk.{Disk}
 use Rattle.sbp_journal.specs.Run.{Moment}
+use Rattle.sbp_laws.specs.Aborts.{AbortsStand}
 use Rattle.sbp_laws.specs.ActionLaw.{Ordered}
 use Rattle.sbp_laws.specs.Decided.{DecisionStands}
 use Rattle.sbp_laws.specs.JudgementLaw.{JudgementLaw}
@@ -36,6 +37,7 @@ pub record LawfulInTurns (start : List Disk) (past : List Moment) : Type 0 where
   pub once : EachTurn (DiesOnce start) past
   pub deaths : EachTurn (DiesByRows start) past
   pub codes : EachTurn (EndsWithCodes start) past
+  pub aborts : EachTurn (AbortsStand start) past
   pub silent : EachTurn (EndsHeard start) past
   pub unserved : EachTurn (UnservedWhereTold start) past
   pub faults : EachTurn DiesBeforeFaults past

@@ -1,4 +1,5 @@
 //! The laws of turns, each of every run of the machine of up to four initiators with one to four units.
+ghost use Rattle.turn_laws.specs.Aborts.{AbortsLaw};
 ghost use Rattle.turn_laws.specs.Alone.{AloneLaw};
 ghost use Rattle.turn_laws.specs.Announced.{AnnouncedLaw};
 ghost use Rattle.turn_laws.specs.Answers.{AnsweredLaw};
@@ -92,6 +93,14 @@ pub fn deaths_have_rows()
 #[tactic(auto, using(crate::proofs::Codes::codes_law))]
 pub fn illegal_orbs_have_codes()
     ensures { CodesLaw }
+{}
+
+/// In each turn of every run, whatever anybody injected, an ORB ends as aborted exactly where an abort with 00 of it
+/// stands before, it has neither run nor ended since, and the turn brings its next response, whole, with no ORB of
+/// a format other than 0: `aborts` of the cause law.
+#[tactic(auto, using(crate::proofs::Aborts::aborts_law))]
+pub fn orbs_abort_where_due()
+    ensures { AbortsLaw }
 {}
 
 /// In each turn of every run, whatever anybody injected, an end of an ORB has its status write, or a death beside
