@@ -132,8 +132,7 @@ abort_or (effects.AbortSet place) = no_abort (λ p o e. cc)
 abort_or (effects.UnitReset unit) = no_abort (λ p o e. cc)
 abort_or effects.TargetReset = no_abort (λ p o e. cc)
 
-module _ (start : List Disk) (t : Turn) (f : TurnFacts start t) (h : AreMarked start t.past) (answer : Answer) (M : Manages start t.past t.start answer)
-    (table : IsTable (target_before start t).table) where
+module _ (start : List Disk) (t : Turn) (f : TurnFacts start t) (h : AreMarked start t.past) (answer : Answer) (M : Manages start t.past t.start answer) (table : IsTable (target_before start t).table) where
   abbrev T : Target
   T = target_before start t
 
