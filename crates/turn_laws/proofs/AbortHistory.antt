@@ -27,10 +27,9 @@ use Rattle.sbp_journal.specs.declared.operation.FunctionWord.TheVariants as func
 use Rattle.sbp_laws.specs.Aborts.{aborts, is_aborted, is_unrun}
 use Rattle.sbp_laws.specs.Turns.{event_of}
 use Rattle.sbp_laws.proofs.Going.{going_rests, going_still, run_rests, taken_rests}
-use Rattle.sbp_journal.specs.declared.event.Event.TheVariants as events
 use Rattle.sbp_journal.specs.Transactions.{part_of}
 use Rattle.sbp_laws.specs.Packets.{access_in_bytes, access_at, answer_in, id_for, packet_at, sender_in}
-use Rattle.sbp_laws.specs.Targets.{going_on, Agent, Decided, Purpose, Target, agent_at, agent_over, entered_by, enters_in, for_agent, for_manager, for_nobody, got_by, is_nothing, is_own_run, is_write_access, key_by, known_at, main_lost, manager_step, moved, new_agent, over, pointed_by, points, purpose_of, register_got, replied, replied_to, request_got, rings, sends_of, start_got, started_by, taken_on, target_at, target_by, wants, with_agent}
+use Rattle.sbp_laws.specs.Targets.{going_on, Agent, Decided, Purpose, Target, agent_at, agent_over, entered_by, enters_in, for_agent, for_manager, for_nobody, got_by, is_nothing, is_own_run, is_write_access, known_at, main_lost, manager_step, moved, new_agent, over, pointed_by, points, purpose_of, register_got, replied, replied_to, request_got, rings, sends_of, start_got, started_by, taken_on, target_at, target_by, wants, with_agent}
 use Rattle.sbp_world.proofs.Lists.OrbFolds.{at_place, set_or}
 use Rattle.sbp_world.proofs.Lists.FedFolds.{is_for}
 use Rattle.sbp_world.proofs.Common.{and_first, and_second, equal, untrue}
@@ -39,6 +38,7 @@ use Rattle.turn_laws.proofs.Handed.{IsInner}
 use Rattle.turn_laws.proofs.PresentOrbs.{dead_rests, sent_rests}
 use Rattle.turn_laws.proofs.AgentFolds.{AreKept, AreLasting, AreSo, AreStill, cut_still, over_still, set_still, stand_still}
 use Rattle.turn_laws.proofs.AgentNotes.{IfApart, managed_kept, note_kept, pick}
+use Rattle.sbp_world.proofs.Lists.ResetStays.{keys}
 
 -- ---- of an agent
 then_keeps : (m a b : Machine) → Keeps m a → Falls a b → Keeps m b
@@ -225,12 +225,6 @@ module _ (start : List Disk) where
   late_keeps past serial false n = (keeps_over (target_at start past)).agents
 
 -- ---- behind the first moment of a turn
--- no reply waits behind a note, or the agents stand
-key_agents : (event : Option Event) (unit : ℕ) (t : Target) → (key_by event unit t).agents ≡ t.agents
-key_agents (Some (events.Key other key)) unit t = refl
-key_agents None unit t = refl
-key_agents (Some event) unit t = refl
-
 abbrev NoLogin : Note → Type 0
 NoLogin (notes.Managed i functions.Login subject status login) = ⊥
 NoLogin note = IsInner note
@@ -253,7 +247,7 @@ rests_or_stands (notes.Expired id) past wire t c = inr refl
 rests_or_stands (notes.Back id) past wire t c = inr refl
 rests_or_stands (notes.Left id) past wire t c = inr refl
 rests_or_stands (notes.Cleared unit) past wire t c = inr refl
-rests_or_stands (notes.Key unit) past wire t c = inr (key_agents (event_of past) unit t)
+rests_or_stands (notes.Key unit) past wire t c = inr (keys (event_of past) unit t)
 rests_or_stands (notes.Unsolicited i) past wire t c = inr refl
 rests_or_stands note past wire t c = inl (going_rests note t)
 

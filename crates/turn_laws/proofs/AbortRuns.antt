@@ -44,6 +44,7 @@ use Rattle.turn_laws.proofs.AgentFolds.{SetAgent, is_it, is_none, is_other, set_
 use Rattle.turn_laws.proofs.DecisionEffects.{Fits, FitsBy, reply_fits}
 use Rattle.turn_laws.proofs.Handed.{AllInner}
 use Rattle.turn_laws.proofs.PresentOrbs.{told_one}
+use Rattle.sbp_world.proofs.Wire.Kept.{and_false}
 
 pub record TurnFacts (start : List Disk) (t : Turn) : Type 0 where
   pub inner : AllInner t.rest
@@ -54,10 +55,6 @@ pub record TurnFacts (start : List Disk) (t : Turn) : Type 0 where
   pub table : IsTable (target_before start t).table ⊎ ((line : ℕ) × ((event : Event) × (t.start ≡ asked line event)))
 
 -- ---- truth values
-and_none : (b : Bool) → (b && false) ≡ false
-and_none true = refl
-and_none false = refl
-
 mixed : (al u x ab hit : Bool) → x ≡ (u && ab) → (u ≡ true → al ≡ hit) → ((al && u) || x) ≡ (u && (ab || hit))
 mixed al true x ab hit e f = ap (λ y. (al && true) || y) e ∙ (ap (λ y. (y && true) || ab) (f refl) ∙ by hit ab)
   where
@@ -66,11 +63,11 @@ mixed al true x ab hit e f = ap (λ y. (al && true) || y) e ∙ (ap (λ y. (y &&
     by true false = refl
     by false true = refl
     by false false = refl
-mixed al false x ab hit e f = ap (λ y. (al && false) || y) e ∙ ap (λ y. y || false) (and_none al)
+mixed al false x ab hit e f = ap (λ y. (al && false) || y) e ∙ ap (λ y. y || false) (and_false al)
 
 nothing_marked : (x d c : Bool) → ((x && (c && false)) || (d && (c && false))) ≡ ((c && false) && false)
 nothing_marked x d c =
-    ap (λ y. (x && y) || (d && y)) (and_none c) ∙ (ap (λ y. y || (d && false)) (and_none x) ∙ (and_none d ∙ sym (and_none (c && false))))
+    ap (λ y. (x && y) || (d && y)) (and_false c) ∙ (ap (λ y. y || (d && false)) (and_false x) ∙ (and_false d ∙ sym (and_false (c && false))))
 
 -- ---- an agent that an abort may mark
 abbrev flagged : ℕ → Agent → Agent
@@ -357,7 +354,7 @@ MarkedBefore start t = AreMarked start t.past
 
 module _ (start : List Disk) where
   none_first : AreMarked start []
-  none_first q address = sym (ap (λ (a : Agent). is_unrun a address && a.machine.aborted) (new_there 8 q) ∙ and_none ((0 == address) && false))
+  none_first q address = sym (ap (λ (a : Agent). is_unrun a address && a.machine.aborted) (new_there 8 q) ∙ and_false ((0 == address) && false))
 
   each : (past : List Moment) (rest : List Note) → Root past rest → EachTurnBefore (TurnFacts start) past rest → AreMarked start (once_told past rest) × EachTurnBefore (MarkedBefore start) past rest
   each [] [] r e = (none_first, tt)

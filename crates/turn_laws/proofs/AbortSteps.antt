@@ -4,7 +4,6 @@ use Rattle.std.proofs.Common.{◌≡◌, ◌∙◌, refl, sym, ap, arith, ℕ, �
 use Rattle.std.proofs.lemmas.Bool.Decides.{nat_tests}
 use Rattle.orb_layout.specs.declared.ask.Ask.TheVariants.{Read}
 use Rattle.orb_layout.specs.declared.ask.FailCause.{FailCause}
-use Rattle.orb_layout.specs.declared.ask.FailCause.TheVariants as causes
 use Rattle.orb_layout.specs.declared.command.CommandOrb.{CommandOrb}
 use Rattle.orb_layout.specs.declared.pointer.OrbPointer.{OrbPointer}
 use Rattle.orb_layout.specs.declared.pointer.OrbPointer.TheVariants as pointers
@@ -32,6 +31,7 @@ use Rattle.command_agent.specs.declared.step.AgentStep.{AgentStep}
 use Rattle.command_agent.specs.declared.step.Move.{Move}
 use Rattle.command_agent.specs.declared.step.Move.TheVariants as moves
 use Rattle.command_agent.specs.declared.step.Which.TheVariants.{Ahead, Main}
+use Rattle.sbp_world.proofs.Wire.Kept.{and_false}
 
 abbrev pub ends_aborted : Option StatusKind → Bool
 ends_aborted (Some kinds.Aborted) = true
@@ -51,10 +51,6 @@ size_of phases.ReadingTable m = 8 * m.orb.data_size
 size_of (phases.ReadingData wanted) m = (chunk_of m (length m.payload) wanted).length
 size_of phase m = 0
 
-and_none : (b : Bool) → (b && false) ≡ false
-and_none true = refl
-and_none false = refl
-
 -- ---- an ORB that is checked
 by_fields : (b c d e f : Bool)
     → ends_aborted (cond b (Some (kinds.Illegal 0x02)) (cond c (Some (kinds.Illegal 0xff)) (cond d (Some (kinds.Illegal 0x03)) (cond e (Some (kinds.Illegal 0xff)) (cond f (Some (kinds.Illegal 0xff)) None))))) ≡ false
@@ -73,8 +69,8 @@ refused_not orb =
 
 by_format : (three zero aborted : Bool) (x : Option StatusKind) → ends_aborted x ≡ false → (three ≡ true → zero ≡ false)
     → ends_aborted (cond three (Some kinds.Dummy) (cond (not zero) (Some (kinds.Illegal 0x01)) (cond aborted (Some kinds.Aborted) x))) ≡ (aborted && zero)
-by_format true zero aborted x e f = sym (ap (λ b. aborted && b) (f refl) ∙ and_none aborted)
-by_format false false aborted x e f = sym (and_none aborted)
+by_format true zero aborted x e f = sym (ap (λ b. aborted && b) (f refl) ∙ and_false aborted)
+by_format false false aborted x e f = sym (and_false aborted)
 by_format false true true x e f = refl
 by_format false true false x e f = e
 
@@ -148,24 +144,24 @@ sends_not : (s : AgentStep × Machine) → aborts s ≡ false → move_aborts (s
 sends_not s e = e
 
 orb_aborts : (m : Machine) (r : Result (List ℕ) FailCause) → move_aborts (orb_read m r) ≡ (m.aborted && takes phases.Fetching r)
-orb_aborts m (Err cause) = sym (and_none m.aborted)
+orb_aborts m (Err cause) = sym (and_false m.aborted)
 orb_aborts m (Ok bytes) = refl
 
 fault_not : (m : Machine) (bytes : List ℕ) (fault : Option PageFault) → move_aborts (elements_read m bytes fault) ≡ false
 fault_not m bytes None = refl
 fault_not m bytes (Some fault) = refl
 
-and_true : (b : Bool) → b ≡ (b && true)
+pub and_true : (b : Bool) → b ≡ (b && true)
 and_true true = refl
 and_true false = refl
 
 table_aborts : (m : Machine) (r : Result (List ℕ) FailCause) → move_aborts (table_read m r) ≡ (m.aborted && takes phases.ReadingTable r)
-table_aborts m (Err cause) = sym (and_none m.aborted)
+table_aborts m (Err cause) = sym (and_false m.aborted)
 table_aborts m (Ok bytes) =
     let fault = first_fault 0 (elements_of bytes) in marked m.aborted m (elements_read m bytes fault) (fault_not m bytes fault) ∙ and_true m.aborted
 
 data_aborts : (m : Machine) (wanted : ℕ) (r : Result (List ℕ) FailCause) → move_aborts (data_read m wanted r) ≡ (m.aborted && takes (phases.ReadingData wanted) r)
-data_aborts m wanted (Err cause) = sym (and_none m.aborted)
+data_aborts m wanted (Err cause) = sym (and_false m.aborted)
 data_aborts m wanted (Ok bytes) =
     let n = record m { payload = m.payload ++ bytes } in
     marked m.aborted m (data_grown n wanted) (pick (length n.payload == wanted) (moves.Run, n) (sent (data_step n wanted)) refl refl) ∙ and_true m.aborted
@@ -198,13 +194,13 @@ advanced_aborts : (phase : Phase) (m : Machine) (answer : Answer) → move_abort
 advanced_aborts phases.Fetching m answer = orb_aborts m (payload_of answer 32)
 advanced_aborts phases.ReadingTable m answer = table_aborts m (payload_of answer (8 * m.orb.data_size))
 advanced_aborts (phases.ReadingData wanted) m answer = data_aborts m wanted (payload_of answer (chunk_of m (length m.payload) wanted).length)
-advanced_aborts phases.Answering m answer = chunk_not m (write_failure answer) ∙ sym (and_none m.aborted)
-advanced_aborts phases.WritingStatus m answer = status_not m (write_failure answer) ∙ sym (and_none m.aborted)
-advanced_aborts phases.ReadingNext m answer = next_not m (payload_of answer 8) ∙ sym (and_none m.aborted)
-advanced_aborts phases.Reset m answer = sym (and_none m.aborted)
-advanced_aborts phases.WritingLastStatus m answer = sym (and_none m.aborted)
-advanced_aborts phases.Suspended m answer = sym (and_none m.aborted)
-advanced_aborts phases.Dead m answer = sym (and_none m.aborted)
+advanced_aborts phases.Answering m answer = chunk_not m (write_failure answer) ∙ sym (and_false m.aborted)
+advanced_aborts phases.WritingStatus m answer = status_not m (write_failure answer) ∙ sym (and_false m.aborted)
+advanced_aborts phases.ReadingNext m answer = next_not m (payload_of answer 8) ∙ sym (and_false m.aborted)
+advanced_aborts phases.Reset m answer = sym (and_false m.aborted)
+advanced_aborts phases.WritingLastStatus m answer = sym (and_false m.aborted)
+advanced_aborts phases.Suspended m answer = sym (and_false m.aborted)
+advanced_aborts phases.Dead m answer = sym (and_false m.aborted)
 
 pub main_aborts : (m : Machine) (place : ℕ) (plain : PlainDisk) (told : Option Told) (answer : Answer)
     → ends_aborted (reply_step m place plain told Main answer).0.ended ≡ (m.aborted && takes m.phase (payload_of answer (size_of m.phase m)))

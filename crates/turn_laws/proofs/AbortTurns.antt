@@ -129,9 +129,6 @@ module _ (start : List Disk) (past : List Moment) where
   abbrev pub wire : Terms
   wire = terms past
 
-  none_over : T.reply ≡ None
-  none_over = (keeps_over (target_at start past)).none
-
   -- what the management does then
   abbrev pub turns : Call → Option (ManagerStep × manager.Machine)
   turns call = manager_turn call T

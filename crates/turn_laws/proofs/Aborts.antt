@@ -61,7 +61,7 @@ use Rattle.turn_laws.specs.Ends.{EndsWhereDue}
 use Rattle.turn_laws.specs.Runs.{OfEveryRun, history_between}
 use Rattle.turn_laws.proofs.AbortHistory.{keeps_over, mark_is}
 use Rattle.turn_laws.proofs.AbortRuns.{IsRooted, MarkedBefore, TurnFacts, each_marked}
-use Rattle.turn_laws.proofs.AbortSteps.{ahead_not, ends_aborted, main_aborts, size_of, takes}
+use Rattle.turn_laws.proofs.AbortSteps.{ahead_not, ends_aborted, main_aborts, size_of, takes, and_true}
 use Rattle.turn_laws.proofs.Calls.{Cases}
 use Rattle.turn_laws.proofs.Cleared.{cleared_law}
 use Rattle.turn_laws.proofs.Cuts.{cuts_law}
@@ -81,6 +81,7 @@ use Rattle.turn_laws.proofs.OrderRuns.{ordered_law}
 use Rattle.turn_laws.proofs.Pass.{of_every_run}
 use Rattle.turn_laws.proofs.Places.{Place}
 use Rattle.turn_laws.proofs.Silent.{IsWithin, inner_law}
+use Rattle.sbp_world.proofs.Wire.Kept.{and_false}
 
 -- ---- ends as aborted among the notes
 any_kept : (rest : List Note) → list_any is_aborted_note rest ≡ list_any is_aborted_note (of_kind is_end_note rest)
@@ -161,14 +162,6 @@ not_not : (b : Bool) → b ≡ not (not b)
 not_not true = refl
 not_not false = refl
 
-and_true : (b : Bool) → b ≡ (b && true)
-and_true true = refl
-and_true false = refl
-
-and_none : (b : Bool) → (b && false) ≡ false
-and_none true = refl
-and_none false = refl
-
 whole_takes : (phase : Phase) (bytes : List ℕ) (brings_it : Bool) (size count : ℕ) → takes phase (Ok bytes) ≡ not brings_it → takes phase (Err causes.Grammar) ≡ false
     → not (length bytes == count) ≡ not (length bytes == size) → takes phase (payload_of (Payload bytes) size) ≡ ((length bytes == count) && not brings_it)
 whole_takes phase bytes brings_it size count e f g = by (length bytes == size) refl
@@ -208,7 +201,7 @@ module _ (m : Machine) (answer : Answer) (access : Option Access) where
 
 all_so : (ab x y la d : Bool) → d ≡ ab → (d ≡ true → la ≡ true) → (ab && (x && y)) ≡ (la && (((true && x) && y) && d))
 all_so true x y la d e f = and_true (x && y) ∙ (ap (λ z. (x && y) && z) (sym e) ∙ ap (λ z. z && ((x && y) && d)) (sym (f e)))
-all_so false x y la d e f = sym (ap (λ z. la && ((x && y) && z)) e ∙ (ap (λ z. la && z) (and_none (x && y)) ∙ and_none la))
+all_so false x y la d e f = sym (ap (λ z. la && ((x && y) && z)) e ∙ (ap (λ z. la && z) (and_false (x && y)) ∙ and_false la))
 
 -- ---- at a turn
 abbrev AccessAt : List Disk → List Moment → Moment → Type 0
@@ -261,12 +254,12 @@ module _ (start : List Disk) (t : Turn) (f : AbortFacts start t) where
             ∙ ap (λ w. la && ((((true && w) && is_whole answer access) && not (brings_format m.phase answer)) && D)) (sym e))
         by false e =
             ap (λ x. m.aborted && x) (resting m answer access m.phase (payload_of answer (size_of m.phase m)) e)
-            ∙ (and_none m.aborted ∙ sym (ap (λ w. la && ((((true && w) && is_whole answer access) && not (brings_format m.phase answer)) && D)) e ∙ and_none la))
+            ∙ (and_false m.aborted ∙ sym (ap (λ w. la && ((((true && w) && is_whole answer access) && not (brings_format m.phase answer)) && D)) e ∙ and_false la))
 
   reply_due : (q : ℕ) (which : Which) (answer : Answer) → agent_event start t ≡ replies (record { place = q; which = which; answer = answer }) → (plain : PlainDisk) (told : Option Told)
       → ends_aborted (reply_step (agent_at B q).machine q plain told which answer).0.ended ≡ aborted_by start t (replies (record { place = q; which = which; answer = answer }))
   reply_due q Main answer is plain told = main_due q answer is plain told
-  reply_due q Ahead answer is plain told = ahead_not (agent_at B q).machine q plain told answer ∙ sym (and_none (list_any is_abort t.past))
+  reply_due q Ahead answer is plain told = ahead_not (agent_at B q).machine q plain told answer ∙ sym (and_false (list_any is_abort t.past))
 
   event_due : (e : AgentEvent) → agent_event start t ≡ e → list_any is_aborted_note (ends_by start B t (agent_turn e B (wire_before t) t.rest)) ≡ aborted_by start t e
   event_due nothing is = refl

@@ -47,7 +47,7 @@ use Rattle.sbp_world.specs.Worlds.{Scene, WorldState, with_note, with_target}
 use Rattle.sbp_world.proofs.Agents.CrewSeats.{IsServing}
 use Rattle.sbp_world.proofs.Agents.Management.Still.{hist}
 use Rattle.sbp_world.proofs.Agents.ToldAlike.{run_alike}
-use Rattle.sbp_world.proofs.Lists.DueRuns.{event_for, hand, inside, its, serve}
+use Rattle.sbp_world.proofs.Lists.DueRuns.{event_for, hand, inside, its, serve, some_same}
 use Rattle.sbp_world.proofs.Lists.DueTurns.{plain_told}
 use Rattle.sbp_world.proofs.Lists.RunTells.{AreRunless, RanBy}
 use Rattle.sbp_world.proofs.Wire.ToldBytes.{told_fits}
@@ -60,9 +60,6 @@ use Rattle.turn_laws.proofs.Places.{Place}
 use Rattle.turn_laws.proofs.ReplyEnds.{agent_ends, site, still_holder}
 use Rattle.turn_laws.proofs.RestRuns.{plain_handed, plain_untold, run_told, run_untold}
 use Rattle.turn_laws.proofs.LateEnds.{if_same}
-
-some_same : {A : Type 0} {a b : A} → Some a ≡ Some b → a ≡ b
-some_same e = cc
 
 module _ (units ready : ℕ) (has : 0 < units) (start : List Disk) (past : List Moment) (s : Scene) (here : Place units ready start past s) (serial : ℕ) (again : Bool) (one : Sent) (found : found_sent serial s.world.store.kept ≡ Some one) (zero_to : one.to ≡ 0) (judged : AreJudged (said (notes.Got serial) ∷ hist past s.world)) (run : Option Told) (may : MayTell run one s.world.target s.media) where
   abbrev w : WorldState

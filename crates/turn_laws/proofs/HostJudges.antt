@@ -3,7 +3,7 @@ use Rattle.std.proofs.Common.{arith, ◌≡◌, ◌∙◌, refl, sym, ap, subst,
 use Rattle.async_packet.specs.Packet.{Packet, header_in}
 use Rattle.async_packet.specs.Reading.{reading}
 use Rattle.label_table.specs.Judging.{by_request}
-use Rattle.label_table.specs.Layer.{Finding, Layer, answering_step, judging_step, of_again, of_generation, of_grammar, of_label, of_request, of_response}
+use Rattle.label_table.specs.Layer.{Finding, Layer, judging_step, of_again, of_generation, of_grammar, of_label, of_request, of_response}
 use Rattle.packet_store.specs.declared.sent.Sent.{Sent}
 use Rattle.packet_store.specs.Kept.{found_sent}
 use Rattle.rbc_disk.specs.Disk.{Disk}
@@ -39,10 +39,7 @@ use Rattle.turn_laws.proofs.Handed.{handed}
 use Rattle.turn_laws.proofs.HostFacts.{judging_same, one_kind}
 use Rattle.turn_laws.proofs.Places.{Place}
 use Rattle.turn_laws.proofs.Verdicts.{Acts, ActsBy}
-
-responds_silent : (p : Packet) (bytes : List ℕ) (rcode : ℕ) (given : List ℕ) (turn : Turn) → (respond_step p bytes rcode given turn).0.sides ≡ turn.0.sides
-unfolding answering_step
-responds_silent p bytes rcode given turn = refl
+use Rattle.turn_laws.proofs.OwnBlocks.{answer_silent}
 
 module _ (units ready : ℕ) (start : List Disk) (past : List Moment) (s : Scene) (here : Place units ready start past s) (serial : ℕ) (one : Sent) (found : found_sent serial s.world.store.kept ≡ Some one) (i : ℕ) (to_is : one.to ≡ suc i) (inside : i < length s.world.initiators) (v : WorldState) (bus : SameBus s.world v) where
   abbrev old : InitiatorState
@@ -104,7 +101,7 @@ module _ (units ready : ℕ) (start : List Disk) (past : List Moment) (s : Scene
   left_acts : (p : Packet) → Asks t q p by_request → (j : Judging) → heard.0 ≡ note_of j → LeftBy j p one.bytes empty_outbox old heard.1 → ActsBy start ms serial q j p heard.0 (handed (suc i) 0 heard.1.0 v)
   left_acts p a (ignored_as cause rcode) e left = (
     e,
-    one_answer p rcode old.layer.node a.read a.current refl heard.1.0 (ap (λ (x : Turn). x.0.sides) left ∙ responds_silent p one.bytes rcode [] (empty_outbox, old))
+    one_answer p rcode old.layer.node a.read a.current refl heard.1.0 (ap (λ (x : Turn). x.0.sides) left ∙ answer_silent p one.bytes rcode [] (empty_outbox, old))
         (ap (λ (x : Turn). x.0.packets) left ∙ responds p one.bytes rcode [] (empty_outbox, old)),
   )
   left_acts p a telling e left = e
@@ -131,7 +128,7 @@ module _ (units ready : ℕ) (start : List Disk) (past : List Moment) (s : Scene
   acts_by (of_response p label purpose, layer) row asks = refl
   acts_by (of_again p rcode, layer) row asks =
       let turn : Turn = (empty_outbox, record old { layer = layer }) in
-      (refl, one_answer p rcode layer.node row.asks.read row.asks.current row.node_is (respond_step p one.bytes rcode [] turn).0 (responds_silent p one.bytes rcode [] turn) (responds p one.bytes rcode [] turn))
+      (refl, one_answer p rcode layer.node row.asks.read row.asks.current row.node_is (respond_step p one.bytes rcode [] turn).0 (answer_silent p one.bytes rcode [] turn) (responds p one.bytes rcode [] turn))
   acts_by (of_request p, layer) row asks = asks p row refl
 
   pub host_acts : RowFor t q old.layer.node (judging_step old.layer one.generation one.bytes) → Acts start ms serial q (judging_step old.layer one.generation one.bytes).0 heard.0 (handed (suc i) 0 heard.1.0 v)

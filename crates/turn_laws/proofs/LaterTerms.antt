@@ -1,6 +1,6 @@
 -- What the notes behind the first one of a turn make of the terms, as far as unsolicited statuses hang on them: a transaction that is under way stays so, a label that rests
 -- goes on to rest, and each new unsolicited status is a packet of the target under a label that was free.
-use Rattle.std.proofs.Common.{arith, ◌≡◌, ◌∙◌, refl, sym, ap, subst, inl, inr, ◌⊎◌, ℕ, ◌+◌, ◌<◌, ◌≤◌, ◌==◌, nat_eq, Bool, true, false, cond, List, ◌∷◌, not, ◌&&◌, ◌||◌, Option, Some, None}
+use Rattle.std.proofs.Common.{arith, ◌≡◌, ◌∙◌, refl, sym, ap, subst, inl, inr, ◌⊎◌, ℕ, ◌+◌, ◌<◌, ◌≤◌, ◌==◌, nat_eq, Bool, true, false, cond, List, ◌∷◌, not, ◌||◌, Option, Some, None}
 use Rattle.std.proofs.lemmas.Option.{same_Some}
 use Rattle.std.specs.Prelude.{position}
 use Rattle.std.proofs.lemmas.Bool.Decides.{nat_tests}
@@ -20,7 +20,7 @@ use Rattle.sbp_journal.specs.declared.note.Note.TheVariants as notes
 use Rattle.sbp_laws.specs.MediaLaw.{is_pending}
 use Rattle.sbp_laws.specs.Packets.{access_in_bytes}
 use Rattle.sbp_laws.specs.Targets.{Reply, Target, is_write_access, known_at, sent_as, sent_for, taken_on, target_at, wants, wants_it}
-use Rattle.sbp_world.proofs.Common.{itself}
+use Rattle.sbp_world.proofs.Common.{itself, and_first}
 use Rattle.sbp_world.proofs.Hosts.SentMoments.{count_now, sent_now, sent_there}
 use Rattle.sbp_world.proofs.Wire.Bus.{sent_ids}
 use Rattle.turn_laws.proofs.PendingTerms.{Same, at_it, beside, pending_sent, same_is, sends_terms, upd_other}
@@ -33,10 +33,6 @@ free_held free e = refl
 free_held (waits kind serial) e = absurd (let x : false ≡ true = e in cc)
 free_held rests e = absurd (let x : false ≡ true = e in cc)
 
-both_first : (a b : Bool) → (a && b) ≡ true → a ≡ true
-both_first true b e = refl
-both_first false b e = e
-
 none_there : {A : Type 0} (u : Transaction) → None ≡ Some u → A
 none_there u e = absurd (let x : None ≡ Some u = e in cc)
 
@@ -47,7 +43,7 @@ module _ (t : Terms) (q : Sending) (own : q.injected ≡ false → bus.IsOwn t q
       let low = o.lowest label kind e in
       let u : Transaction = transaction (t.generation q.from) q.from q.to label in
       let same : u ≡ v = ap (λ g. transaction g q.from q.to label) (sym o.now) ∙ same_Some (between q q.from q.to label) v f in
-      subst (λ (x : Transaction). t.held x ≡ free) same (free_held (t.held u) (both_first (bus.is_free (t.held u)) (not (is_write q.bytes) || not (is_last (t.last u) q.bytes)) low.takes))
+      subst (λ (x : Transaction). t.held x ≡ free) same (free_held (t.held u) (and_first (bus.is_free (t.held u)) (not (is_write q.bytes) || not (is_last (t.last u) q.bytes)) low.takes))
   asked_free (response label kind) e honest v f = none_there v f
   asked_free no_packet e honest v f = none_there v f
 

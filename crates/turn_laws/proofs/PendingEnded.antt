@@ -19,6 +19,8 @@ use Rattle.turn_laws.proofs.PendingKept.{Rows}
 use Rattle.turn_laws.proofs.StatusAnnounces.{Announced}
 use Rattle.turn_laws.proofs.StatusCalls.{ended_if}
 use Rattle.turn_laws.proofs.StatusRows.{Row, life_of, row_of, rows_last, rows_new, rows_one}
+use Rattle.sbp_world.proofs.Pointers.Finds.{same_serial}
+use Rattle.sbp_world.proofs.Wire.Asks.{label_is}
 
 -- the rows behind a call
 pub announced_rows : (old : Lives) (first : List ℕ) (layer : Layer Purpose) (known : Known layer old) (later : NodeState) → Announced old first later → Rows layer later.layer first later.pending
@@ -38,14 +40,6 @@ under_if true life kind q e = absurd (over life e)
     over wire.not_begun f = cc
     over (wire.under_way k r) f = cc
     over wire.over f = cc
-
-same_call : (a b : ReplyKind) (m n : ℕ) → states.UnderWay a m ≡ states.UnderWay b n → m ≡ n
-same_call a b m n e = cc
-
-label_is : (label : LabelParts) (number generation call : ℕ) → number ≡ label.number → generation ≡ label.generation → call ≡ label.serial → record { number = number; generation = generation; serial = call } ≡ label
-label_is label number generation call n g c =
-    ap (λ x. record { number = x; generation = generation; serial = call }) n
-    ∙ (ap (λ x. record { number = label.number; generation = x; serial = call }) g ∙ ap (λ x. record { number = label.number; generation = label.generation; serial = x }) c)
 
 module _ (lives now : Lives) (peer : ℕ) (label : LabelParts) (now_is : (p : ℕ) (l : LabelParts) → now p l ≡ cond (is_same peer label p l) (ended (lives p l)) (lives p l)) (layer left : Layer Purpose) (known : Known layer lives) (behind : Known left now) where
   -- a transaction that is under way behind it
@@ -97,7 +91,7 @@ module _ (lives now : Lives) (peer : ℕ) (label : LabelParts) (now_is : (p : �
       let one = state_of layer lives peer label kind purpose known life in
       let two = state_of layer lives peer u.its k (purpose_for left.peers peer label.number) known b.1 in
       let serial_is : u.its.serial ≡ label.serial =
-      same_call k kind u.its.serial label.serial (sym two ∙ (ap (λ n. state_for layer.peers peer n) u.numbered ∙ one)) in
+      same_serial k kind u.its.serial label.serial (sym two ∙ (ap (λ n. state_for layer.peers peer n) u.numbered ∙ one)) in
       let generation_is : u.its.generation ≡ label.generation =
       a.now peer u.its k (purpose_for left.peers peer label.number) (sym (known.lives_are peer u.its) ∙ b.1) ∙ sym (a.now peer label kind purpose (sym (known.lives_are peer label) ∙ life)) in
       let same : u.its ≡ label = label_is label u.its.number u.its.generation u.its.serial u.numbered generation_is serial_is in

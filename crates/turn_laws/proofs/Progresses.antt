@@ -14,7 +14,7 @@ use Rattle.command_agent.specs.Steps.{abort_step, asks, lost_step, point_step, r
 use Rattle.mgmt_agent.specs.declared.operation.Busy.{Busy}
 use Rattle.mgmt_agent.specs.Machine as manager
 use Rattle.orb_layout.specs.declared.ask.Ask.{Ask}
-use Rattle.orb_layout.specs.declared.ask.Ask.TheVariants.{Nothing, Read, Write}
+use Rattle.orb_layout.specs.declared.ask.Ask.TheVariants.{Nothing}
 use Rattle.orb_layout.specs.declared.ask.FailCause.TheVariants as causes
 use Rattle.orb_layout.specs.declared.pointer.OrbPointer.TheVariants.{Null}
 use Rattle.orb_layout.specs.Pointers.{offset_at, pointer_at}
@@ -41,6 +41,7 @@ use Rattle.turn_laws.proofs.AgentFolds.{AreKept, AreLasting, AreSo, AreStill, Pe
 use Rattle.turn_laws.proofs.AgentNotes.{leaves_kept, managed_kept, note_kept, pick}
 use Rattle.turn_laws.proofs.DeathAnswers.{NoReply, write_no}
 use Rattle.turn_laws.proofs.NextSteps.{AheadIs, IsTracked, abort_ahead, abort_tracked, ahead_tracked, bell_ahead, bell_tracked, free_is, keeps_orb, lost_free, lost_looks, lost_tracked, main_tracked, none_read, point_tracked, reset_tracked, unheard_looks, unheard_tracked}
+use Rattle.sbp_world.proofs.Lists.MainStays.{wanted}
 
 -- ---- of one agent: where it waits for a read ahead, or asks for one, it keeps none
 pub record IsWhole (p : Progress) (a : Agent) : Type 0 where
@@ -53,11 +54,6 @@ waits_by promoted aheads.Idle x e = refl
 waits_by promoted (aheads.UnderWay rung) x e = refl
 waits_by true (aheads.Kept orb) x e = untrue e
 waits_by false (aheads.Kept orb) x e = untrue e
-
-wanted : (ask : Ask) (is_write : Bool) → wants ask is_write ≡ true → is_nothing ask ≡ false
-wanted Nothing is_write e = untrue e
-wanted (Read offset size) is_write e = refl
-wanted (Write offset size) is_write e = refl
 
 module _ (p : Progress) where
   moved_whole : (s : AgentStep × Machine) (a : Agent) → IsTracked p s.1 → (is_nothing s.0.ahead ≡ false → keeps_orb s.1.ahead ≡ false) → IsWhole p (moved s a)

@@ -8,7 +8,7 @@ use Rattle.command_agent.specs.declared.step.Which.TheVariants.{Ahead, Main}
 use Rattle.rbc_disk.specs.Disk.{Disk}
 use Rattle.sbp_journal.specs.Run.{Moment, asked, said}
 use Rattle.sbp_journal.specs.Transactions.{Kind, Part, Sending, Transaction, is_same_kind, no_packet, part_of, request, response}
-use Rattle.sbp_journal.specs.Wire.{Held, Owed, Terms, arrives, begins, closes, closes_if, free, gets, gets_as, gives, ignores, ignores_that, is_news, is_served, judges, judges_if, noted, opened, pays, puts, rests, sends, terms, times_out, waits}
+use Rattle.sbp_journal.specs.Wire.{Held, Terms, arrives, begins, closes, closes_if, free, gets, gets_as, ignores, ignores_that, is_news, is_served, judges, judges_if, noted, opened, rests, terms, times_out, waits}
 use Rattle.sbp_journal.specs.declared.cause.Cause.{Cause}
 use Rattle.sbp_journal.specs.declared.cause.Cause.TheVariants as causes
 use Rattle.sbp_journal.specs.declared.event.Event.{Event}
@@ -18,6 +18,7 @@ use Rattle.sbp_journal.specs.declared.note.Note.TheVariants as notes
 use Rattle.sbp_laws.specs.Targets.{Agent, Target, for_agent, for_manager, for_nobody, is_serial, known_at, new_agent, over, purpose_among, purpose_of, target_at}
 use Rattle.sbp_world.specs.Agents.Crews.{agent_in}
 use Rattle.turn_laws.proofs.SerialsStay.{All, Goes, IsNoSent, Sends, ends_turn, note_goes, note_sends}
+use Rattle.sbp_world.proofs.Hosts.Held.{sent_count}
 
 -- ---- how many packets were sent
 judges_count : (u : Option Transaction) (cause : Option Cause) (s : ℕ) (q : Sending) (t : Terms) → (judges u cause s q t).count ≡ t.count
@@ -66,17 +67,6 @@ late_count (Some u) t = refl
 begins_count : (u : Option Transaction) (s : ℕ) (q : Sending) (t : Terms) → (begins u s q t).count ≡ t.count
 begins_count None s q t = refl
 begins_count (Some u) s q t = refl
-
-gives_count : (u : Option Transaction) (rcode : ℕ) (t : Terms) → (gives u rcode t).count ≡ t.count
-gives_count None rcode t = refl
-gives_count (Some u) rcode t = refl
-
-pays_count : (o : Option Owed) (sent : ℕ → Option Sending) (s : ℕ) (q : Sending) (t : Terms) → (pays o sent s q t).count ≡ t.count
-pays_count None sent s q t = refl
-pays_count (Some owed) sent s q t = gives_count _ _ t
-
-sent_count : (s : ℕ) (q : Sending) (t : Terms) → (sends s q t).count ≡ t.count + 1
-sent_count s q t = pays_count t.owes t.sent s q _ ∙ begins_count _ s q (puts _ s q t)
 
 pub note_count : (note : Note) (t : Terms) → IsNoSent note → (noted note t).count ≡ t.count
 note_count (notes.Sent serial generation from to bytes) t i = absurd i

@@ -51,6 +51,7 @@ use Rattle.sbp_world.proofs.Pointers.Guarded.{left_generation}
 use Rattle.sbp_world.specs.Hosts.Calls.{behind}
 use Rattle.turn_laws.proofs.HostReads.{Reads, all_kept, is_gone, over_if, told_reads}
 use Rattle.turn_laws.proofs.ReadPairs.{AreZipped, Fate, was_kept, zipped_filter}
+use Rattle.sbp_world.proofs.Hosts.Pointed.{free_not}
 
 -- a transaction of an initiator with its target waits under a label; a read of AGENT_STATE of an action is under way there
 abbrev pub WaitsAt : List Moment → (i : ℕ) → Layer Purpose → (number : ℕ) → Kind → (serial : ℕ) → Type 0
@@ -78,9 +79,6 @@ abbrev pub AreTimely : List Moment → Type 0
 AreTimely past = EachMoment IsTimely past
 
 -- ---- what a label waits for, by the history
-never_free : {A : Type 0} (k : Kind) (n : ℕ) → free ≡ waits k n → A
-never_free k n e = absurd (let no : free ≡ waits k n = e in cc)
-
 never_rests : {A : Type 0} (k : Kind) (n : ℕ) → rests ≡ waits k n → A
 never_rests k n e = absurd (let no : rests ≡ waits k n = e in cc)
 
@@ -183,7 +181,7 @@ module _ (past : List Moment) (serials : SerialsCount past) where
               let number : n ≡ other = equal n other (sym (ap (λ z. is_gone z n) (own_as (response label kind) p ∙ f)) ∙ e) in
               let y = held_by (T.held u) kind other f in
               let is : v ≡ u = one_transaction v u k y.kind n h (y.is ∙ ap (waits y.kind) (sym number)) in
-              never_free m x (sym (got_frees T serial other q label kind sent p f) ∙ ap (λ z. Got.held z) (sym is) ∙ w)
+              free_not m x (sym (got_frees T serial other q label kind sent p f) ∙ ap (λ z. Got.held z) (sym is) ∙ w)
 
           by : (part : Part) → part_of q.bytes ≡ part → ⊥
           by (request label kind) p = untrue (sym (ap (λ z. is_gone z n) (own_as (request label kind) p)) ∙ e)

@@ -4,7 +4,6 @@ use Rattle.bus_memory.specs.Windows.{start as slot_start}
 use Rattle.bus_memory.specs.declared.window.Window.TheVariants as windows
 use Rattle.label_table.specs.Bodies.{block_write}
 use Rattle.orb_layout.specs.declared.ask.Ask.{Ask}
-use Rattle.orb_layout.specs.declared.ask.FailCause.{FailCause}
 use Rattle.orb_layout.specs.declared.pointer.OrbPointer.{OrbPointer}
 use Rattle.orb_layout.specs.declared.pointer.OrbPointer.TheVariants.{At, Null}
 use Rattle.orb_layout.specs.declared.status.StatusKind.{StatusKind}
@@ -15,7 +14,7 @@ use Rattle.rbc_disk.specs.Disk.{Disk}
 use Rattle.rbc_disk.specs.Runs.{Told}
 use Rattle.rbc_disk.specs.Units.{PlainDisk}
 use Rattle.command_agent.specs.Machine.{Machine, is_ahead}
-use Rattle.command_agent.specs.Steps.{ahead_read, ahead_step, asks, doorbell_step, point_step, quiet, reply_step, src_of}
+use Rattle.command_agent.specs.Steps.{ahead_step, asks, doorbell_step, point_step, quiet, reply_step, src_of}
 use Rattle.command_agent.specs.declared.step.AgentStep.{AgentStep}
 use Rattle.command_agent.specs.declared.step.PointRefusal.{PointRefusal}
 use Rattle.command_agent.specs.declared.step.Which.{Which}
@@ -52,6 +51,7 @@ use Rattle.turn_laws.proofs.PresentOrbs.{AllCalm, calm_notes, stands_there}
 use Rattle.turn_laws.proofs.Progresses.{whole_before}
 use Rattle.turn_laws.proofs.SilentTurns.{IsStatusServed, end_by_ends, status_served}
 use Rattle.turn_laws.proofs.StatusSteps.{EndsAs, IsEnd, reply_ends}
+use Rattle.sbp_world.proofs.Lists.EndReads.{ahead_none, none_if}
 
 -- ---- the notes of a turn begin none
 inner_from : (past : List Moment) (rest : List Note) → AllInner rest → EachTurnBefore (λ t. AllInner t.rest) past rest
@@ -123,17 +123,9 @@ module _ (start : List Disk) (past : List Moment) (reply : Reply) where
   replies_so moment e = absurd (nothing_no reply e)
 
 -- ---- the next pointer that counts
-read_none : (m : Machine) (bytes : Result (List ℕ) FailCause) → (ahead_read m bytes).0.ended ≡ None
-read_none m (Ok bytes) = refl
-read_none m (Err cause) = refl
-
-either_none : (b : Bool) (x y : AgentStep × Machine) → x.0.ended ≡ None → y.0.ended ≡ None → (cond b x y).0.ended ≡ None
-either_none true x y e f = e
-either_none false x y e f = f
-
 ahead_none : (m : Machine) (place : ℕ) (plain : PlainDisk) (told : Option Told) (answer : Answer) → (reply_step m place plain told Ahead answer).0.ended ≡ None
 unfolding reply_step
-ahead_none m place plain told answer = either_none (is_ahead m.ahead) (ahead_step m answer) (quiet, m) (read_none m (payload_of answer 32)) refl
+ahead_none m place plain told answer = none_if (is_ahead m.ahead) (ahead_step m answer) (quiet, m) (ahead_none m (payload_of answer 32)) refl
 
 src_same : (next : OrbPointer) → src_by next ≡ src_of next
 src_same Null = refl

@@ -2,6 +2,7 @@
 use Rattle.std.proofs.Common.{arith, ◌≡◌, ◌∙◌, refl, sym, ap, inl, inr, ◌⊎◌, ℕ, suc, ◌+◌, ◌==◌, ◌||◌, not, nat_eq, nat_lt, Bool, true, false, cond, List, [], ◌∷◌, ◌++◌, length, position, Some, None}
 use Rattle.std.specs.List.{position_or_len}
 use Rattle.std.proofs.lemmas.Bool.Decides.{nat_tests}
+use Rattle.std.proofs.lemmas.Bool.{or_parts}
 use Rattle.sbp_target.specs.Receiving.{removed}
 use Rattle.sbp_target.specs.Units.{is_node, is_pending}
 use Rattle.sbp_world.proofs.Common.{untrue}
@@ -40,10 +41,6 @@ abbrev pub Distinct : List ℕ → Type 0
 Distinct [] = Unit {0}
 Distinct (x ∷ xs) = (is_pending x xs ≡ false) × Distinct xs
 
-either : (a b : Bool) → (a || b) ≡ false → (a ≡ false) × (b ≡ false)
-either true b e = (e, untrue (sym e))
-either false b e = (refl, e)
-
 not_true : (b : Bool) → (b ≡ true → false ≡ true) → b ≡ false
 not_true true f = untrue (f refl)
 not_true false f = refl
@@ -51,7 +48,7 @@ not_true false f = refl
 pub distinct_more : (xs : List ℕ) (y : ℕ) → is_pending y xs ≡ false → Distinct xs → Distinct (xs ++ y ∷ [])
 distinct_more [] y e d = (refl, tt)
 distinct_more (x ∷ xs) y e d =
-    let f = either (y == x) (is_pending y xs) e in
+    let f = or_parts (y == x) (is_pending y xs) e in
     (not_true (is_pending x (xs ++ y ∷ [])) (λ g. by f.0 (more_pending x y xs g)), distinct_more xs y f.1 d.1)
   where
     by : (y == x) ≡ false → (is_pending x xs ≡ true) ⊎ (x ≡ y) → false ≡ true

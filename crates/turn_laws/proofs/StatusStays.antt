@@ -42,6 +42,7 @@ use Rattle.sbp_target.specs.declared.purpose.Sent.{Sent}
 use Rattle.sbp_target.proofs.Histories.Calling.{answer_known}
 use Rattle.sbp_target.proofs.Histories.Primitives.{Known, asks_known, began_off, disowned_off, disowns_known, live_on, nobody_is, none_known}
 use Rattle.sbp_target.proofs.Histories.Seats.{Lives, OffOne, same_is, split}
+use Rattle.sbp_world.proofs.Lists.AnswerComes.{same_found}
 
 -- ---- the transactions
 abbrev pub IsStatus : Lives → ℕ → LabelParts → ReplyKind → Type 0
@@ -75,9 +76,6 @@ same_life lives p l q m e = let s = same_is p l q m e in let a = s.peer in let b
 pub life_stays : (old new : Lives) (peer : ℕ) (label : LabelParts) → OffOne peer label old new → old peer label ≡ not_begun → (p : ℕ) (l : LabelParts) (kind : ReplyKind) → IsStatus old p l kind → IsStatus new p l kind
 life_stays old new peer label off fresh p l kind e =
     split (is_same peer label p l) (IsStatus new p l kind) (λ same. absurd (not_under (sym fresh ∙ (same_life old peer label p l same ∙ e)))) (λ other. off.off p l other ∙ e)
-
-same_sent : (a b : Sent) → Some a ≡ Some b → a ≡ b
-same_sent a b e = cc
 
 pub none_some : {A : Type 0} (x : Sent) → None ≡ Some x → A
 none_some x e = absurd (let f : None ≡ Some x = e in cc)
@@ -185,7 +183,7 @@ module _ (old : Lives) where
     main_out place peer s body (Some asked, layer) e h =
         let fresh = fresh_other s.node.layer peer body (purposes.Agent place) asked layer e h.lines in
         desk_set (record s.node { layer = layer }) place (record (desk_at s.node place) { main = Some (sent_to peer asked.label) })
-        (λ x f. subst IsOther (same_sent (sent_to peer asked.label) x f) fresh, (h.seated place).1)
+        (λ x f. subst IsOther (same_found (sent_to peer asked.label) x f) fresh, (h.seated place).1)
         (layer_set s.node layer (lines_ask s.node.layer peer body (purposes.Agent place) (Some asked, layer) (agent_no place) e h.lines) h)
 
     main_by : (body : Option Body) (place : ℕ) (login : Login) (s : Scene) → Still s.node → Still (main_asked body place login s).1.node
@@ -213,7 +211,7 @@ module _ (old : Lives) where
     ahead_out place peer s body (Some asked, layer) e h =
         let fresh = fresh_other s.node.layer peer body (purposes.Agent place) asked layer e h.lines in
         desk_set (record s.node { layer = layer }) place (record (desk_at s.node place) { ahead = Some (sent_to peer asked.label) })
-        ((h.seated place).0, λ x f. subst IsOther (same_sent (sent_to peer asked.label) x f) fresh)
+        ((h.seated place).0, λ x f. subst IsOther (same_found (sent_to peer asked.label) x f) fresh)
         (layer_set s.node layer (lines_ask s.node.layer peer body (purposes.Agent place) (Some asked, layer) (agent_no place) e h.lines) h)
 
     ahead_if : (b : Bool) (body : Body) (place : ℕ) (login : Login) (s : Scene) → Still s.node → Still (cond b (false, s) (ahead_sent place login.node s.node (request_step s.node.layer s.outbox login.node body (purposes.Agent place)))).1.node

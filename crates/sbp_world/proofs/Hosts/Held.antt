@@ -172,11 +172,11 @@ begins_own (Some u) s packet t v e =
 pub sent_begun : (s : ℕ) (packet : Sending) (t : Terms) (v : Transaction) → begun_by packet ≡ Some v → (sends s packet t).held v ≡ waits (kind_in (part_of packet.bytes)) s
 sent_begun s packet t v e = ap (λ (h : Transaction → Held). h v) (sends_held s packet t) ∙ begins_own (begun_by packet) s packet t v e
 
-gives_count : (found : Option Transaction) (rcode : ℕ) (t : Terms) → (gives found rcode t).count ≡ t.count
+pub gives_count : (found : Option Transaction) (rcode : ℕ) (t : Terms) → (gives found rcode t).count ≡ t.count
 gives_count None rcode t = refl
 gives_count (Some u) rcode t = refl
 
-pays_count : (owed : Option Owed) (sent : ℕ → Option Sending) (s : ℕ) (packet : Sending) (t : Terms) → (pays owed sent s packet t).count ≡ t.count
+pub pays_count : (owed : Option Owed) (sent : ℕ → Option Sending) (s : ℕ) (packet : Sending) (t : Terms) → (pays owed sent s packet t).count ≡ t.count
 pays_count None sent s packet t = refl
 pays_count (Some owed) sent s packet t = gives_count (asked_in (sent owed.serial)) (rcode_of packet.bytes) t
 

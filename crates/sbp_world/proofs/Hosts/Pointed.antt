@@ -263,7 +263,7 @@ module _ (ready : Bool) where
 
 -- ---- the beginning
 
-free_not : {A : Type 0} (kind : Kind) (serial : ℕ) → free ≡ waits kind serial → A
+pub free_not : {A : Type 0} (kind : Kind) (serial : ℕ) → free ≡ waits kind serial → A
 free_not kind serial e = absurd (differ kind serial e)
   where
     differ : (kind : Kind) (serial : ℕ) → free ≡ waits kind serial → ⊥

@@ -103,7 +103,7 @@ module _ (ms : List Moment) (w : WorldState) (i : ℕ) (inside : i < length w.in
       let b : nat_lt i (length w.initiators) ≡ true = grind (arith, nat_tests) in
       named_by (slot_of address) refl ∙ sym (ap (λ x. name_in (cond x (last_at (worlds.initiator_at w i).lists address) None)) b)
 
-some_same : {A : Type 0} {a b : A} → Some a ≡ Some b → a ≡ b
+pub some_same : {A : Type 0} {a b : A} → Some a ≡ Some b → a ≡ b
 some_same e = cc
 
 -- ---- what is known as a packet is delivered

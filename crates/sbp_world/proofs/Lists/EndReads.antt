@@ -82,7 +82,7 @@ pub none_if : (b : Bool) (x y : AgentStep × Machine) → x.0.ended ≡ None →
 none_if true x y h i = h
 none_if false x y h i = i
 
-ahead_none : (m : Machine) (r : Result (List ℕ) FailCause) → (ahead_read m r).0.ended ≡ None
+pub ahead_none : (m : Machine) (r : Result (List ℕ) FailCause) → (ahead_read m r).0.ended ≡ None
 ahead_none m (Ok bytes) = refl
 ahead_none m (Err cause) = refl
 

@@ -175,7 +175,7 @@ enters_by None decided id t = stay t.agents
 enters_by (Some place) None id t = stay t.agents
 enters_by (Some place) (Some decided) id t = set_rest t.agents place new_agent (λ e. refl)
 
-keys : (event : Option Event) (unit : ℕ) (t : Target) → (key_by event unit t).agents ≡ t.agents
+pub keys : (event : Option Event) (unit : ℕ) (t : Target) → (key_by event unit t).agents ≡ t.agents
 keys None unit t = refl
 keys (Some (events.Begin initiators ready)) unit t = refl
 keys (Some (events.Act initiator action)) unit t = refl

@@ -192,7 +192,7 @@ both_same a b c d e = (grind arith, grind arith)
 same_call : (kind other : ReplyKind) (call second : ℕ) → states.UnderWay kind call ≡ states.UnderWay other second → call ≡ second
 same_call kind other call second e = cc
 
-label_is : (label : LabelParts) (number generation call : ℕ) → number ≡ label.number → generation ≡ label.generation → call ≡ label.serial → record { number = number; generation = generation; serial = call } ≡ label
+pub label_is : (label : LabelParts) (number generation call : ℕ) → number ≡ label.number → generation ≡ label.generation → call ≡ label.serial → record { number = number; generation = generation; serial = call } ≡ label
 label_is label number generation call n g c =
     ap (λ x. record { number = x; generation = generation; serial = call }) n
     ∙ ap (λ x. record { number = label.number; generation = x; serial = call }) g
