@@ -2,6 +2,7 @@
 -- nodes that one is under way to are the same until a disc comes.
 use Rattle.std.proofs.Common.{◌≡◌, ◌≢◌, ◌∙◌, refl, sym, ap, subst, ℕ, zero, suc, ◌+◌, nat_lt, is_some, Bool, true, false, cond, List, [], ◌∷◌, length, Option, Some, None}
 use Rattle.std.specs.Prelude.{slice_index_or, slice_set}
+use Rattle.std.proofs.lemmas.Option.{same_Some}
 use Rattle.async_packet.specs.Labels.{LabelParts}
 use Rattle.async_packet.specs.Packet.{Packet}
 use Rattle.command_agent.specs.Machine.{Machine, is_under_way}
@@ -42,7 +43,6 @@ use Rattle.sbp_target.specs.declared.purpose.Sent.{Sent}
 use Rattle.sbp_target.proofs.Histories.Calling.{answer_known}
 use Rattle.sbp_target.proofs.Histories.Primitives.{Known, asks_known, began_off, disowned_off, disowns_known, live_on, nobody_is, none_known}
 use Rattle.sbp_target.proofs.Histories.Seats.{Lives, OffOne, same_is, split}
-use Rattle.sbp_world.proofs.Lists.AnswerComes.{same_found}
 
 -- ---- the transactions
 abbrev pub IsStatus : Lives → ℕ → LabelParts → ReplyKind → Type 0
@@ -183,7 +183,7 @@ module _ (old : Lives) where
     main_out place peer s body (Some asked, layer) e h =
         let fresh = fresh_other s.node.layer peer body (purposes.Agent place) asked layer e h.lines in
         desk_set (record s.node { layer = layer }) place (record (desk_at s.node place) { main = Some (sent_to peer asked.label) })
-        (λ x f. subst IsOther (same_found (sent_to peer asked.label) x f) fresh, (h.seated place).1)
+        (λ x f. subst IsOther (same_Some (sent_to peer asked.label) x f) fresh, (h.seated place).1)
         (layer_set s.node layer (lines_ask s.node.layer peer body (purposes.Agent place) (Some asked, layer) (agent_no place) e h.lines) h)
 
     main_by : (body : Option Body) (place : ℕ) (login : Login) (s : Scene) → Still s.node → Still (main_asked body place login s).1.node
@@ -211,7 +211,7 @@ module _ (old : Lives) where
     ahead_out place peer s body (Some asked, layer) e h =
         let fresh = fresh_other s.node.layer peer body (purposes.Agent place) asked layer e h.lines in
         desk_set (record s.node { layer = layer }) place (record (desk_at s.node place) { ahead = Some (sent_to peer asked.label) })
-        ((h.seated place).0, λ x f. subst IsOther (same_found (sent_to peer asked.label) x f) fresh)
+        ((h.seated place).0, λ x f. subst IsOther (same_Some (sent_to peer asked.label) x f) fresh)
         (layer_set s.node layer (lines_ask s.node.layer peer body (purposes.Agent place) (Some asked, layer) (agent_no place) e h.lines) h)
 
     ahead_if : (b : Bool) (body : Body) (place : ℕ) (login : Login) (s : Scene) → Still s.node → Still (cond b (false, s) (ahead_sent place login.node s.node (request_step s.node.layer s.outbox login.node body (purposes.Agent place)))).1.node
