@@ -1,5 +1,5 @@
 -- The deaths and ends of an agent's turn are due, where the turn's step at the target and at the terms is one: the notes name whom and what the laws name, and the first request finds a label by both.
-use Rattle.std.proofs.Common.{arith, ◌≡◌, ◌∙◌, refl, sym, ap, subst, ℕ, suc, is_some, Bool, true, false, cond, List, [], ◌∷◌, Option, Some, None}
+use Rattle.std.proofs.Common.{◌≡◌, ◌∙◌, refl, sym, ap, subst, ℕ, suc, is_some, Bool, true, false, cond, List, [], ◌∷◌, Option, Some, None}
 use Rattle.bus_transactions.specs.Fitting.{FitsRequest}
 use Rattle.bus_memory.specs.Windows.{start as slot_start}
 use Rattle.bus_memory.specs.declared.window.Window.TheVariants as windows

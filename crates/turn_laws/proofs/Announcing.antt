@@ -58,7 +58,7 @@ use Rattle.sbp_initiator.specs.Receiving.{receive_step}
 use Rattle.sbp_target.specs.Calls.{receives}
 use Rattle.sbp_target.specs.Desks.{which_in}
 use Rattle.sbp_target.specs.Histories.Layers.{first_of, layer_after}
-use Rattle.sbp_target.specs.Histories.Sides.{Announced, Announces, agent_tells, announced_as, announced_at, announced_from, announced_if, announced_to, decision_changes, delivery_tells, operation_tells, request_changes, reply_tells, unsent_then}
+use Rattle.sbp_target.specs.Histories.Sides.{Announced, Announces, agent_tells, announced_as, announced_at, announced_from, announced_if, announced_to, decision_changes, delivery_tells, operation_tells, request_changes, unsent_then}
 use Rattle.sbp_target.specs.Management.{with_manager}
 use Rattle.sbp_target.specs.Nodes.{NodeState, desk_at, login_at}
 use Rattle.sbp_target.specs.Nodes as target

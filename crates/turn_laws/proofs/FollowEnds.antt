@@ -1,5 +1,5 @@
 -- The deaths and ends that an agent's step brings about, as the target follows it: those of the step, and, where its first request finds no label, those of the loss.
-use Rattle.std.proofs.Common.{arith, ◌≡◌, ◌∙◌, refl, sym, ap, subst, ℕ, ◌<◌, nat_lt, is_some, Bool, true, false, cond, List, [], ◌∷◌, ◌++◌, append-nil, append_assoc, Option, Some, None}
+use Rattle.std.proofs.Common.{◌≡◌, ◌∙◌, refl, sym, ap, subst, ℕ, ◌<◌, nat_lt, is_some, Bool, true, false, cond, List, [], ◌∷◌, ◌++◌, append-nil, append_assoc, Option, Some, None}
 use Rattle.std.specs.List.{filter}
 use Rattle.std.proofs.lemmas.List.Elements.{filter-append}
 use Rattle.label_table.specs.declared.judgement.Asked.{Asked}
@@ -27,7 +27,7 @@ use Rattle.sbp_target.specs.Nodes.{NodeState, Scene, desk_at, scene, with_agent}
 use Rattle.sbp_target.specs.Sending.{request_step, sent_by}
 use Rattle.sbp_target.specs.Telling.{orb_of, tell_dead, tell_ended, tell_ran, tell_step}
 use Rattle.sbp_world.proofs.Agents.Walk.{Holds, holds_set, holds_still, notes_hold}
-use Rattle.sbp_laws.specs.Targets.{Agent, new_agent}
+use Rattle.sbp_laws.specs.Targets.{new_agent}
 
 -- ---- deaths and ends
 abbrev pub is_end : Side → Bool
