@@ -51,7 +51,7 @@ use Rattle.turn_laws.proofs.PresentOrbs.{AllCalm, calm_notes, stands_there}
 use Rattle.turn_laws.proofs.Progresses.{whole_before}
 use Rattle.turn_laws.proofs.SilentTurns.{IsStatusServed, end_by_ends, status_served}
 use Rattle.turn_laws.proofs.StatusSteps.{EndsAs, IsEnd, reply_ends}
-use Rattle.sbp_world.proofs.Lists.EndReads.{ahead_none, none_if}
+use Rattle.sbp_world.proofs.Lists.EndReads.{ahead_none as read_none, none_if}
 
 -- ---- the notes of a turn begin none
 inner_from : (past : List Moment) (rest : List Note) → AllInner rest → EachTurnBefore (λ t. AllInner t.rest) past rest
@@ -125,7 +125,7 @@ module _ (start : List Disk) (past : List Moment) (reply : Reply) where
 -- ---- the next pointer that counts
 ahead_none : (m : Machine) (place : ℕ) (plain : PlainDisk) (told : Option Told) (answer : Answer) → (reply_step m place plain told Ahead answer).0.ended ≡ None
 unfolding reply_step
-ahead_none m place plain told answer = none_if (is_ahead m.ahead) (ahead_step m answer) (quiet, m) (ahead_none m (payload_of answer 32)) refl
+ahead_none m place plain told answer = none_if (is_ahead m.ahead) (ahead_step m answer) (quiet, m) (read_none m (payload_of answer 32)) refl
 
 src_same : (next : OrbPointer) → src_by next ≡ src_of next
 src_same Null = refl
