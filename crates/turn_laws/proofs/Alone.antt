@@ -304,51 +304,59 @@ module _ (units ready : ℕ) (has : 0 < units) (start : List Disk) where
   alone_cases = record {
     heard = λ past s serial again run one found zero_to may others here behind judged k.
         let x = received run one.generation one.bytes (whole_of s.world.target s.media) in
-        let v = with_note (judged_note serial x.0) (marked serial again (with_target x.1.node s.world)) in
-        (heard_alone units ready has start past s here k serial run one found v (λ p. marked_holder serial again (with_target x.1.node s.world) p) others,
-        heard_kept units ready has start past s here k serial again run one found zero_to (record { disks = x.1.disks; faults = faults_after run one s.world.target s.media }) behind others behind);
+        let v = with_note (judged_note serial x.0) (marked serial again (with_target x.1.node s.world)) in (
+          heard_alone units ready has start past s here k serial run one found v (λ p. marked_holder serial again (with_target x.1.node s.world) p) others,
+          heard_kept units ready has start past s here k serial again run one found zero_to (record { disks = x.1.disks; faults = faults_after run one s.world.target s.media }) behind others behind,
+        );
     heard_own = λ past s serial again one i found to_is inside own here behind judged k.
         let x = receive_step one.generation one.bytes empty_outbox (initiator_at s.world i) in
         let note = judged_note serial x.0 in
         let v = with_note note (marked serial again (with_initiator i x.1.1 s.world)) in
-        let m = marked_same serial again (with_initiator i x.1.1 s.world) in
-        (own_alone (hist past s.world) (said note) (suc i) 0 x.1.0 v own,
-        own_turn units ready has start past s here k i 0 note (judged_no_sent serial x.0)
-        (heard_leaves units ready has start past s here k serial one found i to_is x.0) (heard_injected units ready has start past s here k serial one found i to_is x.0)
-        x.1.0 v (ap (λ ns. note ∷ ns) m.1.1) m.0 (ap (λ xs. length xs) m.1.0 ∙ length-set s.world.initiators i x.1.1) own behind);
-    late = λ past s serial request done t found node_is e others here behind judged k.
-        (still_alone (hist past s.world) (said (notes.TimedOut serial)) t.outbox _ others
-        (subst (λ (x : Result (Unit {0}) Stale × target.Scene). NoPushes x.1.outbox.sides) e (plain_none _ (side_law.expiries request.peer request.label s.world.target))),
-        late_kept units ready has start past s here k serial request done t found node_is e others behind);
+        let m = marked_same serial again (with_initiator i x.1.1 s.world) in (
+          own_alone (hist past s.world) (said note) (suc i) 0 x.1.0 v own,
+          own_turn units ready has start past s here k i 0 note (judged_no_sent serial x.0)
+              (heard_leaves units ready has start past s here k serial one found i to_is x.0) (heard_injected units ready has start past s here k serial one found i to_is x.0)
+              x.1.0 v (ap (λ ns. note ∷ ns) m.1.1) m.0 (ap (λ xs. length xs) m.1.0 ∙ length-set s.world.initiators i x.1.1) own behind,
+        );
+    late = λ past s serial request done t found node_is e others here behind judged k. (
+      still_alone (hist past s.world) (said (notes.TimedOut serial)) t.outbox _ others
+          (subst (λ (x : Result (Unit {0}) Stale × target.Scene). NoPushes x.1.outbox.sides) e (plain_none _ (side_law.expiries request.peer request.label s.world.target))),
+      late_kept units ready has start past s here k serial request done t found node_is e others behind,
+    );
     late_own = λ past s serial request i outbox state found node_is inside e own here behind judged k.
-        let v = with_note (notes.TimedOut serial) (with_initiator i state s.world) in
-        (own_alone (hist past s.world) (said (notes.TimedOut serial)) (suc i) 0 outbox v own,
-        own_turn units ready has start past s here k i 0 (notes.TimedOut serial) tt
-        (late_leaves units ready has start past s here k serial request i found node_is) (late_same units ready has start past s here k serial request i found node_is)
-        outbox v refl refl (length-set s.world.initiators i state) own behind);
+        let v = with_note (notes.TimedOut serial) (with_initiator i state s.world) in (
+          own_alone (hist past s.world) (said (notes.TimedOut serial)) (suc i) 0 outbox v own,
+          own_turn units ready has start past s here k i 0 (notes.TimedOut serial) tt
+              (late_leaves units ready has start past s here k serial request i found node_is) (late_same units ready has start past s here k serial request i found node_is)
+              outbox v refl refl (length-set s.world.initiators i state) own behind,
+        );
     sees = λ past s others here behind judged k.
         let g = s.world.generations.latest in
-        let x = (seen g.generation (id_of g 0) (target.scene s.world.target empty_outbox)).1 in
-        (still_alone (hist past s.world) (said (notes.Seen 0 g.generation)) x.outbox _ others
-        (silent_none x.outbox.sides (subst AreSilent (sym (side_law.sights g.generation (id_of g 0) s.world.target)) (sight_silent g.generation s.world.target))),
-        sight_kept units ready has start past s here k x refl others behind);
+        let x = (seen g.generation (id_of g 0) (target.scene s.world.target empty_outbox)).1 in (
+          still_alone (hist past s.world) (said (notes.Seen 0 g.generation)) x.outbox _ others
+              (silent_none x.outbox.sides (subst AreSilent (sym (side_law.sights g.generation (id_of g 0) s.world.target)) (sight_silent g.generation s.world.target))),
+          sight_kept units ready has start past s here k x refl others behind,
+        );
     sees_own = λ past s i inside own here behind judged k.
         let g = s.world.generations.latest in
         let x = see_step g.generation (id_of g (suc i)) (id_of g 0) empty_outbox (initiator_at s.world i) in
-        let v = with_initiator i x.1 (with_seen (suc i) (told_seen (suc i) s.world)) in
-        (own_alone (hist past s.world) (said (notes.Seen (suc i) g.generation)) (suc i) 0 x.0 v own,
-        own_turn units ready has start past s here k i 0 (notes.Seen (suc i) g.generation) tt
-        (sight_leaves units ready has start past s here k i g.generation) refl x.0 v refl refl (length-set s.world.initiators i x.1) own behind);
+        let v = with_initiator i x.1 (with_seen (suc i) (told_seen (suc i) s.world)) in (
+          own_alone (hist past s.world) (said (notes.Seen (suc i) g.generation)) (suc i) 0 x.0 v own,
+          own_turn units ready has start past s here k i 0 (notes.Seen (suc i) g.generation) tt
+              (sight_leaves units ready has start past s here k i g.generation) refl x.0 v refl refl (length-set s.world.initiators i x.1) own behind,
+        );
     ticks = λ past s others here behind judged k.
-        let x = ticked (target.scene s.world.target empty_outbox) in
-        (still_alone (hist past s.world) (said notes.Tick) x.outbox _ others
-        (silent_none x.outbox.sides (subst AreSilent (sym (side_law.seconds s.world.target)) (expired_silent (expired_ids s.world.target.logins.places)))),
-        tick_kept units ready has start past s here k x refl others behind);
+        let x = ticked (target.scene s.world.target empty_outbox) in (
+          still_alone (hist past s.world) (said notes.Tick) x.outbox _ others
+              (silent_none x.outbox.sides (subst AreSilent (sym (side_law.seconds s.world.target)) (expired_silent (expired_ids s.world.target.logins.places)))),
+          tick_kept units ready has start past s here k x refl others behind,
+        );
     ends = λ past s done here behind k. (ends_alone (hist past s.world) done, end_kept units ready has start past s here k done);
     acts = λ past s line i action outbox state inside e own here behind k.
-        let v = with_initiator i state (without_notes s.world) in
-        (own_alone (hist past s.world) (asked line (events.Act i action)) (i + 1) (weight_in action) outbox v own,
-        act_turn units ready has start past s here k line i (weight_in action) (events.Act i action) outbox v refl refl (length-set s.world.initiators i state) own behind);
+        let v = with_initiator i state (without_notes s.world) in (
+          own_alone (hist past s.world) (asked line (events.Act i action)) (i + 1) (weight_in action) outbox v own,
+          act_turn units ready has start past s here k line i (weight_in action) (events.Act i action) outbox v refl refl (length-set s.world.initiators i state) own behind,
+        );
     lines = λ past s line event rest behind brings fresh here there stays k.
         (line_alone start line s (hist past s.world) event rest brings, brought_kept units ready has start past s here k line event rest behind brings fresh there stays);
     begins = λ line initiators is_ready. tt;

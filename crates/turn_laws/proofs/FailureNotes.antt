@@ -252,7 +252,7 @@ module _ (units ready : ℕ) (has : 0 < units) (start : List Disk) where
 
         target_due : (outbox : OutboxState) (v : WorldState) → Stands past (handed_out 0 0 outbox v)
             → (let x = received run one.generation one.bytes (whole_of node s.media) in
-               v.fresh ≡ judged_note serial x.0 ∷ w.fresh → AreJudged (said (judged_note serial x.0) ∷ ms) → Due (judged_note serial x.0) (failing x.1.outbox.sides))
+            v.fresh ≡ judged_note serial x.0 ∷ w.fresh → AreJudged (said (judged_note serial x.0) ∷ ms) → Due (judged_note serial x.0) (failing x.1.outbox.sides))
         unfolding received
         target_due outbox v then fresh_is j =
             let f = judging_step node.layer one.generation one.bytes in

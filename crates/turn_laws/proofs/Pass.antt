@@ -307,9 +307,11 @@ module _ (units ready : ℕ) (start : List Disk) (K : List Moment → Scene → 
           let told : AreOwn outbox.sides = subst (λ (z : Option ℕ × Called). own.At z.1) e (own.acts action empty_outbox (initiator_at s.world i) tt) in
           let inner = handed_inner (i + 1) (weight_in action) outbox v (own_inner outbox.sides told) in
           λ there.
-          let r = cases.acts past s line i action outbox state inside e told here there before.1 in
-          (subst (λ ns. Each (map said ns ++ now (events.Act i action))) (sym (handed_fresh (i + 1) (weight_in action) outbox v))
-          (by_line L line (events.Act i action) rest (hist past s.world) inner r.0 before.0), r.1)
+          let r = cases.acts past s line i action outbox state inside e told here there before.1 in (
+            subst (λ ns. Each (map said ns ++ now (events.Act i action))) (sym (handed_fresh (i + 1) (weight_in action) outbox v))
+                (by_line L line (events.Act i action) rest (hist past s.world) inner r.0 before.0),
+            r.1,
+          )
 
       acts : Goes (events.Act i action) (in_scene (acted line i action first) s)
       unfolding acted
@@ -454,7 +456,7 @@ module _ (K : List Disk → List Moment → Scene → Type 0) (L : List Disk →
 
   pub turns_between : (entries : List Entry) → length entries + 2 < 2 ^ 32 → AreEntries (beginning run) entries → AreLines run entries → (next : ℕ) (most : Option ℕ) (told : List (Option Told))
       → (let s = begun (after (beginning run) entries) in
-         MayAll told s → EachTurn (L disks) (map said (after_all told s).world.fresh ++ asked next (more_deliveries most) ∷ moments_behind line run entries))
+      MayAll told s → EachTurn (L disks) (map said (after_all told s).world.fresh ++ asked next (more_deliveries most) ∷ moments_behind line run entries))
   turns_between entries short every fit next most told may =
       let b = all_behind entries short every fit in
       let s = after (beginning run) entries in

@@ -75,7 +75,6 @@ use Rattle.turn_laws.proofs.StatusLates.{seconds}
 use Rattle.turn_laws.proofs.StatusRows.{Row, life_of}
 use Rattle.turn_laws.proofs.StatusStays.{IsStatus, left_if}
 
-
 -- ---- an initiator has no such packets to tell of
 all_leave : (from : ℕ) (g : GenerationsState) (packets : List Outgoing) → AllLeave (λ to bytes. Unit {0}) from g packets
 all_leave from g [] = tt
@@ -426,19 +425,19 @@ module _ (units ready : ℕ) (has : 0 < units) (start : List Disk) (past : List 
   brought_kept line event rest behind (calls is_event c) fresh there stays = moved_kept line event [] behind fresh there stays (line_kept line event)
   brought_kept line event rest behind (refuses is_event number) fresh there stays =
       moved_kept line event (notes.Refused line number ∷ []) behind fresh there stays
-        (noted_so line event (notes.Refused line number ∷ []) behind fresh there stays (notes.Refused line number) tt refl refl refl (λ n r. refl))
+      (noted_so line event (notes.Refused line number ∷ []) behind fresh there stays (notes.Refused line number) tt refl refl refl (λ n r. refl))
   brought_kept line event rest behind (refuses_action i action number e) fresh there stays =
       moved_kept line (events.Act i action) (notes.Refused line number ∷ []) behind fresh there stays
-        (noted_so line (events.Act i action) (notes.Refused line number ∷ []) behind fresh there stays (notes.Refused line number) tt refl refl refl (λ n r. refl))
+      (noted_so line (events.Act i action) (notes.Refused line number ∷ []) behind fresh there stays (notes.Refused line number) tt refl refl refl (λ n r. refl))
   brought_kept line event rest behind (resets physical generation e) fresh there stays =
       moved_kept line (events.Reset physical) (notes.Reset generation ∷ []) behind fresh there stays
-        (noted_so line (events.Reset physical) (notes.Reset generation ∷ []) behind fresh there stays (notes.Reset generation) tt refl refl refl (λ n r. refl))
+      (noted_so line (events.Reset physical) (notes.Reset generation ∷ []) behind fresh there stays (notes.Reset generation) tt refl refl refl (λ n r. refl))
   brought_kept line event rest behind (loses serial) fresh there stays =
       moved_kept line (events.Lose serial) (notes.Lost serial ∷ []) behind fresh there stays
-        (noted_so line (events.Lose serial) (notes.Lost serial ∷ []) behind fresh there stays (notes.Lost serial) tt refl refl refl (λ n r. refl))
+      (noted_so line (events.Lose serial) (notes.Lost serial ∷ []) behind fresh there stays (notes.Lost serial) tt refl refl refl (λ n r. refl))
   brought_kept line event rest behind (sets_key unit key) fresh there stays =
       moved_kept line (events.Key unit key) (notes.Key unit ∷ []) behind fresh there stays
-        (noted_so line (events.Key unit key) (notes.Key unit ∷ []) behind fresh there stays (notes.Key unit) tt refl refl refl (λ n r. refl))
+      (noted_so line (events.Key unit key) (notes.Key unit ∷ []) behind fresh there stays (notes.Key unit) tt refl refl refl (λ n r. refl))
   brought_kept line event rest behind (injects i bytes serial generation from to) fresh there stays =
       let notes_then = notes.Injected serial ∷ notes.Sent serial generation from to bytes ∷ [] in
       let laws = there_laws line (events.Inject i bytes) notes_then behind fresh there stays (said (notes.Sent serial generation from to bytes) ∷ said (notes.Injected serial) ∷ asked line (events.Inject i bytes) ∷ ms) refl in

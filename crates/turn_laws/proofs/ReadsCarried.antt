@@ -326,13 +326,13 @@ module _ (ready : Bool) (serial generation : ℕ) (bytes : List ℕ) (past : Lis
               goes count (stays_or_ends s _ t.1 (hears_left s generation bytes (hears_fit ready i s own_heard generation bytes)))
               (λ n act list a. lives_of ready i t.1 then_called t.1.target n act list a)
               (states_step ready i s own_heard (receives generation bytes) tt ∙ ap (λ (x : InitiatorState). finding_reads (judging_step x.layer generation bytes).0 s.states) own_heard.is
-                  ∙ finding_left finding s.states)
+              ∙ finding_left finding s.states)
               (reads_by_judged judged)
               (h.pairs f_past (told_timely t.0.sides heard_now left.told m).1);
           first = λ f. first_on past (behind t.0.sides heard_now) i s
               (goes_then (host_at past i) (host_at heard_now i) (host_at (behind t.0.sides heard_now) i) goes (told_first t.0.sides heard_now i left.told))
               (let w = ap (λ (x : Terms). x.count) (tame_told t.0.sides heard_now i left.told).wire in omega (arith, w, count))
-                  (h.first (judged_fit serial judged past ((tame_told t.0.sides heard_now i left.told).fit f)));
+              (h.first (judged_fit serial judged past ((tame_told t.0.sides heard_now i left.told).fit f)));
         };
         others = λ j x e g. told_paired ready t.0.sides heard_now j x left.told (tells.others j x e g.guarded) g;
       }
@@ -381,12 +381,12 @@ module _ (ready : Bool) (serial : ℕ) (label : LabelParts) (past : List Moment)
               zipped_then past late i s (expiring_step s.layer s.target label).1 late_turn over (ended_late lapsed)
               after_it (expiring_stays s.layer s.target label) (expired_called ready s.layer s.target label layer_called) left
               (λ n k o e g. late_on past f_now.serials serial timely.0 s.layer.generation i n k o e g)
-                  (λ n k o e g k' o' w. late_off past f_now.serials serial timely.0 s.layer.generation i n k o e g k' o' w)
+              (λ n k o e g k' o' w. late_off past f_now.serials serial timely.0 s.layer.generation i n k o e g k' o' w)
               (λ n q a. expire_at s.layer s.target label s.target n q layer_called a) on_late
               goes count (stays_or_ends s _ late_turn.1 (lapses_left s label (expires_fit ready i s own_calls label)))
               (λ n act list a. lives_of ready i late_turn.1 then_called late_turn.1.target n act list a)
               (states_step ready i s own_calls (lets_expire label) tt ∙ ap (λ (x : InitiatorState). expired_reads (expiring_step x.layer x.target label).0 s.states) own_calls.is
-                  ∙ lapsed_left lapsed s.states)
+              ∙ lapsed_left lapsed s.states)
               (late_reads serial past i)
               (h.pairs (record { serials = f_now.serials; sent = f_now.sent }) timely.1);
           first = λ f. first_on past (behind late_turn.0.sides late) i s
@@ -419,7 +419,7 @@ module _ (ready : Bool) (generation id target : ℕ) (past : List Moment) (i : �
       let calls = h.guarded.pointed.cored.own.called in
       let none : seen_turn.1.states ≡ [] =
       states_step ready i s calls (sees_call generation id target) tt ∙ ap (λ (x : InitiatorState). cond (nat_lt x.layer.generation generation) [] s.states) calls.is
-          ∙ ap (λ b. cond b [] s.states) e in
+      ∙ ap (λ b. cond b [] s.states) e in
       let nothing : Reads (behind seen_turn.0.sides sight) i ≡ [] =
       told_reads seen_turn.0.sides sight i told_tame ∙ seen_reads generation past i ∙ ap (λ b. (reset_seen b (host_at past i)).reads) (is_new ∙ e) in
       subst (λ acts. AreZipped (IsPair (behind seen_turn.0.sides sight) i seen_turn.1) (Reads (behind seen_turn.0.sides sight) i) acts) (sym none)
@@ -442,7 +442,7 @@ module _ (ready : Bool) (generation id target : ℕ) (past : List Moment) (i : �
               seen_pairs (record { serials = g.serials; sent = g.sent }) (told_timely seen_turn.0.sides sight told_tame m).1 (nat_lt s.layer.generation generation) refl;
           first = λ f. first_on past (behind seen_turn.0.sides sight) i s
               (goes_then (host_at past i) (host_at sight i) (host_at (behind seen_turn.0.sides sight) i) (note_first (notes.Seen (suc i) generation) past i refl)
-                  (told_first seen_turn.0.sides sight i told_tame))
+              (told_first seen_turn.0.sides sight i told_tame))
               (let w = ap (λ (x : Terms). x.count) (tame_told seen_turn.0.sides sight i told_tame).wire in omega (arith, w, count))
               (let g = (tame_told seen_turn.0.sides sight i told_tame).fit f in h.first (record { serials = g.serials; sent = g.sent }));
         };
@@ -500,7 +500,7 @@ module _ (ready : Bool) (action : Action) (past : List Moment) (i : ℕ) (s : In
       let calls = cored.own.called in
       let turn = after i ready calls.calls in
       let none : (act_step action turn.0 turn.1).0 ≡ None = refusal_law.first action turn.0 turn.1 ∙ sym (refusal_law.first action empty_outbox turn.1)
-          ∙ ap (λ (x : InitiatorState). (act_step action empty_outbox x).0) calls.is ∙ done_is in
+      ∙ ap (λ (x : InitiatorState). (act_step action empty_outbox x).0) calls.is ∙ done_is in
       states_step ready i s calls (act_call action) fit.0
       ∙ ap (λ r. read_begun r action turn.1.counts.acts s.states) none
       ∙ ap (λ (x : InitiatorState). cond (is_read action) (s.states ++ x.counts.acts ∷ []) s.states) calls.is
@@ -546,7 +546,7 @@ module _ (ready : Bool) (action : Action) (past : List Moment) (i : ℕ) (s : In
     quiet_pairs z =
         subst (λ acts. AreZipped (IsPair ms i act_turn.1) (Reads ms i) acts) (sym (states_now ∙ ap (λ b. cond b (s.states ++ s.counts.acts ∷ []) s.states) (not_read (is_read action) refl)))
         (subst (λ rs. AreZipped (IsPair ms i act_turn.1) rs s.states) (sym (told_reads act_turn.0.sides past i left.told))
-            (zipped_map (IsPair past i s) (IsPair ms i act_turn.1) quiet_pair (Reads past i) s.states z))
+        (zipped_map (IsPair past i s) (IsPair ms i act_turn.1) quiet_pair (Reads past i) s.states z))
 
   -- and one that sends a request
   module _ (packet : Outgoing) (one : act_turn.0.packets ≡ packet ∷ []) (serial generation : ℕ) (injected : (terms past).injected serial ≡ false) (q : IsRequest (number_in packet.label) packet.bytes) where
@@ -605,7 +605,7 @@ module _ (ready : Bool) (action : Action) (past : List Moment) (i : ℕ) (s : In
         held =
             ap (λ g. (terms now).held (transaction g (suc i) 0 p.number)) stays
             ∙ sent_waits (terms ms) serial sending f.sent.0 (transaction s.layer.generation (suc i) 0 p.number) p.kind read.serial
-                (ap (λ (y : Terms). y.held (transaction s.layer.generation (suc i) 0 p.number)) told.wire ∙ p.held);
+            (ap (λ (y : Terms). y.held (transaction s.layer.generation (suc i) 0 p.number)) told.wire ∙ p.held);
         order = λ u e r g. by begins refl u e r g;
         below = (let b = p.below in let c = count_is in let d = count_now in omega (arith, b, c, d));
       }
@@ -659,9 +659,9 @@ module _ (ready : Bool) (action : Action) (past : List Moment) (i : ℕ) (s : In
           held =
               ap (λ g. (terms now).held (transaction g (suc i) 0 number)) stays
               ∙ sent_begun serial sending (terms ms) (begun_at number)
-                  (asked_begun sending (between sending sending.from sending.to (number_in packet.label)) honest (request_asked sending (number_in packet.label) q.kind q.part)
-                  ∙ ap (λ g. Some (transaction g (suc i) 0 (number_in packet.label))) generation_is
-                  ∙ ap (λ m. Some (begun_at m)) (ap number_in x.label));
+              (asked_begun sending (between sending sending.from sending.to (number_in packet.label)) honest (request_asked sending (number_in packet.label) q.kind q.part)
+              ∙ ap (λ g. Some (transaction g (suc i) 0 (number_in packet.label))) generation_is
+              ∙ ap (λ m. Some (begun_at m)) (ap number_in x.label));
           order = λ u e r g.
               let w = (goes_now (same_operation action ∙ none_begins)).on u e in
               let b = h.first fit_past w.was w.is in
@@ -682,14 +682,14 @@ module _ (ready : Bool) (action : Action) (past : List Moment) (i : ℕ) (s : In
           subst (λ acts. AreZipped (IsPair now i act_turn.1) (Reads now i) acts) (sym (states_now ∙ ap (λ b. cond b (s.states ++ s.counts.acts ∷ []) s.states) e))
           (subst (λ rs. AreZipped (IsPair now i act_turn.1) rs s.states)
           (sym (ap (λ (y : Host). y.reads) host_is ∙ acted_reads action (present_list ms i) serial (host_at ms i) (λ is. untrue (sym e ∙ ap is_read is))
-              ∙ told_reads act_turn.0.sides past i left.told))
+          ∙ told_reads act_turn.0.sides past i left.told))
           (zipped_map (IsPair past i s) (IsPair now i act_turn.1) old_pair (Reads past i) s.states z))
       asking_pairs true e z =
           let is = is_state action e in
           subst (λ acts. AreZipped (IsPair now i act_turn.1) (Reads now i) acts) (sym (states_now ∙ ap (λ b. cond b (s.states ++ s.counts.acts ∷ []) s.states) e))
           (subst (λ rs. AreZipped (IsPair now i act_turn.1) rs (s.states ++ s.counts.acts ∷ []))
           (sym (ap (λ (y : Host). y.reads) host_is ∙ ap (λ a. (acted a (operation_of a) (present_list ms i) serial (host_at ms i)).reads) is
-              ∙ ap (λ rs. rs ++ new_read is ∷ []) (told_reads act_turn.0.sides past i left.told)))
+          ∙ ap (λ rs. rs ++ new_read is ∷ []) (told_reads act_turn.0.sides past i left.told)))
           (zipped_more (IsPair past i s) (IsPair now i act_turn.1) old_pair (Reads past i) s.states (new_read is) s.counts.acts (new_pair is) z))
 
       first_now : (o : Option Operation) → begins ≡ o → (u : Underway) → (host_at now i).operation ≡ Some u → u.first ≤ (terms now).count

@@ -306,7 +306,7 @@ module _ (layer : Layer Purpose) (peer number : ℕ) (purpose : Option Purpose) 
   pub judge_goes : (generation : ℕ) (bytes : List ℕ) → At (judging_step layer generation bytes).1 peer number purpose ⊎ ClosedFor (judging_step layer generation bytes).0 purpose
   judge_goes generation bytes =
       by (found_runs (judging_step old generation bytes).0 bytes
-          (λ p label other e. closes_at layer generation bytes p label other c (ap (λ (l : Layer Purpose). (judging_step l generation bytes).0) (sym c.is) ∙ e)))
+      (λ p label other e. closes_at layer generation bytes p label other c (ap (λ (l : Layer Purpose). (judging_step l generation bytes).0) (sym c.is) ∙ e)))
     where
       by : Runs (life peer name (and_before (told_by_finding (judging_step old generation bytes).0 bytes) lived)) ⊎ ClosedFor (judging_step old generation bytes).0 purpose
           → At (judging_step layer generation bytes).1 peer number purpose ⊎ ClosedFor (judging_step layer generation bytes).0 purpose
@@ -438,7 +438,7 @@ module _ (past now : List Moment) (i : ℕ) (s : InitiatorState) (l : Layer Purp
       at_now : StateAt l s.target p.number act p.list
       at_now =
           let u = under_way_now (state_for l.peers s.target p.number) (kind_as p.kind)
-              (shown.states p.number ∙ ap (λ g. shape_of ((terms now).held (transaction g (suc i) 0 p.number))) generation_is ∙ ap shape_of held_now) in
+          (shown.states p.number ∙ ap (λ g. shape_of ((terms now).held (transaction g (suc i) 0 p.number))) generation_is ∙ ap shape_of held_now) in
           let x : At l s.target p.number (purpose_for l.peers s.target p.number) = record { kind = u.kind; serial = u.serial; state = u.is; is_for = refl } in
           let c = back p.number (purpose_for l.peers s.target p.number) x in
           record { kind = u.kind; serial = u.serial; state = u.is; is_for = sym c.is_for ∙ p.at.is_for }

@@ -86,7 +86,7 @@ module _ (units ready : ℕ) (start : List Disk) where
         was_under_way
         (ap (λ b. (cond b (at_target (target_expired request w.target) w) (initiator_expires request w)).0) other
         ∙ ap (λ j. (cond (nat_lt j (length w.initiators)) (at_initiator j (expire_step request.label empty_outbox (initiator_at w j)) w) (false, (empty_outbox, w))).0)
-            (let z : request.node - 1 ≡ i = omega arith in z)
+        (let z : request.node - 1 ≡ i = omega arith in z)
         ∙ ap (λ b. (cond b (at_initiator i (expire_step request.label empty_outbox (initiator_at w i)) w) (false, (empty_outbox, w))).0) there
         ∙ at_own_is i (expire_step request.label empty_outbox (initiator_at w i)) w
         ∙ ap (λ (y : Bool × _). y.0) e)

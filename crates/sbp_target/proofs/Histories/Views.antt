@@ -133,73 +133,73 @@ module _ (Q : List Side → Type 0) where
   behind_sides lose place login _ _ (moves.asks_ahead ask body s e) h = ahead_tells place login.node s.node _ (requests s login.node body (purposes.Agent place) h)
 
   module _
-    (sent : (told : List Side) (place : ℕ) → Q told → Q (told ++ sides.Unsolicited place ∷ []))
-    (unsent : (told : List Side) (place : ℕ) → Q told → Q (told ++ sides.Unsent place ∷ []))
+      (sent : (told : List Side) (place : ℕ) → Q told → Q (told ++ sides.Unsolicited place ∷ []))
+      (unsent : (told : List Side) (place : ℕ) → Q told → Q (told ++ sides.Unsent place ∷ []))
     where
-    disc_tells : (place peer : ℕ) (node : NodeState) (r : Option LabelParts × (Layer Purpose × OutboxState)) → Q r.1.1.sides → Q (unsolicited_by place peer node r).outbox.sides
-    disc_tells place peer node (Some label, (layer, outbox)) h = sent outbox.sides place h
-    disc_tells place peer node (None, (layer, outbox)) h = unsent outbox.sides place h
+      disc_tells : (place peer : ℕ) (node : NodeState) (r : Option LabelParts × (Layer Purpose × OutboxState)) → Q r.1.1.sides → Q (unsolicited_by place peer node r).outbox.sides
+      disc_tells place peer node (Some label, (layer, outbox)) h = sent outbox.sides place h
+      disc_tells place peer node (None, (layer, outbox)) h = unsent outbox.sides place h
 
-    pub announced_sides : (unit from : ℕ) (x y : Scene) → Announced unit from x y → Q x.outbox.sides → Q y.outbox.sides
-    announced_sides unit from _ _ (moves.pushes place login s e) h = disc_tells place login.node s.node _ (requests s login.node (block_write login.fifo block) purposes.Unsolicited h)
-    announced_sides unit from _ _ (moves.withholds place login s e) h = unsent s.outbox.sides place h
+      pub announced_sides : (unit from : ℕ) (x y : Scene) → Announced unit from x y → Q x.outbox.sides → Q y.outbox.sides
+      announced_sides unit from _ _ (moves.pushes place login s e) h = disc_tells place login.node s.node _ (requests s login.node (block_write login.fifo block) purposes.Unsolicited h)
+      announced_sides unit from _ _ (moves.withholds place login s e) h = unsent s.outbox.sides place h
 
 module _ (k : Kind) where
   -- ---- what is told: each step whole
   module _
-    (Q : List Side → Type 0)
-    (notes_tell : (place : ℕ) (step : AgentStep) (s : Scene) → k.Fits step → Q s.outbox.sides → Q (noted place step s).outbox.sides)
-    (f : (told : List Side) (side : Side) → Plain k side → Q told → Q (told ++ side ∷ []))
+      (Q : List Side → Type 0)
+      (notes_tell : (place : ℕ) (step : AgentStep) (s : Scene) → k.Fits step → Q s.outbox.sides → Q (noted place step s).outbox.sides)
+      (f : (told : List Side) (side : Side) → Plain k side → Q told → Q (told ++ side ∷ []))
     where
-    cut_tells : (b : Bool) (place : ℕ) (cause : CutCause) (o : OutboxState) → k.MayCut → Q o.sides → Q (told_cut b place cause o).sides
-    cut_tells true place cause o c h = h
-    cut_tells false place cause o c h = f o.sides _ (moves.was_cut place cause c) h
+      cut_tells : (b : Bool) (place : ℕ) (cause : CutCause) (o : OutboxState) → k.MayCut → Q o.sides → Q (told_cut b place cause o).sides
+      cut_tells true place cause o c h = h
+      cut_tells false place cause o c h = f o.sides _ (moves.was_cut place cause c) h
 
-    left_tells : (x : Option ℕ) (o : OutboxState) → k.MayDecide → Q o.sides → Q (tell_left x o).sides
-    left_tells None o a h = h
-    left_tells (Some login) o a h = f o.sides _ (moves.departed login a) h
+      left_tells : (x : Option ℕ) (o : OutboxState) → k.MayDecide → Q o.sides → Q (tell_left x o).sides
+      left_tells None o a h = h
+      left_tells (Some login) o a h = f o.sides _ (moves.departed login a) h
 
-    behind_tells : Lost k → (place : ℕ) (login : Login) (x y : Scene) → Behind place login x y → Q x.outbox.sides → Q y.outbox.sides
-    behind_tells l place login x y m h =
-        behind_sides Q (λ place which s i.
+      behind_tells : Lost k → (place : ℕ) (login : Login) (x y : Scene) → Behind place login x y → Q x.outbox.sides → Q y.outbox.sides
+      behind_tells l place login x y m h =
+          behind_sides Q (λ place which s i.
           let m = (desk_at s.node place).agent in
           let r = lost_step m which causes.Label in notes_tell place r.0 (scene (with_agent s.node place r.1) s.outbox) (l m which causes.Label) i) place login x y m h
 
-    move_tells : (x y : Scene) → Move k x y → Q x.outbox.sides → Q y.outbox.sides
-    unfolding cut clear_unit answer_step
-    move_tells _ _ (moves.notes place step s g) h = notes_tell place step s g h
-    move_tells _ _ (moves.lapses place which s l) h =
-        let r = expired_desk which (desk_at s.node place) in notes_tell place r.0 (scene (with_desk s.node place r.1) s.outbox) (l (desk_at s.node place).agent which causes.Timeout) h
-    move_tells _ _ (moves.follows place login x y l q m) h = behind_tells l place login x y m h
-    move_tells _ _ (moves.replies told place unit which answer disks s a) h = h
-    move_tells _ _ (moves.cuts cause place s c) h = cut_tells (is_reset (state_in (desk_at s.node place).agent.phase)) place cause s.outbox c h
-    move_tells _ _ (moves.opens place pointer ask desk s t e) h = f s.outbox.sides _ (moves.opened place (orb_of desk.agent) t) h
-    move_tells _ _ (moves.refuses place pointer refusal desk s e) h = h
-    move_tells _ _ (moves.rings place s) h = h
-    move_tells _ _ (moves.enables place s) h = h
-    move_tells _ _ (moves.comes unit place s a) h = h
-    move_tells _ _ (moves.announces unit from x y q t m) h =
-        announced_sides Q (λ told place i. f told _ (moves.announced place t) i) (λ told place i. f told _ (moves.unsent place t) i) unit from x y m h
-    move_tells _ _ (moves.settles peer s) h = h
-    move_tells _ _ (moves.starts source orb s t) h = h
-    move_tells _ _ (moves.decides answer s a) h = h
-    move_tells _ _ (moves.gives_up s t) h = h
-    move_tells _ _ (moves.stops s t) h = h
-    move_tells _ _ (moves.asks_for source ask body s q t e) h = requests Q s source body purposes.Management h
-    move_tells _ _ (moves.enters place replaced s a) h = left_tells replaced s.outbox a h
-    move_tells _ _ (moves.leaves place login s a) h = f s.outbox.sides _ (moves.departed login a) h
-    move_tells _ _ (moves.aborts place orb s) h = h
-    move_tells _ _ (moves.clears unit s a) h = f s.outbox.sides _ (moves.cleared unit a) h
-    move_tells _ _ (moves.judges generation bytes s t) h = h
-    move_tells _ _ (moves.expires peer label s t) h = h
-    move_tells _ _ (moves.sees generation id s t) h = h
-    move_tells _ _ (moves.answers p bytes rcode given s t) h = h
-    move_tells _ _ (moves.tells side s t i) h = f s.outbox.sides side t h
-    move_tells _ _ (moves.rests s a) h = h
-    move_tells _ _ (moves.ages s a) h = h
+      move_tells : (x y : Scene) → Move k x y → Q x.outbox.sides → Q y.outbox.sides
+      unfolding cut clear_unit answer_step
+      move_tells _ _ (moves.notes place step s g) h = notes_tell place step s g h
+      move_tells _ _ (moves.lapses place which s l) h =
+          let r = expired_desk which (desk_at s.node place) in notes_tell place r.0 (scene (with_desk s.node place r.1) s.outbox) (l (desk_at s.node place).agent which causes.Timeout) h
+      move_tells _ _ (moves.follows place login x y l q m) h = behind_tells l place login x y m h
+      move_tells _ _ (moves.replies told place unit which answer disks s a) h = h
+      move_tells _ _ (moves.cuts cause place s c) h = cut_tells (is_reset (state_in (desk_at s.node place).agent.phase)) place cause s.outbox c h
+      move_tells _ _ (moves.opens place pointer ask desk s t e) h = f s.outbox.sides _ (moves.opened place (orb_of desk.agent) t) h
+      move_tells _ _ (moves.refuses place pointer refusal desk s e) h = h
+      move_tells _ _ (moves.rings place s) h = h
+      move_tells _ _ (moves.enables place s) h = h
+      move_tells _ _ (moves.comes unit place s a) h = h
+      move_tells _ _ (moves.announces unit from x y q t m) h =
+          announced_sides Q (λ told place i. f told _ (moves.announced place t) i) (λ told place i. f told _ (moves.unsent place t) i) unit from x y m h
+      move_tells _ _ (moves.settles peer s) h = h
+      move_tells _ _ (moves.starts source orb s t) h = h
+      move_tells _ _ (moves.decides answer s a) h = h
+      move_tells _ _ (moves.gives_up s t) h = h
+      move_tells _ _ (moves.stops s t) h = h
+      move_tells _ _ (moves.asks_for source ask body s q t e) h = requests Q s source body purposes.Management h
+      move_tells _ _ (moves.enters place replaced s a) h = left_tells replaced s.outbox a h
+      move_tells _ _ (moves.leaves place login s a) h = f s.outbox.sides _ (moves.departed login a) h
+      move_tells _ _ (moves.aborts place orb s) h = h
+      move_tells _ _ (moves.clears unit s a) h = f s.outbox.sides _ (moves.cleared unit a) h
+      move_tells _ _ (moves.judges generation bytes s t) h = h
+      move_tells _ _ (moves.expires peer label s t) h = h
+      move_tells _ _ (moves.sees generation id s t) h = h
+      move_tells _ _ (moves.answers p bytes rcode given s t) h = h
+      move_tells _ _ (moves.tells side s t i) h = f s.outbox.sides side t h
+      move_tells _ _ (moves.rests s a) h = h
+      move_tells _ _ (moves.ages s a) h = h
 
-    pub steps_kept : (x y : Scene) → Moves k x y → Q x.outbox.sides → Q y.outbox.sides
-    steps_kept x y m h = kept (Move k) (λ s. Q s.outbox.sides) move_tells x y m h
+      pub steps_kept : (x y : Scene) → Moves k x y → Q x.outbox.sides → Q y.outbox.sides
+      steps_kept x y m h = kept (Move k) (λ s. Q s.outbox.sides) move_tells x y m h
 
   -- ---- and each side of it
   module _ (Q : List Side → Type 0) (f : (told : List Side) (side : Side) → Tells k side → Q told → Q (told ++ side ∷ [])) where

@@ -25,6 +25,7 @@ use Rattle.sbp_target.specs.Sending.{request_step, with_side}
 use Rattle.sbp_target.specs.Units.{announce_from, unsolicited_by, unsolicited_from}
 use Rattle.sbp_target.proofs.Histories.Moved.{announce_from_moves, behind_moves}
 use Rattle.sbp_target.proofs.Histories.Views.{kept, requests}
+
 -- ---- the agents of a node
 
 -- the same agents
