@@ -75,7 +75,7 @@ use Rattle.sbp_world.proofs.Formed.{AreOwn}
 use Rattle.turn_laws.specs.Alone.{AloneLaw, AreAlone, PushesAlone}
 use Rattle.turn_laws.proofs.Handed.{handed, notes_told}
 use Rattle.turn_laws.proofs.KindNotes.{kind_handed, own_handed}
-use Rattle.turn_laws.proofs.Announcing.{own_push, push_kind}
+use Rattle.turn_laws.proofs.Announcing.{own_push, push_kind, second_of}
 use Rattle.turn_laws.proofs.Calls.{Brings, CarriedCases, calls, injects, loses, refuses, refuses_action, resets, sets_key}
 use Rattle.turn_laws.proofs.LaterTerms.{Pushes}
 use Rattle.turn_laws.proofs.ManagedSides.{begins, from_self}
@@ -121,11 +121,6 @@ module _ (node : NodeState) (H : ℕ → Holder) (wire : Terms) (pushes : List �
       by : (b : Bool) → is_listed x node.pending ≡ b → b ≡ false
       by true f = untrue (sym e ∙ g x f)
       by false f = refl
-
-  second_of : (a b c : Bool) → (a && (b && c)) ≡ true → b ≡ true
-  second_of true true c e = refl
-  second_of true false c e = untrue e
-  second_of false b c e = untrue e
 
   module _ (place : ℕ) (layer : Layer Purpose) (pending : List ℕ) (g : Grown pending) (more : Layer Purpose → List ℕ → Announced) (rest : (l : Layer Purpose) (p : List ℕ) → Grown p → Fine (more l p)) where
     fine_as : (login : Login) → login_at node place ≡ Some login → is_live login ≡ true → is_listed login.node pending ≡ false → (a : Option Asked × Layer Purpose) → Fine (announced_as place login.node pending more a)

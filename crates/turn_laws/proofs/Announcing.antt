@@ -194,7 +194,7 @@ shuffled true false c d = refl
 shuffled false true c d = refl
 shuffled false false c d = refl
 
-second_of : (a b c : Bool) → (a && (b && c)) ≡ true → b ≡ true
+pub second_of : (a b c : Bool) → (a && (b && c)) ≡ true → b ≡ true
 second_of a b c e = and_first b c (and_second a (b && c) e)
 
 -- ---- at a place

@@ -26,6 +26,7 @@ use Rattle.sbp_world.proofs.Hosts.Cores.{not_so, wire_is}
 use Rattle.sbp_world.proofs.Hosts.Layered.{AreTame, is_tame}
 use Rattle.sbp_world.proofs.Hosts.Shown.{IsElsewhere}
 use Rattle.sbp_world.specs.Hosts.Calls.{behind}
+use Rattle.sbp_world.proofs.Hosts.Beside.{turned as away}
 
 abbrev pub Reads : List Moment → ℕ → List StateRead
 Reads past i = (host_at past i).reads
@@ -116,9 +117,6 @@ told_reads (sides.Own note ∷ later) past i h = told_reads later (said note ∷
 told_reads (_ ∷ later) past i h = absurd h.0
 
 -- ---- the notes that say nothing of it
-away : (i j : ℕ) → not (nat_eq i j) ≡ true → nat_eq j i ≡ false
-away i j e = turned i j (not_so (nat_eq i j) e)
-
 none_to : (so : Option Sending) (i : ℕ) → ((packet : Sending) → so ≡ Some packet → (packet.to == suc i) ≡ false) → is_serial (receiver_in so) (suc i) ≡ false
 none_to None i f = refl
 none_to (Some packet) i f = f packet refl

@@ -5,7 +5,8 @@ use Rattle.sbp_journal.specs.Wire.{Held, Terms, rests, waits}
 use Rattle.sbp_laws.specs.MediaLaw.{is_pending}
 use Rattle.sbp_laws.specs.Packets.{begun_in, is_resting, is_waiting_for, receiver_in, rests_for, waits_for}
 use Rattle.sbp_laws.specs.Targets.{is_serial}
-use Rattle.turn_laws.proofs.PendingTerms.{and_false, at_it, beside, pending_alike, pending_late, same_is}
+use Rattle.turn_laws.proofs.PendingTerms.{at_it, beside, pending_alike, pending_late, same_is}
+use Rattle.sbp_world.proofs.Wire.Kept.{and_false}
 
 -- the terms differ in one transaction's label
 pub record Moved (v : Transaction) (held : Held) (t now : Terms) : Type 0 where

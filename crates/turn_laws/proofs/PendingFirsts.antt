@@ -4,12 +4,11 @@ use Rattle.std.proofs.lemmas.Option.{same_Some}
 use Rattle.bus_transactions.specs.Bare.{bare}
 use Rattle.bus_transactions.specs.Rows.{shape, shape_of}
 use Rattle.bus_transactions.specs.Wire.{Due, Node}
-use Rattle.bus_transactions.proofs.Facts.{asked_is, begun_asked}
 use Rattle.label_table.specs.Layer.{Layer}
 use Rattle.label_table.specs.Peers.{state_for}
 use Rattle.async_packet.specs.Fields.{rcode_of}
 use Rattle.sbp_journal.specs.Run.{Moment}
-use Rattle.sbp_journal.specs.Transactions.{Kind, Part, Sending, Transaction, asked_by, at, begun_by, between, is_same, is_same_kind, no_packet, part_of, request, response}
+use Rattle.sbp_journal.specs.Transactions.{Kind, Part, Sending, Transaction, asked_by, at, between, is_same, is_same_kind, no_packet, part_of, request, response}
 use Rattle.sbp_journal.specs.Wire.{Held, Terms, arrives, closes, closes_if, free, gets, gets_as, is_news, is_served, judges, noted, rests, terms, times_out, waits}
 use Rattle.sbp_journal.specs.declared.note.Note.TheVariants as notes
 use Rattle.sbp_laws.specs.MediaLaw.{is_pending}
@@ -27,6 +26,7 @@ use Rattle.turn_laws.proofs.PendingEnds.{lapses}
 use Rattle.turn_laws.proofs.PendingKept.{AreTied, Id, Less}
 use Rattle.turn_laws.proofs.PendingTerms.{Same, at_it, beside, judges_same, pending_alike, pending_not, same_is}
 use Rattle.turn_laws.proofs.PushSerials.{Has}
+use Rattle.sbp_world.proofs.Hosts.Held.{begun_from}
 
 -- ---- a note that is beside the target's transactions
 pub record Beside (t now : Terms) (pushes : List ℕ) : Type 0 where
@@ -58,9 +58,6 @@ pub record LeavesOwn (t now : Terms) : Type 0 where
   pub held : (v : Transaction) → v.requester ≡ 0 → now.held v ≡ t.held v
   pub current : (v : Transaction) → v.requester ≡ 0 → now.current v ≡ t.current v
 
-pub requester_is : (q : Sending) (u : Transaction) → begun_by q ≡ Some u → u.requester ≡ q.from
-requester_is q u e = ap (λ (v : Transaction). v.requester) (asked_is q u (begun_asked q u e).1).is
-
 pub beside_of : (t now : Terms) (pushes : List ℕ) → ((s : ℕ) → Has pushes s → FromTarget (t.sent s)) → LeavesOwn t now → Beside t now pushes
 beside_of t now pushes from l = record {
   generation = l.generation;
@@ -75,7 +72,7 @@ beside_of t now pushes from l = record {
 }
   where
     own : (s : ℕ) → Has pushes s → (u : Transaction) → begun_in (t.sent s) ≡ Some u → u.requester ≡ 0
-    own s h u b = let f = from s h in requester_is f.packet u (sym (ap begun_in f.is) ∙ b) ∙ f.from
+    own s h u b = let f = from s h in begun_from f.packet u (sym (ap begun_in f.is) ∙ b) ∙ f.from
 
 pub leaves_same : (t now : Terms) → Same t now → LeavesOwn t now
 leaves_same t now e = record {

@@ -64,9 +64,9 @@ use Rattle.turn_laws.proofs.LaterNotes.{AllLeave, owns_handed}
 use Rattle.turn_laws.proofs.LaterTerms.{Grows, Own, Pushes, grown}
 use Rattle.turn_laws.proofs.PendingCalls.{Any, all_owned, target_kept}
 use Rattle.turn_laws.proofs.PendingEnds.{forgets}
-use Rattle.turn_laws.proofs.PendingFirsts.{late_injected, Beside, LeavesOwn, got_injected, own_gets, own_lapses, requester_is, leaves_same, tied_beside}
+use Rattle.turn_laws.proofs.PendingFirsts.{late_injected, Beside, LeavesOwn, got_injected, own_gets, own_lapses, leaves_same, tied_beside}
 use Rattle.turn_laws.proofs.PendingKept.{AreTied, Id, Pending, Rows, rows_same}
-use Rattle.turn_laws.proofs.PendingTerms.{and_false, Same, ignored_same, pending_sent, sends_terms, upd_other}
+use Rattle.turn_laws.proofs.PendingTerms.{Same, ignored_same, pending_sent, sends_terms, upd_other}
 use Rattle.turn_laws.proofs.PendingTurns.{Kept, beside_here, from_target, beside_kept, line_beside, line_clean, line_pushes, own_kept, note_clean, note_pushes, tied_here}
 use Rattle.turn_laws.proofs.Places.{Place}
 use Rattle.turn_laws.proofs.PushSerials.{Has, counted}
@@ -74,6 +74,8 @@ use Rattle.turn_laws.proofs.SerialsStay.{IsNoSent}
 use Rattle.turn_laws.proofs.StatusLates.{seconds}
 use Rattle.turn_laws.proofs.StatusRows.{Row, life_of}
 use Rattle.turn_laws.proofs.StatusStays.{IsStatus, left_if}
+use Rattle.sbp_world.proofs.Wire.Kept.{and_false}
+use Rattle.sbp_world.proofs.Hosts.Held.{begun_from}
 
 -- ---- an initiator has no such packets to tell of
 all_leave : (from : ℕ) (g : GenerationsState) (packets : List Outgoing) → AllLeave (λ to bytes. Unit {0}) from g packets
@@ -150,7 +152,7 @@ module _ (units ready : ℕ) (has : 0 < units) (start : List Disk) (past : List 
     requester : (so : Option Sending) → t.sent serial ≡ so → (u : Transaction) → begun_in so ≡ Some u → u.requester ≡ suc i
     requester None e u f = none_is u f
     requester (Some q) e u f =
-        requester_is q u f ∙ (from_asked start w here.holds.sound.stands (g units ready has start w here.holds) (law units ready has start w here.holds) here.holds.at serial request found q e ∙ node_is)
+        begun_from q u f ∙ (from_asked start w here.holds.sound.stands (g units ready has start w here.holds) (law units ready has start w here.holds) here.holds.at serial request found q e ∙ node_is)
 
     leaves_by : (o : Option Transaction) → begun_in (t.sent serial) ≡ o → LeavesOwn t (noted (notes.TimedOut serial) t)
     leaves_by None e = subst (λ o. LeavesOwn t (times_out o t)) (sym e) (record { generation = refl; ids = λ n. refl; sent = refl; held = λ v z. refl; current = λ v z. refl })
@@ -275,7 +277,7 @@ module _ (units ready : ℕ) (has : 0 < units) (start : List Disk) (past : List 
         pends_by later n r q e f (Some u) b y =
             let asks = asked_is q u (begun_asked q u b).1 in
             let generation : u.generation ≡ q.generation = ap (λ (c : Transaction). c.generation) asks.is in
-            let requester : u.requester ≡ 0 = requester_is q u b ∙ f in
+            let requester : u.requester ≡ 0 = begun_from q u b ∙ f in
             let old = early r q e f in
             let other : nat_eq now u.generation ≡ false = grind (arith, nat_tests) in
             untrue (sym (forgets t z n r u refl (ap begun_in e ∙ b) (ap (λ c. z.generation c == u.generation) requester ∙ other)) ∙ y)

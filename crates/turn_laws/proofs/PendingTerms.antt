@@ -10,6 +10,7 @@ use Rattle.sbp_journal.specs.declared.cause.Cause.TheVariants as causes
 use Rattle.sbp_laws.specs.MediaLaw.{is_pending}
 use Rattle.sbp_laws.specs.Packets.{begun_in, is_resting, is_waiting_for, receiver_in, rests_for, waits_for}
 use Rattle.sbp_laws.specs.Targets.{is_serial}
+use Rattle.sbp_world.proofs.Wire.Kept.{and_false}
 
 -- ---- one transaction
 abbrev pub Lasts : (now : ℕ) → Held → (current : ℕ) → Transaction → ℕ → Bool
@@ -34,10 +35,6 @@ pending_alike node s t now a = by_parts node s t now a.sent (by (begun_in (t.sen
     by (Some u) e =
         ap (λ g. Lasts g (now.held u) (now.current u) u s) (a.generation u e)
         ∙ (ap (λ h. Lasts (t.generation u.requester) h (now.current u) u s) (a.held u e) ∙ ap (λ c. Lasts (t.generation u.requester) (t.held u) c u s) (a.current u e))
-
-pub and_false : (b : Bool) → (b && false) ≡ false
-and_false true = refl
-and_false false = refl
 
 -- a label that is free is in no transaction
 pub none_lasts : (now current : ℕ) (u : Transaction) (s : ℕ) → Lasts now free current u s ≡ false
