@@ -8,7 +8,7 @@ use Rattle.command_agent.specs.declared.step.Which.TheVariants.{Ahead, Main}
 use Rattle.rbc_disk.specs.Disk.{Disk}
 use Rattle.sbp_journal.specs.Run.{Moment, asked, said}
 use Rattle.sbp_journal.specs.Transactions.{Kind, Part, Sending, Transaction, is_same_kind, no_packet, part_of, request, response}
-use Rattle.sbp_journal.specs.Wire.{Held, Terms, arrives, begins, closes, closes_if, free, gets, gets_as, ignores, ignores_that, is_news, is_served, judges, judges_if, noted, opened, rests, terms, times_out, waits}
+use Rattle.sbp_journal.specs.Wire.{Held, Terms, arrives, closes, closes_if, free, gets, gets_as, ignores, ignores_that, is_news, is_served, judges, judges_if, noted, opened, rests, terms, times_out, waits}
 use Rattle.sbp_journal.specs.declared.cause.Cause.{Cause}
 use Rattle.sbp_journal.specs.declared.cause.Cause.TheVariants as causes
 use Rattle.sbp_journal.specs.declared.event.Event.{Event}
@@ -63,10 +63,6 @@ ignored_count (Some q) cause s t = ignores_count cause s q (arrives s t)
 late_count : (u : Option Transaction) (t : Terms) → (times_out u t).count ≡ t.count
 late_count None t = refl
 late_count (Some u) t = refl
-
-begins_count : (u : Option Transaction) (s : ℕ) (q : Sending) (t : Terms) → (begins u s q t).count ≡ t.count
-begins_count None s q t = refl
-begins_count (Some u) s q t = refl
 
 pub note_count : (note : Note) (t : Terms) → IsNoSent note → (noted note t).count ≡ t.count
 note_count (notes.Sent serial generation from to bytes) t i = absurd i
