@@ -1,4 +1,7 @@
 pub mod Adds
+pub mod AgentFolds
+pub mod AgentGoes
+pub mod AgentNotes
 pub mod Appends
 pub mod Awaited
 pub mod Bases

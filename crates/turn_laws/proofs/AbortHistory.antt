@@ -30,15 +30,14 @@ use Rattle.sbp_laws.proofs.Going.{going_rests, going_still, run_rests, taken_res
 use Rattle.sbp_journal.specs.Transactions.{part_of}
 use Rattle.sbp_laws.specs.Packets.{access_in_bytes, access_at, answer_in, id_for, packet_at, sender_in}
 use Rattle.sbp_laws.specs.Targets.{going_on, Agent, Decided, Purpose, Target, agent_at, agent_over, entered_by, enters_in, for_agent, for_manager, for_nobody, got_by, is_nothing, is_own_run, is_write_access, known_at, main_lost, manager_step, moved, new_agent, over, pointed_by, points, purpose_of, register_got, replied, replied_to, request_got, rings, sends_of, start_got, started_by, taken_on, target_at, target_by, wants, with_agent}
-use Rattle.sbp_world.proofs.Lists.OrbFolds.{at_place, set_or}
-use Rattle.sbp_world.proofs.Lists.FedFolds.{is_for}
+use Rattle.sbp_world.proofs.Lists.AgentFolds.{at_place, is_for, set_or}
 use Rattle.sbp_world.proofs.Common.{and_first, and_second, equal, untrue}
 use Rattle.turn_laws.proofs.AbortMarks.{Falls, Goes, Keeps, away, bell_keeps, lost_falls, point_keeps, reply_goes, reset_keeps, same, self, then_falls}
 use Rattle.turn_laws.proofs.Handed.{IsInner}
 use Rattle.turn_laws.proofs.PresentOrbs.{dead_rests, sent_rests}
-use Rattle.turn_laws.proofs.AgentFolds.{AreKept, AreLasting, AreSo, AreStill, cut_still, over_still, set_still, stand_still}
-use Rattle.turn_laws.proofs.AgentNotes.{IfApart, managed_kept, note_kept, pick}
-use Rattle.sbp_world.proofs.Lists.ResetStays.{keys}
+use Rattle.sbp_world.proofs.Lists.AgentFolds.{AreKept, AreLasting, AreSo, AreStill, cut_still, over_still, set_still, stand_still}
+use Rattle.sbp_world.proofs.Lists.AgentNotes.{IfApart, managed_kept, note_kept, pick}
+use Rattle.sbp_world.proofs.Lists.AgentGoes.{keys}
 
 -- ---- of an agent
 then_keeps : (m a b : Machine) → Keeps m a → Falls a b → Keeps m b

@@ -32,15 +32,15 @@ use Rattle.sbp_laws.specs.NoteKinds.{is_cleared_note, is_cut_note, of_kind, is_f
 use Rattle.sbp_laws.specs.Targets.{Agent, Target, agent_at, decided_by, effect_on, for_manager, keep_decided, manager_step, new_agent, target_at}
 use Rattle.sbp_laws.specs.Turns.{EachTurn, EachTurnBefore, Turn, effects_of, sends_of, turn}
 use Rattle.sbp_laws.proofs.Going.{going_still}
+use Rattle.sbp_world.proofs.Lists.MainAnswers.{manages_by}
 use Rattle.sbp_world.proofs.Common.{and_first, and_second, equal, same_number, untrue}
-use Rattle.sbp_world.proofs.Lists.OrbFolds.{at_place, new_there}
 use Rattle.sbp_world.proofs.Lists.OrbSteps.{yes}
 use Rattle.turn_laws.specs.Cleared.{ClearsWhereDue}
 use Rattle.turn_laws.specs.Cuts.{CutsWhereDue}
 use Rattle.turn_laws.proofs.AbortFacts.{Done, reply_is}
 use Rattle.turn_laws.proofs.AbortHistory.{All, AreMarked, Marked, keeps_over, mark_step, replied_keeps, steps}
-use Rattle.turn_laws.proofs.AbortTurns.{IsFirst, IsNoAbort, Manages, all_fit, first, managed_reply, manages, none_fit, others, rest_marked, First}
-use Rattle.turn_laws.proofs.AgentFolds.{SetAgent, is_it, is_none, is_other, set_agent}
+use Rattle.turn_laws.proofs.AbortTurns.{IsFirst, IsNoAbort, Manages, all_fit, first, manages, none_fit, others, rest_marked, First}
+use Rattle.sbp_world.proofs.Lists.AgentFolds.{SetAgent, at_place, is_it, is_none, is_other, new_there, set_agent}
 use Rattle.turn_laws.proofs.DecisionEffects.{Fits, FitsBy, reply_fits}
 use Rattle.turn_laws.proofs.Handed.{AllInner}
 use Rattle.turn_laws.proofs.PresentOrbs.{told_one}
@@ -160,7 +160,7 @@ module _ (start : List Disk) (t : Turn) (f : TurnFacts start t) (h : AreMarked s
     pub kept_turn : AreMarked start (once_told (t.start ∷ t.past) t.rest)
     kept_turn =
         rest_marked start t.rest (t.start ∷ t.past) f.inner (all_fit t.rest i s.0.decided (decided_not s.0.decided (reply_fits T.manager T.table table.sound T.keys answer)) decisions)
-        (inl (ap (λ (x : Target). x.reply) M.now ∙ (managed_reply s answer T ∙ (keeps_over (target_at start t.past)).none)))
+        (inl (ap (λ (x : Target). x.reply) M.now ∙ (manages_by s answer T ∙ (keeps_over (target_at start t.past)).none)))
         (λ q address. subst (λ d. Marked d (agent_at (target_at start (t.start ∷ t.past)) q) address) (sym (M.on q address)) (steps start t.past (target_at start (t.start ∷ t.past)) h now_keeps q address))
 
   -- ---- an ORB is aborted
@@ -293,7 +293,7 @@ module _ (start : List Disk) (t : Turn) (f : TurnFacts start t) (h : AreMarked s
     now = t.start ∷ t.past
 
     none_waits : (target_at start now).reply ≡ None
-    none_waits = ap (λ (x : Target). x.reply) M.now ∙ (managed_reply s answer T ∙ (keeps_over (target_at start t.past)).none)
+    none_waits = ap (λ (x : Target). x.reply) M.now ∙ (manages_by s answer T ∙ (keeps_over (target_at start t.past)).none)
 
     noted_abort : AreMarked start (said (note_as words.Abort) ∷ now)
     noted_abort q address =

@@ -1,12 +1,10 @@
 -- By the terms of a run an agent that waits for more of its ORB has it marked where an abort of it stands before, turn by turn: an abort with 00 is told directly behind the reply that decides it.
 use Rattle.std.proofs.Common.{◌≡◌, ◌∙◌, ◌⊎◌, inl, inr, refl, sym, ap, subst, ℕ, ◌==◌, ◌&&◌, not, Bool, true, false, cond, List, [], ◌∷◌, Option, Some, None, Result, Ok, Err}
 use Rattle.std.specs.Prelude.{is_none, position}
-use Rattle.login_table.specs.Table.{Table}
 use Rattle.mgmt_agent.specs.Machine as manager
 use Rattle.mgmt_agent.specs.Statuses.{function_of}
 use Rattle.mgmt_agent.specs.declared.decision.Decision.{Decision}
 use Rattle.mgmt_agent.specs.declared.decision.Effect.{Effect}
-use Rattle.mgmt_agent.specs.declared.decision.Effect.TheVariants as effects
 use Rattle.mgmt_agent.specs.declared.decision.ManagerStep.{ManagerStep}
 use Rattle.orb_layout.specs.Replies.{Answer, Expired}
 use Rattle.rbc_disk.specs.Disk.{Disk}
@@ -27,11 +25,11 @@ use Rattle.sbp_laws.specs.LoginLaw.{is_decision_note}
 use Rattle.sbp_laws.specs.Management.{Call, answer_to, answers, call_by, decided_in, decided_note, got_call, logins_due, manager_turn, moved_logins, no_call, sees_reset, source_node, start_in, start_of, started, starts, word_by}
 use Rattle.sbp_laws.specs.NoteKinds.{of_kind}
 use Rattle.sbp_laws.specs.Packets.{access_at, answer_in, answered_at, id_for, packet_at, receiver_in, sender_in}
-use Rattle.sbp_laws.specs.Targets.{Decided, Purpose, Target, agent_at, effect_on, entered_by, enters_in, for_agent, for_manager, for_nobody, got_by, is_serial, known_at, managed_by, manager_step, over, purpose_of, replied, replied_to, reset_seen, target_at, target_by}
+use Rattle.sbp_laws.specs.Targets.{Decided, Purpose, Target, agent_at, entered_by, enters_in, for_agent, for_manager, for_nobody, got_by, is_serial, known_at, managed_by, manager_step, over, purpose_of, replied, replied_to, reset_seen, target_at, target_by}
 use Rattle.sbp_world.proofs.Agents.Management.Firsts.{wire_is}
 use Rattle.sbp_world.proofs.Common.{none_is, untrue}
-use Rattle.turn_laws.proofs.AgentFolds.{AreStill}
-use Rattle.turn_laws.proofs.AgentNotes.{pick, sees_kept}
+use Rattle.sbp_world.proofs.Lists.AgentFolds.{AreStill}
+use Rattle.sbp_world.proofs.Lists.AgentNotes.{pick, sees_kept}
 use Rattle.turn_laws.proofs.AbortHistory.{A, Kept, are_kept, AreMarked, IsAbort, NoManaged, All, asked_marked, got_keeps, keeps_over, late_keeps, note_marked, settled_keeps, steps}
 use Rattle.turn_laws.proofs.Handed.{AllInner, IsInner}
 use Rattle.turn_laws.proofs.PresentOrbs.{note_rests, told_one}
@@ -110,17 +108,6 @@ IsFirst (said notes.Tick) = Unit {0}
 IsFirst (said notes.Settled) = Unit {0}
 IsFirst (said notes.Stopped) = Unit {0}
 IsFirst (said note) = ⊥
-
-effect_reply : (effect : Effect) (t : Target) → (effect_on effect t).reply ≡ t.reply
-effect_reply (effects.Left place) t = refl
-effect_reply (effects.Abort place orb) t = refl
-effect_reply (effects.AbortSet place) t = refl
-effect_reply (effects.UnitReset unit) t = refl
-effect_reply effects.TargetReset t = refl
-effect_reply effect t = refl
-
-pub managed_reply : (r : ManagerStep × (manager.Machine × Table)) (answer : Answer) (t : Target) → (managed_by r answer t).reply ≡ t.reply
-managed_reply (step, (machine, table)) answer t = effect_reply step.effect _
 
 module _ (start : List Disk) (past : List Moment) where
   abbrev pub T : Target

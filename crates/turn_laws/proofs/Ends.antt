@@ -74,10 +74,11 @@ module _ (units ready : ℕ) (has : 0 < units) (start : List Disk) (past : List 
   own_late rest = ap (λ b. cond b (reply_to (purpose_of (over (target_at start ms)) serial) Expired) nothing) (away (wire.sent serial) refl)
 
 -- ---- a packet that an initiator got
-own_got : (units ready : ℕ) (has : 0 < units) (start : List Disk) (past : List Moment) (s : Scene) (here : Place units ready start past s) (serial : ℕ) (one : Sent)
-    (found : found_sent serial s.world.store.kept ≡ Some one) (i : ℕ) → one.to ≡ suc i → (judged : Judged) (rest : List Note) → agent_event start (turn (hist past s.world) (said (judged_note serial judged)) rest) ≡ nothing
-own_got units ready has start past s here serial one found i to_is judgements.Got rest = own_brings_nothing units ready has start past s here serial one found i to_is
-own_got units ready has start past s here serial one found i to_is (judgements.Ignored cause) rest = refl
+module _ (units ready : ℕ) (has : 0 < units) (start : List Disk) (past : List Moment) (s : Scene) (here : Place units ready start past s) where
+  own_got : (serial : ℕ) (one : Sent) (found : found_sent serial s.world.store.kept ≡ Some one) (i : ℕ) → one.to ≡ suc i → (judged : Judged) (rest : List Note)
+      → agent_event start (turn (hist past s.world) (said (judged_note serial judged)) rest) ≡ nothing
+  own_got serial one found i to_is judgements.Got rest = own_brings_nothing units ready has start past s here serial one found i to_is
+  own_got serial one found i to_is (judgements.Ignored cause) rest = refl
 
 -- ---- the turns of the calls
 abbrev expiries : List ℕ → List Side

@@ -119,9 +119,12 @@ module _ (wire after : Terms) (T : Target) where
     abbrev FindsAlike : Layer Purpose → (source : ℕ) → Body → Type 0
     FindsAlike layer source body = IsFound layer source (finds_label after 0 (suc (initiator_with wire source))) body
 
+    -- the initiator of an operation is named alike, and what the operation asks for then is found alike
+    abbrev AreAlike : Layer Purpose → Answer → (source : Option ℕ) → Type 0
+    AreAlike layer answer source = (n : ℕ) → source ≡ Some n → Names n × ((body : Body) → step_body (Step answer) ≡ Some body → FindsAlike layer n body)
+
     -- an operation of this initiator is replied to
-    pub reply_due : (layer : Layer Purpose) (answer : Answer) (source : Option ℕ) → source_in node.manager.operation ≡ source
-        → ((n : ℕ) → source ≡ Some n → Names n × ((body : Body) → step_body (Step answer) ≡ Some body → FindsAlike layer n body))
+    pub reply_due : (layer : Layer Purpose) (answer : Answer) (source : Option ℕ) → source_in node.manager.operation ≡ source → AreAlike layer answer source
         → failure_notes known (reply_fails node all_fit layer source answer) ≡ DueBy (answers answer)
     reply_due layer answer None e h =
         let i = operator wire T.manager.operation in

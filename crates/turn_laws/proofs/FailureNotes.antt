@@ -250,9 +250,11 @@ module _ (units ready : ℕ) (has : 0 < units) (start : List Disk) where
               subst (λ x. Due (judged_note serial x) (asked_for node fits (is_barred node p) p)) (sym is)
               (request p f.1.read (no_kind (reply_kind p) f.1.kind) layer e.0 (is_barred node p))
 
-        target_due : (outbox : OutboxState) (v : WorldState) → Stands past (handed_out 0 0 outbox v)
-            → (let x = received run one.generation one.bytes (whole_of node s.media) in
-            v.fresh ≡ judged_note serial x.0 ∷ w.fresh → AreJudged (said (judged_note serial x.0) ∷ ms) → Due (judged_note serial x.0) (failing x.1.outbox.sides))
+        -- what fails of a packet that is judged so is due
+        abbrev FailsDuly : WorldState → Judged → OutboxState → Type 0
+        FailsDuly v judged told = v.fresh ≡ judged_note serial judged ∷ w.fresh → AreJudged (said (judged_note serial judged) ∷ ms) → Due (judged_note serial judged) (failing told.sides)
+
+        target_due : (outbox : OutboxState) (v : WorldState) → Stands past (handed_out 0 0 outbox v) → (let x = received run one.generation one.bytes (whole_of node s.media) in FailsDuly v x.0 x.1.outbox)
         unfolding received
         target_due outbox v then fresh_is j =
             let f = judging_step node.layer one.generation one.bytes in
@@ -285,8 +287,12 @@ module _ (units ready : ℕ) (has : 0 < units) (start : List Disk) where
           (λ n f. (of_operation n f, λ body b. absurd (let no : None ≡ Some body = sym (late_body node.manager node.logins node.keys) ∙ b in cc)))
           ∙ sym (ap DueLate (call_is (Some purposes.Management) layer e for_manager ((lapse_handed units ready has start w here.holds serial request found zero_is (Some purposes.Management) layer e here.agents.requests here.agents.are here.agents.known).operation refl)))
 
-      lapsed_due : (r : Result (Option Purpose) Stale × Layer Purpose) → expiring_step node.layer request.peer request.label ≡ r → (done : Unit {0}) (t : target_nodes.Scene)
-          → expired_in r request.peer request.label (target_scene node empty_outbox) ≡ (Ok done, t) → Due (notes.TimedOut serial) (late_fails node fits good r.0 r.1)
+      -- a transaction that is under way times out
+      abbrev Lapses : Result (Option Purpose) Stale × Layer Purpose → Unit {0} → target_nodes.Scene → Type 0
+      Lapses r done t = expired_in r request.peer request.label (target_scene node empty_outbox) ≡ (Ok done, t)
+
+      lapsed_due : (r : Result (Option Purpose) Stale × Layer Purpose) → expiring_step node.layer request.peer request.label ≡ r → (done : Unit {0}) (t : target_nodes.Scene) → Lapses r done t
+          → Due (notes.TimedOut serial) (late_fails node fits good r.0 r.1)
       lapsed_due (Ok purpose, layer) e done t f = late_due purpose layer e
       lapsed_due (Err stale, layer) e done t f = absurd (let no : Err stale ≡ Ok done = ap (λ (x : Result (Unit {0}) Stale × target_nodes.Scene). x.0) f in cc)
 

@@ -232,8 +232,16 @@ module _ (node : NodeState) (fits : (source : ℕ) (answer : Answer) → managem
     abbrev failing_of : Whole → List Side
     failing_of w = failing (scene_of w).outbox.sides
 
+    -- a packet that was found so is taken up
+    abbrev taken_up : Option Told → List ℕ → Finding Purpose → Layer Purpose → List Disk → Whole
+    taken_up run bytes f layer disks = (received_as run bytes f (with_layer layer (whole (scene node empty_outbox) disks))).1
+
+    -- what fails as it is
+    abbrev Fails : Whole → Finding Purpose → Layer Purpose → Type 0
+    Fails w finding layer = failing_of w ≡ found_fails finding layer
+
     concludes : (run : Option Told) (p : Packet) (peer : ℕ) (label : LabelParts) (disks : List Disk) (layer : Layer Purpose) (lives : Lives) → From lives layer → (purpose : Option Purpose)
-        → failing_of (concluded run purpose peer label (answer_in p) (begun_with layer disks)) ≡ found_fails (of_response p label purpose) layer
+        → Fails (concluded run purpose peer label (answer_in p) (begun_with layer disks)) (of_response p label purpose) layer
     unfolding concluded
     concludes run p peer label disks layer lives f None = refl
     concludes run p peer label disks layer lives f (Some (purposes.Agent place)) =
@@ -253,7 +261,7 @@ module _ (node : NodeState) (fits : (source : ℕ) (answer : Answer) → managem
     requests_fail p bytes layer e = subst (λ (l : Layer Purpose). failing (request_step p bytes (scene (record node { layer = l }) empty_outbox)).1.outbox.sides ≡ asked_for (is_barred node p) p) (sym e) (request_fails p bytes)
 
     finds : (run : Option Told) (disks : List Disk) (generation : ℕ) (bytes : List ℕ) (f : Finding Purpose) (layer : Layer Purpose) → judging_step node.layer generation bytes ≡ (f, layer) → IsFound f node.layer layer bytes
-        → failing_of (received_as run bytes f (with_layer layer (whole (scene node empty_outbox) disks))).1 ≡ found_fails f layer
+        → Fails (taken_up run bytes f layer disks) f layer
     finds run disks generation bytes of_generation layer e f = refl
     finds run disks generation bytes of_grammar layer e f = refl
     finds run disks generation bytes of_label layer e f = refl

@@ -20,6 +20,7 @@ use Rattle.sbp_laws.specs.Hosts.{Host, StateRead, Underway, acted, got_by, goes_
 use Rattle.sbp_laws.specs.Lists.{present_list}
 use Rattle.sbp_laws.specs.Packets.{answered_at, receiver_in, sender_in}
 use Rattle.sbp_laws.specs.Turns.{event_of}
+use Rattle.sbp_world.proofs.Pointers.Sending.{off as and_off}
 use Rattle.sbp_world.proofs.Common.{itself, turned, untrue}
 use Rattle.sbp_world.proofs.Hosts.Carries.{IsNoAct, is_apart}
 use Rattle.sbp_world.proofs.Hosts.Cores.{not_so, wire_is}
@@ -124,10 +125,6 @@ none_to (Some packet) i f = f packet refl
 none_from : (so : Option Sending) (i : ℕ) → ((packet : Sending) → so ≡ Some packet → (packet.from == suc i) ≡ false) → is_serial (sender_in so) (suc i) ≡ false
 none_from None i f = refl
 none_from (Some packet) i f = f packet refl
-
-and_off : (b c : Bool) → b ≡ false → (b && c) ≡ false
-and_off true c e = untrue (sym e)
-and_off false c e = refl
 
 pub apart_reads : (note : Note) (past : List Moment) (i : ℕ) → is_apart i note ≡ true → IsElsewhere past i note → Reads (said note ∷ past) i ≡ Reads past i
 apart_reads (notes.Begin initiators ready) past i e w = untrue e

@@ -9,7 +9,8 @@ use Rattle.sbp_journal.specs.Wire.{Terms}
 use Rattle.sbp_journal.specs.declared.note.Note.{Note}
 use Rattle.sbp_journal.specs.declared.note.Note.TheVariants as notes
 use Rattle.sbp_laws.specs.Targets.{Reply, Target, agent_at, known_at, over, target_at}
-use Rattle.sbp_world.proofs.Lists.OrbFolds.{AreReading, Brings, over_reads}
+use Rattle.sbp_world.proofs.Lists.FedFolds.{so}
+use Rattle.sbp_world.proofs.Lists.OrbFolds.{AreReading, Brings, Has, over_reads}
 use Rattle.sbp_world.proofs.Lists.OrbNotes.{IfGot, note_reads}
 use Rattle.sbp_world.proofs.Lists.OrbReading.{nothing_read}
 use Rattle.sbp_world.proofs.Lists.OrbSteps.{has_read}
@@ -27,9 +28,9 @@ if_any note wire t = tt
 
 any_reading : (start : List Disk) (past : List Moment) → AreReading Any (target_at start past)
 any_reading start [] = nothing_read start Any
-any_reading start (asked line event ∷ past) = (over_reads Any (target_at start past) (any_reading start past)).reading
+any_reading start (asked line event ∷ past) = so (Has Any) (over (target_at start past)) (over_reads Any (target_at start past) (any_reading start past))
 any_reading start (said note ∷ past) =
     let known = known_at start past in note_reads Any note past known.wire known.target (any_reading start past) (if_any note known.wire known.target)
 
 pub idle_ahead : (start : List Disk) (past : List Moment) (q : ℕ) → (let m = (agent_at (over (target_at start past)) q).machine in has_read m.phase ≡ false → m.ahead ≡ aheads.Idle)
-idle_ahead start past q e = ((over_reads Any (target_at start past) (any_reading start past)).reading.agents q).idle e
+idle_ahead start past q e = ((over_reads Any (target_at start past) (any_reading start past)).agents q).idle e

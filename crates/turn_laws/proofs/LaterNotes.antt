@@ -103,20 +103,17 @@ module _ (Q : ℕ → List ℕ → Type 0) where
       both_plain from (packet_note to from packet w) (notes_sent from later v) (packet_plain to from packet w refl l.0)
       (sent_plain from later v (subst (λ g. AllLeave from g later) (sym (sent_bus from packet w)) l.1))
 
-  told_bus : (weight : ℕ) (later : List Side) (w : WorldState) → (told_all weight later w).generations ≡ w.generations
-  told_bus weight later w = sides_generations weight later w
-
   pub others_handed : (from weight : ℕ) (outbox : OutboxState) (w : WorldState) → AreOthers outbox.sides → AllLeave from w.generations outbox.packets → ArePlain from (handed from weight outbox w)
   others_handed from weight outbox w o l =
       let v = told_all weight outbox.sides w in
       both_plain from (notes_told weight outbox.sides w) (notes_sent from outbox.packets v) (others_plain from weight outbox.sides w o)
-      (sent_plain from outbox.packets v (subst (λ g. AllLeave from g outbox.packets) (sym (told_bus weight outbox.sides w)) l))
+      (sent_plain from outbox.packets v (subst (λ g. AllLeave from g outbox.packets) (sym (sides_generations weight outbox.sides w)) l))
 
   pub owns_handed : (from weight : ℕ) (outbox : OutboxState) (w : WorldState) → AreOwn outbox.sides → AllLeave from w.generations outbox.packets → ArePlain from (handed from weight outbox w)
   owns_handed from weight outbox w o l =
       let v = told_all weight outbox.sides w in
       both_plain from (notes_told weight outbox.sides w) (notes_sent from outbox.packets v) (owns_plain from weight outbox.sides w o)
-      (sent_plain from outbox.packets v (subst (λ g. AllLeave from g outbox.packets) (sym (told_bus weight outbox.sides w)) l))
+      (sent_plain from outbox.packets v (subst (λ g. AllLeave from g outbox.packets) (sym (sides_generations weight outbox.sides w)) l))
 
 -- ---- the front of a history
 one_count : (note : Note) (past : List Moment) → SerialsCount (said note ∷ past) → SerialsCount past

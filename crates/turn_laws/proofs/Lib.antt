@@ -78,8 +78,6 @@ pub mod CodeSteps
 pub mod Codes
 pub mod StatusSteps
 pub mod NextSteps
-pub mod AgentFolds
-pub mod AgentNotes
 pub mod Progresses
 pub mod PresentOrbs
 pub mod SilentTurns

@@ -175,8 +175,12 @@ module _ (node : NodeState) (g : Good node) where
   abbrev managed_left : Whole → List Side
   managed_left w = managed (scene_of w).outbox.sides
 
+  -- what is told of the management as this finding is taken up
+  abbrev Tells : Whole → Finding Purpose → Type 0
+  Tells w finding = managed_left w ≡ found_side finding
+
   concludes : (run : Option Told) (p : Packet) (peer : ℕ) (label : LabelParts) (disks : List Disk) (layer : Layer Purpose) (lives : Lives) → From lives layer → (purpose : Option Purpose)
-      → managed_left (concluded run purpose peer label (answer_in p) (begun_with layer disks)) ≡ found_side (of_response p label purpose)
+      → Tells (concluded run purpose peer label (answer_in p) (begun_with layer disks)) (of_response p label purpose)
   unfolding concluded
   concludes run p peer label disks layer lives f None = refl
   concludes run p peer label disks layer lives f (Some (purposes.Agent place)) =
@@ -223,8 +227,12 @@ module _ (node : NodeState) (g : Good node) where
   as_judged : (r : Judged × Scene) (w : Whole) → managed r.1.outbox.sides ≡ [] → managed (scene_of (judged_scene r w).1).outbox.sides ≡ []
   as_judged (judged, s) w e = e
 
+  -- a packet that was found so is taken up
+  abbrev taken_up : Option Told → List ℕ → Finding Purpose → Layer Purpose → List Disk → Whole
+  taken_up run bytes f layer disks = (received_as run bytes f (with_layer layer (whole (scene node empty_outbox) disks))).1
+
   finds : (run : Option Told) (disks : List Disk) (generation : ℕ) (bytes : List ℕ) (f : Finding Purpose) (layer : Layer Purpose) → judging_step node.layer generation bytes ≡ (f, layer) → IsFound f node.layer layer bytes
-      → managed_left (received_as run bytes f (with_layer layer (whole (scene node empty_outbox) disks))).1 ≡ found_side f
+      → Tells (taken_up run bytes f layer disks) f
   finds run disks generation bytes of_generation layer e f = refl
   finds run disks generation bytes of_grammar layer e f = refl
   finds run disks generation bytes of_label layer e f = refl

@@ -143,9 +143,16 @@ module _ (s : InitiatorState) (host : Host) (present : Option ℕ) (work : work_
       ∙ buffers.each (place_of m) (omega arith)
       ∙ ap (λ (x : Option ℕ). (place_at s.lists.memory (place_of (unwrap_or x 0))).response) (sym g)
 
-  -- what is told as it comes
-  status_by : (b : Bool) (underway : Underway) (running : Running) (block : StatusBlock) (status : ℕ) (access : Access) (p : Packet) → host.operation ≡ Some underway → s.operation ≡ Some running → work_of (Some underway) ≡ work_in (Some running) → is_of underway block ≡ b → block.kind ≡ kinds.Management status
-      → end_by_write host (Some access) ≡ cond b (ends_by_status (told_status block.kind) underway.operation response) None → Tells access (managed_for (cond b s.operation None) status p bytes empty_outbox s)
+  -- what is told as it comes, where it is of the operation, or not
+  abbrev StatusTells : Bool → Underway → StatusBlock → (status : ℕ) → Access → Packet → Type 0
+  StatusTells b underway block status access p =
+      block.kind ≡ kinds.Management status → end_by_write host (Some access) ≡ cond b (ends_by_status (told_status block.kind) underway.operation response) None → Tells access (managed_for (cond b s.operation None) status p bytes empty_outbox s)
+
+  abbrev IsUnderWay : Underway → Running → Type 0
+  IsUnderWay underway running = work_of (Some underway) ≡ work_in (Some running)
+
+  status_by : (b : Bool) (underway : Underway) (running : Running) (block : StatusBlock) (status : ℕ) (access : Access) (p : Packet)
+      → host.operation ≡ Some underway → s.operation ≡ Some running → IsUnderWay underway running → is_of underway block ≡ b → StatusTells b underway block status access p
   status_by false underway running block status access p at is same e kind law = nothing_by access p (judgements.Ignored _) 0 [] (empty_outbox, s) refl refl
   status_by true underway running block status access p at is same e kind law =
       let manages : is_management underway.operation ≡ true = and_first (is_management underway.operation) _ e in
@@ -162,8 +169,12 @@ module _ (s : InitiatorState) (host : Host) (present : Option ℕ) (work : work_
         are = end_kept s.number (status_ends running.operation status (response_of running s)) present ∙ ap (λ x. end_notes s.number x present) (sym end_is);
       })
 
-  status_for : (u : Option Underway) (r : Option Running) (block : StatusBlock) (status : ℕ) (access : Access) (p : Packet) → host.operation ≡ u → s.operation ≡ r → work_of u ≡ work_in r → block.kind ≡ kinds.Management status
-      → end_by_write host (Some access) ≡ ends_by_block u (Ok block) response → Tells access (managed_for (present_for block.orb s.operation) status p bytes empty_outbox s)
+  -- and whatever is under way
+  abbrev BlockTells : Option Underway → StatusBlock → (status : ℕ) → Access → Packet → Type 0
+  BlockTells u block status access p = end_by_write host (Some access) ≡ ends_by_block u (Ok block) response → Tells access (managed_for (present_for block.orb s.operation) status p bytes empty_outbox s)
+
+  status_for : (u : Option Underway) (r : Option Running) (block : StatusBlock) (status : ℕ) (access : Access) (p : Packet)
+      → host.operation ≡ u → s.operation ≡ r → work_of u ≡ work_in r → block.kind ≡ kinds.Management status → BlockTells u block status access p
   status_for None None block status access p at is same kind law =
       subst (λ (r : Option Running). Tells access (managed_for (present_for block.orb r) status p bytes empty_outbox s)) (sym is) (nothing_by access p (judgements.Ignored _) 0 [] (empty_outbox, s) refl refl)
   status_for None (Some running) block status access p at is same kind law = absurd (let no : None ≡ Some _ = same in cc)

@@ -86,13 +86,22 @@ module _ (ms : List Moment) (serial : ℕ) where
   late_none away = of_target (wire.sent serial) refl away
 
 module _ (units ready : ℕ) (start : List Disk) where
+  -- a transaction of the target is under way, which a time-out then leaves so
+  abbrev Lapses : Scene → Request → Unit {0} → target.Scene → Type 0
+  Lapses s request done t = expired request.peer request.label (target.scene s.world.target empty_outbox) ≡ (Ok done, t)
+
   lapse_none : (past : List Moment) (s : Scene) → Place units ready start past s → (serial : ℕ) (request : Request) (done : Unit {0}) (t : target.Scene) → find s.world.requests serial ≡ Some request → request.node ≡ 0
-      → expired request.peer request.label (target.scene s.world.target empty_outbox) ≡ (Ok done, t) → host_notes (said (notes.TimedOut serial)) (hist past s.world) ≡ []
+      → Lapses s request done t → host_notes (said (notes.TimedOut serial)) (hist past s.world) ≡ []
   lapse_none past s here serial request done t found node_is e =
       late_none (hist past s.world) serial
       (λ i packet sent. (lapsing s.world here.holds.sound.stands here.holds.sound.nodes serial request found).target_away node_is (ap (λ (y : Result (Unit {0}) Stale × target.Scene). (target_left y s.world.target).0) e) i packet sent)
 
-  act_stands : (past : List Moment) (s : Scene) (line i : ℕ) (action : Action) (outbox : OutboxState) (state : InitiatorState) (w : WorldState) → act_step action empty_outbox (initiator_at s.world i) ≡ (None, (outbox, state)) → OperationsStand (turn (hist past s.world) (asked line (events.Act i action)) (handed (i + 1) (weight_in action) outbox w))
+  -- an action that is not refused tells so
+  abbrev Tells : Scene → (i : ℕ) → Action → OutboxState → InitiatorState → Type 0
+  Tells s i action outbox state = act_step action empty_outbox (initiator_at s.world i) ≡ (None, (outbox, state))
+
+  act_stands : (past : List Moment) (s : Scene) (line i : ℕ) (action : Action) (outbox : OutboxState) (state : InitiatorState) (w : WorldState) → Tells s i action outbox state
+      → OperationsStand (turn (hist past s.world) (asked line (events.Act i action)) (handed (i + 1) (weight_in action) outbox w))
   act_stands past s line i action outbox state w e = quiet_none (i + 1) (weight_in action) outbox w (subst (λ (r : Option ℕ × Turn). AreQuiet r.1.0.sides) e (act_quiet action (initiator_at s.world i)))
 
   -- ---- where no transaction of an initiator ends

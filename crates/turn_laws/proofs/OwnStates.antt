@@ -93,11 +93,16 @@ module _ (running : Running) (s : InitiatorState) (present : Option ℕ) (o : Ou
       response_in : Memory → List ℕ
       response_in m = (place_at m (place_in running)).response
 
+  -- a status with 00, and another
+  abbrev SaysSo : (status : ℕ) → Bool → Type 0
+  SaysSo status b =
+      Says o (cond b (then_step (good_end running) (drop_where (own_refusals.ends_list (Some operation)) o s)) (end_step operation (words.Refused status) o (moved operation moves.bad s)))
+      (end_notes s.number (cond b (ends_as operation (done_word operation (response_of running s)) (law.ends_list operation)) (ends_as operation (words.Refused status) false)) present)
+
   pub status_due : (status : ℕ) → Says o (managed_step running status o s) (end_notes s.number (status_ends operation status (response_of running s)) present)
   status_due status = by (status == 0)
     where
-      by : (b : Bool) → Says o (cond b (then_step (good_end running) (drop_where (own_refusals.ends_list (Some operation)) o s)) (end_step operation (words.Refused status) o (moved operation moves.bad s)))
-          (end_notes s.number (cond b (ends_as operation (done_word operation (response_of running s)) (law.ends_list operation)) (ends_as operation (words.Refused status) false)) present)
+      by : (b : Bool) → SaysSo status b
       by true = good_due (own_refusals.ends_list (Some operation)) refl
       by false = ap (λ n. o.sides ++ own (notes.Op n operation (words.Refused status) ∷ [])) (moved_number operation moves.bad s)
 
@@ -138,8 +143,12 @@ module _ (number : ℕ) where
   states_say (read ∷ reads) [] o e = absurd e
 
   module _ (underway : Underway) (running : Running) (read : StateRead) (reads : List StateRead) (act : ℕ) (acts : List ℕ) (o : OutboxState) (same : underway.operation ≡ running.operation) (many : AreAsMany reads acts) (rest : (all_end number running acts (reset_told number operations.State o)).sides ≡ (o.sides ++ own (reset_op number operations.State ∷ [])) ++ own (reset_ops number (Some underway) reads)) where
-    first_says : (b : Bool) → (cond b (states_end number (act ∷ acts) (reset_told number running.operation o)) (all_end number running acts (reset_told number operations.State o))).sides
+    -- the operation first, or the read
+    abbrev FirstSays : Bool → Type 0
+    FirstSays b = (cond b (states_end number (act ∷ acts) (reset_told number running.operation o)) (all_end number running acts (reset_told number operations.State o))).sides
         ≡ o.sides ++ own (cond b (reset_op number underway.operation ∷ reset_reads number (read ∷ reads)) (reset_op number operations.State ∷ reset_ops number (Some underway) reads))
+
+    first_says : (b : Bool) → FirstSays b
     first_says true =
         one_more o _ (reset_op number running.operation) (reset_reads number (read ∷ reads)) (states_say (read ∷ reads) (act ∷ acts) (reset_told number running.operation o) many)
         ∙ ap (λ x. o.sides ++ own (reset_op number x ∷ reset_reads number (read ∷ reads))) (sym same)

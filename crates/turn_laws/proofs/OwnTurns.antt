@@ -215,8 +215,17 @@ module _ (units ready : ℕ) (start : List Disk) (past : List Moment) (s : Scene
     abbrev Judgement : Judged × Call → Type 0
     Judgement r = AreJudged (said (judged_note serial r.0) ∷ ms)
 
-    heard_by : AreBuffers host.responses old.lists.memory → ((p : Packet) (label : LabelParts) (purpose : Option Purpose) (l : Layer Purpose) → judging_step old.layer one.generation one.bytes ≡ (of_response p label purpose, l) → AreJudged (said (notes.Got serial) ∷ ms) → IsDue (received (of_response p label purpose, l) one.bytes empty_outbox old))
-        → (x : Finding Purpose × Layer Purpose) → judging_step old.layer one.generation one.bytes ≡ x → RowFor wire q old.layer.node x → Judgement (received x one.bytes empty_outbox old) → IsDue (received x one.bytes empty_outbox old)
+    -- what a response brings is due
+    abbrev Responds : Type 0
+    Responds =
+        (p : Packet) (label : LabelParts) (purpose : Option Purpose) (l : Layer Purpose) → judging_step old.layer one.generation one.bytes ≡ (of_response p label purpose, l)
+        → AreJudged (said (notes.Got serial) ∷ ms) → IsDue (received (of_response p label purpose, l) one.bytes empty_outbox old)
+
+    -- what a packet brings that is found so is due
+    abbrev Brings : Finding Purpose × Layer Purpose → Type 0
+    Brings x = judging_step old.layer one.generation one.bytes ≡ x → RowFor wire q old.layer.node x → Judgement (received x one.bytes empty_outbox old) → IsDue (received x one.bytes empty_outbox old)
+
+    heard_by : AreBuffers host.responses old.lists.memory → Responds → (x : Finding Purpose × Layer Purpose) → Brings x
     heard_by buffers responds (of_generation, l) e row j = silent empty_outbox refl
     heard_by buffers responds (of_grammar, l) e row j = silent empty_outbox refl
     heard_by buffers responds (of_label, l) e row j = silent empty_outbox refl

@@ -1,5 +1,6 @@
 -- What is carried of the target's unsolicited statuses through a sight and a second at the target, through each call of an initiator, and through each other line.
 use Rattle.std.proofs.Common.{arith, ◌≡◌, ◌∙◌, refl, sym, ap, subst, inl, inr, ◌⊎◌, ℕ, suc, ◌+◌, ◌<◌, ◌≤◌, ◌==◌, ◌&&◌, ◌||◌, nat_eq, nat_lt, Bool, true, false, cond, List, [], ◌∷◌, ◌++◌, length, map, Option, Some, None}
+use Rattle.std.proofs.Math.Nat.{suc-ne-zero}
 use Rattle.std.proofs.lemmas.Bool.Decides.{nat_tests}
 use Rattle.async_packet.specs.Labels.{LabelParts}
 use Rattle.bus_transactions.specs.Packets.{SerialsCount}
@@ -101,9 +102,6 @@ no_row layer packets f p number r = let l = life_of layer f.lives p number f.kno
 none_pends : (n r : ℕ) (t : Terms) → begun_in (t.sent r) ≡ None → is_pending t n r ≡ false
 none_pends n r t e = ap (λ o. is_serial (receiver_in (t.sent r)) n && (waits_for t o r || rests_for t o r)) e ∙ and_false (is_serial (receiver_in (t.sent r)) n)
 
-later_not_zero : (i : ℕ) → suc i ≡ 0 → ⊥
-later_not_zero i e = absurd (omega (arith, e))
-
 module _ (units ready : ℕ) (has : 0 < units) (start : List Disk) (past : List Moment) (s : Scene) (here : Place units ready start past s) (k : Kept start (hist past s.world) s) where
   abbrev w : WorldState
   w = s.world
@@ -130,7 +128,7 @@ module _ (units ready : ℕ) (has : 0 < units) (start : List Disk) (past : List 
 
     pub own_turn : Place units ready start past Then → Kept start (hist past Then.world) Then
     own_turn there =
-        own_kept units ready has start past s here k (note ∷ w.fresh) past (suc i) weight (later_not_zero i) outbox v fresh_is there
+        own_kept units ready has start past s here k (note ∷ w.fresh) past (suc i) weight (suc-ne-zero i) outbox v fresh_is there
         (owns_handed (λ to bytes. Unit {0}) (suc i) weight outbox v own (all_leave (suc i) v.generations outbox.packets))
         (note_clean units ready has start past s here note plain_note same) (beside_here units ready has start past s here (noted note t) leaves) (note_pushes start note ms plain_note) target_is count
 

@@ -1,6 +1,5 @@
 -- The present ORB of an agent stands at one address from its step in a turn to the end of the turn, whatever is told of it then: no note but of a login gives a place another agent.
 use Rattle.std.proofs.Common.{◌≡◌, ◌∙◌, ◌⊎◌, inl, inr, refl, sym, ap, subst, ℕ, ◌*◌, ◌==◌, is_some, Bool, true, false, cond, List, [], ◌∷◌, ◌++◌, map, reverse, Option, Some, None}
-use Rattle.std.specs.Prelude.{position}
 use Rattle.command_agent.specs.declared.step.AgentStep.{AgentStep}
 use Rattle.command_agent.specs.declared.step.Move.{Move}
 use Rattle.command_agent.specs.declared.step.Move.TheVariants as moves
@@ -26,7 +25,7 @@ use Rattle.rbc_disk.specs.Disk.{Disk}
 use Rattle.rbc_disk.specs.Runs.{Told, need_of}
 use Rattle.rbc_disk.specs.Units.{PlainDisk}
 use Rattle.sbp_journal.specs.Run.{Moment, said}
-use Rattle.sbp_journal.specs.Transactions.{Part, no_packet, part_of, request, response}
+use Rattle.sbp_journal.specs.Transactions.{Part, part_of}
 use Rattle.sbp_journal.specs.Wire.{Terms}
 use Rattle.sbp_journal.specs.declared.event.Event.{Event}
 use Rattle.sbp_journal.specs.declared.event.Event.TheVariants as events
@@ -38,16 +37,16 @@ use Rattle.sbp_laws.specs.LoginLaw.{is_decision_note}
 use Rattle.sbp_laws.specs.NoteKinds.{of_kind}
 use Rattle.sbp_laws.specs.Packets.{access_in_bytes}
 use Rattle.sbp_laws.specs.SentWrites.{end_in}
-use Rattle.sbp_laws.specs.Targets.{Agent, Reply, Target, agent_at, agent_over, is_nothing, is_own_run, is_write_access, key_by, known_at, main_lost, moved, sends_of, sent_as, taken_on, target_at, target_by, wants, wants_it}
+use Rattle.sbp_laws.specs.Targets.{Agent, Reply, Target, agent_at, agent_over, is_nothing, is_own_run, is_write_access, key_by, known_at, main_lost, moved, sends_of, sent_as, taken_on, target_at, target_by, wants}
 use Rattle.sbp_laws.specs.Turns.{event_of}
 use Rattle.sbp_laws.proofs.Going.{going_rests, run_rests, taken_rests}
 use Rattle.sbp_world.proofs.Common.{said_split, same_number, untrue}
-use Rattle.sbp_world.proofs.Lists.FedFolds.{is_for}
-use Rattle.sbp_world.proofs.Lists.MainAnswers.{sends_for}
+use Rattle.sbp_world.proofs.Lists.AgentFolds.{is_for}
+use Rattle.sbp_world.proofs.Lists.MainAnswers.{sends_as}
 use Rattle.sbp_world.proofs.Lists.StatusLosses.{lost_present}
 use Rattle.sbp_world.proofs.Wire.Lowest.{reversed}
-use Rattle.turn_laws.proofs.AgentFolds.{AreKept, AreSo, Pends}
-use Rattle.turn_laws.proofs.AgentNotes.{IfApart, note_kept}
+use Rattle.sbp_world.proofs.Lists.AgentFolds.{AreKept, AreSo, Pends}
+use Rattle.sbp_world.proofs.Lists.AgentNotes.{IfApart, note_kept}
 use Rattle.turn_laws.proofs.Handed.{AllInner, IsInner}
 
 -- ---- which ORB is present behind a reply does not depend on what a run told
@@ -165,13 +164,8 @@ key_rests (Some (events.Key other key)) unit t = refl
 key_rests None unit t = refl
 key_rests (Some event) unit t = refl
 
-part_rests : (part : Part) (is_write : Bool) (serial : ℕ) (t : Target) → (sent_as part is_write serial t).reply ≡ t.reply
-part_rests (request label kind) is_write serial t = sends_for (position (wants_it is_write) t.agents) is_write serial t
-part_rests (response label kind) is_write serial t = refl
-part_rests no_packet is_write serial t = refl
-
 pub sent_rests : (b : Bool) (part : Part) (is_write : Bool) (serial : ℕ) (t : Target) → t.reply ≡ None → (cond b (sent_as part is_write serial t) t).reply ≡ None
-sent_rests true part is_write serial t e = part_rests part is_write serial t ∙ e
+sent_rests true part is_write serial t e = sends_as part is_write serial t ∙ e
 sent_rests false part is_write serial t e = e
 
 pub note_rests : (note : Note) (past : List Moment) (wire : Terms) (t : Target) → IsCalm note → t.reply ≡ None → (target_by note past wire t).reply ≡ None

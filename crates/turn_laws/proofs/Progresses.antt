@@ -35,10 +35,9 @@ use Rattle.sbp_laws.specs.Targets.{Agent, Decided, Purpose, Reply, Target, agent
 use Rattle.sbp_world.proofs.Agents.Handed.{is_its_serial}
 use Rattle.sbp_world.proofs.Agents.Management.Firsts.{wire_is}
 use Rattle.sbp_world.proofs.Common.{none_is, same_number, untrue}
-use Rattle.sbp_world.proofs.Lists.OrbFolds.{at_place, new_there}
 use Rattle.sbp_world.proofs.Lists.OrbSteps.{has_read, holds_read, yes}
-use Rattle.turn_laws.proofs.AgentFolds.{AreKept, AreLasting, AreSo, AreStill, Pends, cut_still, over_still, set_so, set_still, so, stand, stand_still}
-use Rattle.turn_laws.proofs.AgentNotes.{leaves_kept, managed_kept, note_kept, pick}
+use Rattle.sbp_world.proofs.Lists.AgentFolds.{AreKept, AreLasting, AreSo, AreStill, Pends, at_place, cut_still, new_there, over_still, set_so, set_still, so, stand, stand_still}
+use Rattle.sbp_world.proofs.Lists.AgentNotes.{leaves_kept, managed_kept, note_kept, pick}
 use Rattle.turn_laws.proofs.DeathAnswers.{NoReply, write_no}
 use Rattle.turn_laws.proofs.NextSteps.{AheadIs, IsTracked, abort_ahead, abort_tracked, ahead_tracked, bell_ahead, bell_tracked, free_is, keeps_orb, lost_free, lost_looks, lost_tracked, main_tracked, none_read, point_tracked, reset_tracked, unheard_looks, unheard_tracked}
 use Rattle.sbp_world.proofs.Lists.MainStays.{wanted}

@@ -1,6 +1,7 @@
 -- What the target answers to a request that it gets, by what it keeps, is the reply of the terms: the rcode of the table of addresses and of the state that stands
 -- there, and the bytes that a read gives.
 use Rattle.std.proofs.Common.{arith, ◌≡◌, ◌∙◌, refl, sym, ap, subst, ℕ, zero, suc, ◌*◌, ◌<◌, ◌≤◌, ◌==◌, ◌&&◌, not, is_some, nat_lt, Bool, true, false, cond, List, [], length, Option, Some, None}
+use Rattle.std.proofs.Math.Nat.{suc-ne-zero}
 use Rattle.std.proofs.lemmas.Bool.Decides.{nat_tests}
 use Rattle.std.proofs.Math.ListN.{get_or-eq_default}
 use Rattle.async_packet.specs.Packet.{Packet, lock, lock_response, read_block, read_block_response, read_quadlet, read_quadlet_response, write_block, write_quadlet, write_response}
@@ -89,17 +90,14 @@ read_facts is_lock is_empty inside serves at code = record {
   is_start = at;
 }
 
-some_rcode : (n : ℕ) → suc n ≡ 0 → ⊥
-some_rcode n e = omega (arith, e)
-
 rows_give : (l e inside serves at : Bool) (code : ℕ) (rom state : List ℕ) → target_rcode (read_facts l e inside serves at code) ≡ 0
     → given_by (read_facts l e inside serves at code) rom state ≡ cond inside rom state
-rows_give true e inside serves at code rom state z = absurd (some_rcode 5 z)
-rows_give false true inside serves at code rom state z = absurd (some_rcode 5 z)
+rows_give true e inside serves at code rom state z = absurd (suc-ne-zero 5 z)
+rows_give false true inside serves at code rom state z = absurd (suc-ne-zero 5 z)
 rows_give false false true serves at code rom state z = refl
 rows_give false false false true at code rom state z = refl
-rows_give false false false false true code rom state z = absurd (some_rcode 5 z)
-rows_give false false false false false code rom state z = absurd (some_rcode 6 z)
+rows_give false false false false true code rom state z = absurd (suc-ne-zero 5 z)
+rows_give false false false false false code rom state z = absurd (suc-ne-zero 6 z)
 
 gives_by : (b : Bool) (units : ℕ) (target : Target) (access : Access)
     → target_gives b units target access ≡ cond b (laws.rom_gives 0 units access) (laws.start_gives (start_at access.offset) target)

@@ -80,7 +80,7 @@ module _ (units ready : ℕ) (has : 0 < units) (start : List Disk) {past : List 
     fits = (g units ready has start w h).mid.fits place b (not_eight place b)
 
     read : Reads (IsBrought start ms place) a.machine
-    read = (over_reads (IsBrought start ms) (target_at start ms) q.brought).reading.agents place
+    read = (over_reads (IsBrought start ms) (target_at start ms) q.brought).agents place
 
     -- it has a list open
     is_open : (c : Bool) → has_list m.phase ≡ c → c ≡ true

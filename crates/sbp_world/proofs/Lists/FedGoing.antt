@@ -218,10 +218,10 @@ module _ (start : List Disk) (Read : List Moment → ℕ → ℕ → CommandOrb 
       to_purpose : (p : Purpose) → purpose_of T own ≡ p → AreStill (Fed past) T → Then (replied_to p answer T)
       to_purpose (for_agent place which) e h = record {
         agents = λ q f. fed_same serial past q (none_read place h which q e f) (agent_at T q).machine (ready q) (h.agents q);
-        pending = λ reply f.
+        pending = λ reply f plain told is_told.
             let mine : Reply = record { place = place; which = which; answer = answer } in
             let same : mine ≡ reply = (let both : Some mine ≡ Some reply = f in cc) in
-            subst (λ (r : Reply). Pends (Fed now) (agent_at T r.place).machine r) same (pends place h which e);
+            subst (λ (r : Reply). Pends (Fed now) (agent_at T r.place).machine r) same (pends place h which e) plain told;
       }
       to_purpose for_manager e h = so (Fed now) _ (managed_kept (Fed now) (kept now) (manager_step T answer) answer T (all_same (λ q. read_is for_manager e q) h))
       to_purpose for_nobody e h = so (Fed now) T (all_same (λ q. read_is for_nobody e q) h)
@@ -243,7 +243,7 @@ module _ (start : List Disk) (Read : List Moment → ℕ → ℕ → CommandOrb 
   all_more_so : (m : Moment) → IsNoGot m → (past : List Moment) (t : Target) → AreSo (Fed past) t → AreSo (Fed (m ∷ past)) t
   all_more_so m n past t h = record {
     agents = λ q e. fed_more m n past q (agent_at t q).machine (h.agents q e);
-    pending = λ reply e plain told. fed_more m n past reply.place _ (h.pending reply e plain told);
+    pending = λ reply e plain told is_told. fed_more m n past reply.place _ (h.pending reply e plain told is_told);
   }
 
   -- what a note's packet brings

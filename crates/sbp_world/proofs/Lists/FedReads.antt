@@ -21,7 +21,7 @@ use Rattle.sbp_world.proofs.Lists.FedGoing as going
 use Rattle.sbp_world.proofs.Lists.FedGoing.{IsNoGot, same_reads}
 use Rattle.sbp_world.proofs.Lists.FedSteps.{Hears, IsFed, new_feeds}
 use Rattle.sbp_world.proofs.Lists.ManageTerms.{none_is}
-use Rattle.sbp_world.proofs.Lists.OrbFolds.{new_there}
+use Rattle.sbp_world.proofs.Lists.AgentFolds.{new_there}
 use Rattle.sbp_world.proofs.Lists.OrbReading.{brought_more, got_brings}
 
 -- ---- the agent of a place turned to an ORB that a response brought, and its reads brought these since

@@ -26,7 +26,6 @@ use Rattle.sbp_laws.proofs.Going.{going_rests, run_rests}
 use Rattle.sbp_world.specs.Agents.Crews.{agent_in}
 use Rattle.sbp_world.specs.Lists.LetsGo.{IsAnswered, IsClosing, WasClosed}
 use Rattle.sbp_world.proofs.Lists.PointersGot.{requests_got}
-use Rattle.sbp_world.proofs.Common.{untrue}
 use Rattle.sbp_world.proofs.Agents.Asides.{over_none}
 use Rattle.sbp_world.proofs.Agents.Handed.{is_its_serial as serial_there}
 
@@ -83,7 +82,7 @@ affects (effects.UnitReset unit) t = refl
 affects effects.TargetReset t = refl
 affects _ t = refl
 
-manages_by : (r : ManagerStep × (manager.Machine × Table)) (answer : Answer) (t : Target) → (managed_by r answer t).reply ≡ t.reply
+pub manages_by : (r : ManagerStep × (manager.Machine × Table)) (answer : Answer) (t : Target) → (managed_by r answer t).reply ≡ t.reply
 manages_by (step, (machine, table)) answer t = affects step.effect _
 
 pub sends_for : (place : Option ℕ) (is_write : Bool) (serial : ℕ) (t : Target) → (sent_for place is_write serial t).reply ≡ t.reply
@@ -94,7 +93,7 @@ sends_for None is_write serial t = by (wants t.manager_asks is_write)
     by true = refl
     by false = refl
 
-sends_as : (part : Part) (is_write : Bool) (serial : ℕ) (t : Target) → (sent_as part is_write serial t).reply ≡ t.reply
+pub sends_as : (part : Part) (is_write : Bool) (serial : ℕ) (t : Target) → (sent_as part is_write serial t).reply ≡ t.reply
 sends_as (request label kind) is_write serial t = sends_for (position (wants_it is_write) t.agents) is_write serial t
 sends_as (response label kind) is_write serial t = refl
 sends_as no_packet is_write serial t = refl

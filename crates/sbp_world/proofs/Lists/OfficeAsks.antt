@@ -35,7 +35,7 @@ use Rattle.sbp_world.proofs.Agents.Management.Firsts.{other_reply, own_reply, re
 use Rattle.sbp_world.proofs.Agents.Management.Offices.{IsBehind, note_changes, over_keeps, taken_keeps}
 use Rattle.sbp_world.specs.Lists.OwnLogins.{GoodIn, IsAside, IsGoodOrb, IsItsFifo}
 use Rattle.sbp_world.proofs.Lists.DataDry.{reply_may}
-use Rattle.sbp_world.proofs.Lists.PointersHeld.{IsNoGot}
+use Rattle.sbp_world.proofs.Lists.AgentGoes.{IsNoGot}
 use Rattle.async_packet.specs.Fields.{largest}
 use Rattle.bus_transactions.specs.Packets.{SerialsCount}
 use Rattle.sbp_target.specs.Management.{manager_body}

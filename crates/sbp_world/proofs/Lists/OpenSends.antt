@@ -38,7 +38,8 @@ use Rattle.sbp_world.proofs.Lists.Judging.{goes_next, grown as grown_by}
 use Rattle.sbp_world.proofs.Lists.ManageTerms.{none_is}
 use Rattle.sbp_world.proofs.Lists.OpenCuts.{is_up}
 use Rattle.sbp_world.proofs.Lists.OpenTurns.{listing_up, up_state}
-use Rattle.sbp_world.proofs.Lists.PointersHeld.{AllHold, ends_turn, note_goes, stay, then_goes}
+use Rattle.sbp_world.proofs.Lists.AgentGoes.{ends_turn, note_goes, stay, then_goes}
+use Rattle.sbp_world.proofs.Lists.PointersHeld.{AllHold, Holds, are_going}
 use Rattle.sbp_world.proofs.Lists.TakenTerms.{sends_over}
 use Rattle.sbp_world.specs.Lists.Taken.{AreTaken}
 use Rattle.sbp_world.proofs.Lists.SendsLast.{AllSends}
@@ -77,16 +78,16 @@ same_number i j e = cc
 -- ---- packets leave the pointers
 module _ (start : List Disk) where
   sends_hold : (ns : List Note) (past : List Moment) → AllSends ns → AllHold (target_at start past).agents (target_at start (map said ns ++ past)).agents
-  sends_hold [] past q = stay (target_at start past).agents
+  sends_hold [] past q = stay Holds are_going (target_at start past).agents
   sends_hold (notes.Sent serial generation from to bytes ∷ ns) past q =
       let ms = map said ns ++ past in
       let note = notes.Sent serial generation from to bytes in
-      then_goes (target_at start past).agents (target_at start ms).agents (target_at start (said note ∷ ms)).agents (sends_hold ns past q.1) (note_goes note ms (known_at start ms).wire (target_at start ms) tt)
+      then_goes Holds are_going (target_at start past).agents (target_at start ms).agents (target_at start (said note ∷ ms)).agents (sends_hold ns past q.1) (note_goes Holds are_going note ms (known_at start ms).wire (target_at start ms) tt)
   sends_hold (note ∷ ns) past q = absurd q.0
 
   pub over_hold : (ns : List Note) (past : List Moment) → AllSends ns → AllHold (target_at start past).agents (over (target_at start (map said ns ++ past))).agents
   over_hold ns past q =
-      let t = target_at start (map said ns ++ past) in then_goes (target_at start past).agents t.agents (over t).agents (sends_hold ns past q) (ends_turn t)
+      let t = target_at start (map said ns ++ past) in then_goes Holds are_going (target_at start past).agents t.agents (over t).agents (sends_hold ns past q) (ends_turn Holds are_going t)
 
   pub over_left : (ns : List Note) (past : List Moment) → AllSends ns → Leaves (target_at start past) (over (target_at start (map said ns ++ past)))
   over_left ns past q =

@@ -98,6 +98,6 @@ module _ (units ready : ℕ) (has : 0 < units) (start : List Disk) {past : List 
   has_reads each = record {
     agents = λ place b open_there.
         alike_reads (IsBrought start ms place) (agent_at T place).untold (agent_at T place).machine (machine_at w place) (s.agents.are.each place b).machine open_there
-        ((over_reads (IsBrought start ms) (target_at start ms) (reading start ms each)).reading.agents place);
+        ((over_reads (IsBrought start ms) (target_at start ms) (reading start ms each)).agents place);
     brings = λ serial sent found zero_to packet label place which e is_which b calm. brings_there serial sent found zero_to packet label place which e is_which b calm;
   }

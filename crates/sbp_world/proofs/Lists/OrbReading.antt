@@ -2,6 +2,7 @@
 use Rattle.std.proofs.Common.{◌≡◌, ◌∙◌, refl, sym, ap, subst, ◌<◌, ℕ, Bool, true, false, List, [], ◌∷◌, Some, Ok}
 use Rattle.agent_laws.specs.Along.Requests.{ahead_ask, main_ask}
 use Rattle.sbp_world.specs.Agents.AskedRuns.{AreAskedAt, HasAsked, serial_of}
+use Rattle.sbp_world.proofs.Lists.FedFolds.{so}
 use Rattle.sbp_world.proofs.Agents.Management.Firsts.{wire_is}
 use Rattle.command_agent.specs.declared.phase.Phase.TheVariants as phases
 use Rattle.command_agent.specs.declared.phase.ReadAhead.{ReadAhead}
@@ -28,7 +29,8 @@ use Rattle.sbp_laws.specs.Targets.{Agent, Target, agent_at, initiator_at, is_ser
 use Rattle.sbp_laws.specs.Turns.{EachMoment}
 use Rattle.sbp_world.specs.Lists.OrbReads.{AskedAsGot, IsBrought}
 use Rattle.sbp_world.proofs.Lists.ManageTerms.{none_is, untrue}
-use Rattle.sbp_world.proofs.Lists.OrbFolds.{AreReading, Brings, new_there, over_reads}
+use Rattle.sbp_world.proofs.Lists.AgentFolds.{new_there}
+use Rattle.sbp_world.proofs.Lists.OrbFolds.{AreReading, Brings, Has, over_reads}
 use Rattle.sbp_world.proofs.Lists.OrbNotes.{GotBrings, IfGot, note_reads}
 use Rattle.sbp_world.proofs.Lists.OrbSteps.{ReadAheadOf, Reads, new_reads}
 
@@ -45,10 +47,8 @@ module _ (R S : ℕ → CommandOrb → Type 0) (f : (address : ℕ) (orb : Comma
 module _ (R S : ℕ → ℕ → CommandOrb → Type 0) (f : (place address : ℕ) (orb : CommandOrb) → R place address orb → S place address orb) where
   pub are_more : (t : Target) → AreReading R t → AreReading S t
   are_more t h = record {
-    agents = λ q. reads_more (R q) (S q) (f q) (agent_at t q).machine (h.agents q);
-    pending = λ reply e.
-        let b = h.pending reply e in
-        record { main = λ w p bytes g. f _ _ _ (b.main w p bytes g); ahead = λ w a offset n bytes g. f _ _ _ (b.ahead w a offset n bytes g) };
+    agents = λ q e. reads_more (R q) (S q) (f q) (agent_at t q).machine (h.agents q e);
+    pending = λ reply e plain told is_told. reads_more (R reply.place) (S reply.place) (f reply.place) _ (h.pending reply e plain told is_told);
   }
 
 unfoldable pub brought_more : (start : List Disk) (m : Moment) (past : List Moment) (place address : ℕ) (orb : CommandOrb) → IsBrought start past place address orb → IsBrought start (m ∷ past) place address orb
@@ -131,14 +131,16 @@ if_got start note past waits = tt
 
 pub nothing_read : (start : List Disk) (R : ℕ → ℕ → CommandOrb → Type 0) → AreReading R (target_at start [])
 nothing_read start R = record {
-  agents = λ q. subst (λ (a : Agent). Reads (R q) a.machine) (sym (new_there 8 q)) (new_reads (R q));
+  agents = λ q e. subst (λ (a : Agent). Reads (R q) a.machine) (sym (new_there 8 q)) (new_reads (R q));
   pending = λ reply e. none_is reply e;
 }
 
 pub reading : (start : List Disk) (past : List Moment) → EachMoment (AskedAsGot start) past → AreReading (IsBrought start past) (target_at start past)
 reading start [] h = nothing_read start (IsBrought start [])
 reading start (asked line event ∷ past) h =
-    (over_reads (IsBrought start (asked line event ∷ past)) (target_at start past) (are_more (IsBrought start past) (IsBrought start (asked line event ∷ past)) (brought_more start (asked line event) past) (target_at start past) (reading start past h.1))).reading
+    let Now = IsBrought start (asked line event ∷ past) in
+    so (Has Now) (over (target_at start past))
+    (over_reads Now (target_at start past) (are_more (IsBrought start past) Now (brought_more start (asked line event) past) (target_at start past) (reading start past h.1)))
 reading start (said note ∷ past) h =
     let Now = IsBrought start (said note ∷ past) in
     note_reads (IsBrought start (said note ∷ past)) note past (known_at start past).wire (target_at start past)

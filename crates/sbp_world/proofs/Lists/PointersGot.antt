@@ -6,7 +6,8 @@ use Rattle.sbp_laws.specs.Targets.{Agent, Target, agent_at, cut_agent, points, r
 use Rattle.orb_layout.specs.Pointers.{offset_at}
 use Rattle.mgmt_agent.specs.Machine as manager
 use Rattle.sbp_world.specs.Agents.Crews.{agent_in}
-use Rattle.sbp_world.proofs.Lists.PointersHeld.{AllHold, cuts, set_goes, starts_by, stay}
+use Rattle.sbp_world.proofs.Lists.AgentGoes.{set_goes, starts_by, stay}
+use Rattle.sbp_world.proofs.Lists.PointersHeld.{AllHold, Holds, are_going, cuts}
 use Rattle.sbp_world.proofs.Lists.PointersTaken.{Taken, held_taken, points_taken, rings_held, self_taken}
 
 -- ---- the agents of all places
@@ -33,15 +34,15 @@ held_quiet : (t x : Target) → AllHold t.agents x.agents → x.reply ≡ t.repl
 held_quiet t x h r = record { agents = hold_taken t.agents x.agents h; reply = r }
 
 registers : (name : Register) (place : ℕ) (access : Access) (t : Target) → Quiet t (register_got name place access t)
-registers agent_reset place access t = held_quiet t (register_got agent_reset place access t) (set_goes t.agents place (cut_agent (agent_at t place)) (cuts (agent_at t place))) refl
+registers agent_reset place access t = held_quiet t (register_got agent_reset place access t) (set_goes Holds are_going t.agents place (cut_agent (agent_at t place)) (cuts (agent_at t place))) refl
 registers orb_pointer place access t = by access.is_write
   where
     by : (b : Bool) → Quiet t (cond b (record t { agents = slice_set t.agents place (points access (agent_at t place)) }) t)
     by true = record { agents = set_taken t.agents place (points access (agent_at t place)) (points_taken access (agent_at t place)); reply = refl }
-    by false = held_quiet t t (stay t.agents) refl
-registers doorbell place access t = held_quiet t (register_got doorbell place access t) (set_goes t.agents place (rings (agent_at t place)) (rings_held (agent_at t place))) refl
-registers unsolicited_enable place access t = held_quiet t (register_got unsolicited_enable place access t) (stay t.agents) refl
-registers agent_state place access t = held_quiet t t (stay t.agents) refl
+    by false = held_quiet t t (stay Holds are_going t.agents) refl
+registers doorbell place access t = held_quiet t (register_got doorbell place access t) (set_goes Holds are_going t.agents place (rings (agent_at t place)) (rings_held (agent_at t place))) refl
+registers unsolicited_enable place access t = held_quiet t (register_got unsolicited_enable place access t) (stay Holds are_going t.agents) refl
+registers agent_state place access t = held_quiet t t (stay Holds are_going t.agents) refl
 
 started_reply : (r : _) (t : Target) → (started_by r t).reply ≡ t.reply
 started_reply (Err busy, machine) t = refl
@@ -50,14 +51,14 @@ started_reply (Ok ask, machine) t = refl
 starts_got : (start : Start) (source : ℕ) (access : Access) (t : Target) → Quiet t (start_got start source access t)
 starts_got (register place name) source access t = registers name place access t
 starts_got management_agent source access t =
-    let r = manager.start_step t.manager source (offset_at access.payload 0) in held_quiet t (started_by r t) (starts_by r t) (started_reply r t)
-starts_got rom_start source access t = held_quiet t t (stay t.agents) refl
-starts_got no_start source access t = held_quiet t t (stay t.agents) refl
+    let r = manager.start_step t.manager source (offset_at access.payload 0) in held_quiet t (started_by r t) (starts_by Holds are_going r t) (started_reply r t)
+starts_got rom_start source access t = held_quiet t t (stay Holds are_going t.agents) refl
+starts_got no_start source access t = held_quiet t t (stay Holds are_going t.agents) refl
 
 pub requests_got : (access : Option Access) (source : ℕ) (t : Target) → Quiet t (request_got access source t)
-requests_got None source t = held_quiet t t (stay t.agents) refl
+requests_got None source t = held_quiet t t (stay Holds are_going t.agents) refl
 requests_got (Some access) source t = by (start_serves (start_at access.offset) access)
   where
     by : (b : Bool) → Quiet t (cond b (start_got (start_at access.offset) source access t) t)
     by true = starts_got (start_at access.offset) source access t
-    by false = held_quiet t t (stay t.agents) refl
+    by false = held_quiet t t (stay Holds are_going t.agents) refl

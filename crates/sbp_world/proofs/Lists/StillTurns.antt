@@ -36,6 +36,8 @@ use Rattle.sbp_world.specs.Wire.Lines.{IsLine}
 use Rattle.sbp_world.specs.Worlds.{Scene, WorldState, begun, initiator_at, without_notes}
 use Rattle.sbp_world.specs.Agents.Alike.{Alike, has_list}
 use Rattle.sbp_world.specs.Agents.AskedRuns.{AreAskedAt, serial_of}
+use Rattle.sbp_world.proofs.Lists.AgentFolds.{is_for}
+use Rattle.sbp_world.proofs.Agents.Asides.{over_none}
 use Rattle.sbp_world.proofs.Agents.Management.Holding.{Holding}
 use Rattle.sbp_world.proofs.Agents.Management.Still.{hist}
 use Rattle.sbp_world.proofs.Hosts.StepLaws.{step_law}
@@ -200,7 +202,7 @@ module _ (units ready : ℕ) (has : 0 < units) (start : List Disk) (past : List 
 
     -- before it
     had_of : (p : ℕ) (b : p < 8) → is_open_at w p ≡ true → (x : Bool) → injectors now (initiator_in w p) ≡ x → Reads (R p) (agent_at T p).machine
-    had_of p b e true f = reads_more (IsBrought start before p) (R p) (λ address orb x small calm. untrue (sym calm ∙ f)) (agent_at T p).machine ((over_reads (IsBrought start before) (target_at start before) q.brought).reading.agents p)
+    had_of p b e true f = reads_more (IsBrought start before p) (R p) (λ address orb x small calm. untrue (sym calm ∙ f)) (agent_at T p).machine ((over_reads (IsBrought start before) (target_at start before) q.brought).agents p)
     had_of p b e false f =
         alike_back (R p) (R p) (agent_at T p).untold (agent_at T p).machine (machine_at w p) (site.agents.are.each p b).machine e
         (reads_more (λ address orb. IsStillBrought start before w p address orb) (R p) (λ address orb x small calm. still_had start before now back behind w p address orb x) (machine_at w p)
@@ -210,17 +212,17 @@ module _ (units ready : ℕ) (has : 0 < units) (start : List Disk) (past : List 
     had_by p b true e = had_of p b e (injectors now (initiator_in w p)) refl
     had_by p b false e =
         closed_reads (R p) (IsBrought start before p) (agent_at T p).untold (agent_at T p).machine (machine_at w p) (site.agents.are.each p b).machine e
-        ((over_reads (IsBrought start before) (target_at start before) q.brought).reading.agents p)
+        ((over_reads (IsBrought start before) (target_at start before) q.brought).agents p)
 
     had_at : (p : ℕ) (x : Bool) → nat_lt p 8 ≡ x → Reads (R p) (agent_at T p).machine
     had_at p true e = had_by p (grind (arith, nat_tests)) (has_list (machine_at w p).phase) refl
     had_at p false e =
         let far : 8 ≤ p = grind (arith, nat_tests) in
-        reads_more (IsBrought start before p) (R p) (λ address orb x small calm. absurd (omega (arith, far, small))) (agent_at T p).machine ((over_reads (IsBrought start before) (target_at start before) q.brought).reading.agents p)
+        reads_more (IsBrought start before p) (R p) (λ address orb x small calm. absurd (omega (arith, far, small))) (agent_at T p).machine ((over_reads (IsBrought start before) (target_at start before) q.brought).agents p)
 
     over_before : AreReading R (over (target_at start before))
     over_before = record {
-      agents = λ p. had_at p (nat_lt p 8) refl;
+      agents = λ p f. had_at p (nat_lt p 8) refl;
       pending = λ reply e. none_is reply (sym (over_reads (IsBrought start before) (target_at start before) q.brought).none ∙ e);
     }
 
@@ -265,7 +267,7 @@ module _ (units ready : ℕ) (has : 0 < units) (start : List Disk) (past : List 
         let agent = agent_at (over (target_at start now)) p in
         reads_more (R p) (Still p)
         (λ address orb r. let x = r b quiet in had_still start before now w v p address orb (owner p b e) x (prepared x.named.i x.named.led.slot (subst (λ i. i < length w.initiators) (sym x.initiator) (inside p b e calm)))) (machine_at v p)
-        (alike_reads (R p) agent.untold agent.machine (machine_at v p) (site_now.agents.are.each p b).machine e (all.agents p))
+        (alike_reads (R p) agent.untold agent.machine (machine_at v p) (site_now.agents.are.each p b).machine e (all.agents p (ap (λ r. is_for r p) (over_none (target_at start now)))))
 
   -- ---- where the target stands
   module _ (back : List Moment) (behind : back ++ before ≡ now) (target : v.target ≡ w.target) where

@@ -1,6 +1,7 @@
 -- What is said of the ORBs of agents stays so over a turn, where it is so of what the packet brings that the target gets in it.
 use Rattle.std.proofs.Common.{◌≡◌, refl, sym, ap, subst, ℕ, true, false, cond, List, [], ◌∷◌, ◌++◌, map, Option, Some, None}
 use Rattle.sbp_world.specs.Agents.AskedRuns.{AreAskedAt}
+use Rattle.sbp_world.proofs.Lists.FedFolds.{so}
 use Rattle.sbp_world.proofs.Agents.Management.Firsts.{wire_is}
 use Rattle.sbp_world.proofs.Agents.Management.Still.{hist}
 use Rattle.orb_layout.specs.declared.command.CommandOrb.{CommandOrb}
@@ -24,7 +25,7 @@ use Rattle.sbp_world.specs.Settling.{MayAt, MayNext, delivered_at, delivered_nex
 use Rattle.sbp_world.specs.Worlds.{Scene, begun, without_notes}
 use Rattle.sbp_world.specs.Lists.OrbNames.{AreLed, LedAsGot}
 use Rattle.sbp_world.specs.Lists.OrbReads.{AskedAsGot}
-use Rattle.sbp_world.proofs.Lists.OrbFolds.{AreReading, over_reads}
+use Rattle.sbp_world.proofs.Lists.OrbFolds.{AreReading, Has, over_reads}
 use Rattle.sbp_world.proofs.Lists.OrbNotes.{GotBrings, IfGot, note_reads}
 use Rattle.sbp_world.proofs.Lists.OrbWaits.{over_twice}
 use Rattle.sbp_world.proofs.Lists.Quiet.{AllQuiet, Comes, Hears, IsQuiet, Quietly, acts, comes, delivery_hears, hears, injects, keys, late, loses, nothing, one_comes, quiet_none, resets, sights, ticks, unheard}
@@ -130,7 +131,7 @@ module _ (start : List Disk) (R : ℕ → ℕ → CommandOrb → Type 0) (now : 
       (note_reads R (notes.Got serial) past wire (over T) h brings)
 
   over_now : (past : List Moment) → Is past → Over past
-  over_now past h = (over_reads R (target_at start past) h).reading
+  over_now past h = so (Has R) (over (target_at start past)) (over_reads R (target_at start past) h)
 
   pub turn_over : (before : List Moment) → Course before now → EachMoment (AskedAsGot start) now → EachMoment (LedAsGot start) now → Gets before → ((line : ℕ) (event : Event) → Gets (asked line event ∷ before)) → AreReading R (over (target_at start before)) → AreReading R (over (target_at start now))
   turn_over before (as_it_was e) a l g g_line h = subst Over (sym e) h

@@ -216,7 +216,7 @@ other_plain past i j serial generation to bytes e = record {
 target_plain : (past : List Moment) (i serial generation to : ℕ) (bytes : List ℕ) → Plain past (said (notes.Sent serial generation zero to bytes) ∷ past) i
 target_plain past i serial generation to bytes = record { writes = λ s. refl; begun = refl; slot = λ n. refl; ages = λ n. refl; present = refl; links = λ n b. b }
 
-off : (b c : Bool) → b ≡ false → (b && c) ≡ false
+pub off : (b c : Bool) → b ≡ false → (b && c) ≡ false
 off true c e = untrue (sym e)
 off false c e = refl
 

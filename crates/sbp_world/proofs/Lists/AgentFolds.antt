@@ -1,6 +1,6 @@
 -- What is said of each agent of the terms of the target, by its place, where what is done with an agent keeps it: what ends a turn keeps it, and a reply that takes its agent on.
-use Rattle.std.proofs.Common.{◌≡◌, ◌∙◌, ◌⊎◌, inl, inr, refl, sym, ap, subst, arith, ℕ, zero, suc, ◌==◌, Bool, true, false, List, [], ◌∷◌, map, Option, Some, None}
-use Rattle.std.specs.Prelude.{slice_set}
+use Rattle.std.proofs.Common.{◌≡◌, ◌∙◌, ◌⊎◌, inl, inr, refl, sym, ap, subst, arith, ◌+◌, ℕ, zero, suc, ◌==◌, Bool, true, false, cond, List, [], ◌∷◌, map, Option, Some, None}
+use Rattle.std.specs.Prelude.{replicate, slice_index_or, slice_set}
 use Rattle.std.proofs.lemmas.Bool.Decides.{nat_tests}
 use Rattle.command_agent.specs.declared.step.Which.{Which}
 use Rattle.command_agent.specs.Machine.{new_machine}
@@ -11,8 +11,35 @@ use Rattle.rbc_disk.specs.Units.{PlainDisk}
 use Rattle.sbp_journal.specs.declared.note.Note.{Note}
 use Rattle.sbp_laws.specs.Targets.{Agent, Reply, Target, agent_at, agent_over, closed, cut_agent, cut_where, going_on, main_lost, moved, new_agent, over, plain_for, reply_of, sends_of, taken_on, told_in, untold_by, with_agent, with_untold}
 use Rattle.sbp_world.proofs.Common.{equal, none_is}
-use Rattle.sbp_world.proofs.Lists.FedFolds.{is_for}
-use Rattle.sbp_world.proofs.Lists.OrbFolds.{at_place, cut_or}
+
+-- ---- lists of agents
+abbrev pub at_place : List Agent → ℕ → Agent
+at_place agents q = slice_index_or agents q new_agent
+
+pub set_or : (agents : List Agent) (k : ℕ) (x : Agent) (q : ℕ) → ((q ≡ k) × (at_place (slice_set agents k x) q ≡ x)) ⊎ (at_place (slice_set agents k x) q ≡ at_place agents q)
+set_or [] k x q = inr refl
+set_or (a ∷ agents) zero x zero = inl (refl, refl)
+set_or (a ∷ agents) zero x (suc q) = inr refl
+set_or (a ∷ agents) (suc k) x zero = inr refl
+set_or (a ∷ agents) (suc k) x (suc q) = by (set_or agents k x q)
+  where
+    by : ((q ≡ k) × (at_place (slice_set agents k x) q ≡ x)) ⊎ (at_place (slice_set agents k x) q ≡ at_place agents q) → ((suc q ≡ suc k) × (at_place (slice_set agents k x) q ≡ x)) ⊎ (at_place (slice_set agents k x) q ≡ at_place agents q)
+    by (inl h) = inl (ap suc h.0, h.1)
+    by (inr h) = inr h
+
+cut_if : (b : Bool) (a : Agent) → (cond b (cut_agent a) a ≡ cut_agent a) ⊎ (cond b (cut_agent a) a ≡ a)
+cut_if true a = inl refl
+cut_if false a = inr refl
+
+pub cut_or : (test : ℕ → Bool) (p : ℕ) (agents : List Agent) (q : ℕ) → (at_place (cut_where test p agents) q ≡ cut_agent (at_place agents q)) ⊎ (at_place (cut_where test p agents) q ≡ at_place agents q)
+cut_or test p [] q = inr refl
+cut_or test p (a ∷ agents) zero = cut_if (test p) a
+cut_or test p (a ∷ agents) (suc q) = cut_or test (p + 1) agents q
+
+pub new_there : (n q : ℕ) → at_place (replicate n new_agent) q ≡ new_agent
+new_there zero q = refl
+new_there (suc n) zero = refl
+new_there (suc n) (suc q) = new_there n q
 
 -- ---- one agent of a list is replaced
 pub data SetAgent (agents : List Agent) (k : ℕ) (x : Agent) (q : ℕ) : Type 0 where
@@ -41,6 +68,11 @@ map_at f e (a ∷ agents) (suc q) = map_at f e agents q
 cut_new : cut_agent new_agent ≡ new_agent
 unfolding reset_step
 cut_new = refl
+
+-- a reply is for the agent of a place
+abbrev pub is_for : Option Reply → ℕ → Bool
+is_for None q = false
+is_for (Some reply) q = reply.place == q
 
 -- ---- what is done with an agent keeps it, as a turn goes on
 pub record AreLasting (P : ℕ → Agent → Type 0) : Type 0 where

@@ -22,7 +22,7 @@ use Rattle.sbp_journal.specs.declared.operation.FunctionWord.TheVariants as func
 use Rattle.sbp_laws.specs.Packets.{access_in_bytes}
 use Rattle.sbp_laws.specs.Targets.{Agent, Target, agent_at, effect_on, going_on, is_own_run, is_write_access, key_by, managed_by, on_unit, over, ran_on, reset_seen, sends_of, sent_as, sent_for, taken_on, target_by, wants, wants_it}
 use Rattle.sbp_laws.specs.Turns.{event_of}
-use Rattle.turn_laws.proofs.AgentFolds.{AreKept, AreSo, AreStill, all_cut, cut_still, going_still, lost_still, over_still, set_still, settles, so, stand, stand_still, where_still}
+use Rattle.sbp_world.proofs.Lists.AgentFolds.{AreKept, AreSo, AreStill, all_cut, cut_still, going_still, lost_still, over_still, set_still, settles, so, stand, stand_still, where_still}
 
 module _ (P : ℕ → Agent → Type 0) (kept : AreKept P) where
   abbrev Is : Target → Type 0
