@@ -107,7 +107,7 @@ use Rattle.sbp_world.proofs.Common.{and_first, and_second}
 pub push_kind : IsToldKind is_push_note
 push_kind = record { no_packet = λ serial generation from to bytes. refl }
 
-ran_kind : IsToldKind is_ran_note
+pub ran_kind : IsToldKind is_ran_note
 ran_kind = record { no_packet = λ serial generation from to bytes. refl }
 
 pub own_push : (note : Note) → IsNoRun note → is_push_note note ≡ false
@@ -115,7 +115,7 @@ own_push (notes.Unsolicited i) h = absurd h
 own_push (notes.Unsent i) h = absurd h
 own_push note h = refl
 
-own_ran : (note : Note) → IsNoRun note → is_ran_note note ≡ false
+pub own_ran : (note : Note) → IsNoRun note → is_ran_note note ≡ false
 own_ran (notes.Ran i list number unit cdb bytes check) h = absurd h
 own_ran note h = refl
 
@@ -229,7 +229,7 @@ module _ (units ready : ℕ) (has : 0 < units) (start : List Disk) (past : List 
   abbrev Same : Target → Type 0
   Same x = (x.table ≡ (target_at start ms).table) × ((x.units ≡ (target_at start ms).units) × (x.enabled ≡ (target_at start ms).enabled))
 
-  over_same : Same T
+  pub over_same : Same T
   over_same = taken_same (target_at start ms).reply (target_at start ms)
 
   table_is : (target_at start ms).table ≡ node.logins

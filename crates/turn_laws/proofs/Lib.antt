@@ -141,3 +141,5 @@ pub mod AnswerRuns
 pub mod BehindTurns
 pub mod TargetWaits
 pub mod Together
+pub mod RunPlans
+pub mod RunEnds

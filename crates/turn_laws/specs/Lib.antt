@@ -24,3 +24,4 @@ pub mod Judgement
 pub mod Answers
 pub mod UnderWay
 pub mod Together
+pub mod RunsEnd

@@ -1,9 +1,10 @@
--- What is proved of the turns of every run, together: the judgement law, the login law, and of the action, cause, media and sent laws what stands in each turn.
+-- What is proved of the turns of every run, together: the judgement law, the login law, of the action, cause, media and sent laws what stands in each turn, and how commands end.
 use Rattle.std.specs.Prelude.{List}
 use Rattle.rbc_disk.specs.Disk.{Disk}
 use Rattle.sbp_journal.specs.Run.{Moment}
 use Rattle.sbp_laws.specs.Aborts.{AbortsStand}
 use Rattle.sbp_laws.specs.ActionLaw.{Ordered}
+use Rattle.sbp_laws.specs.CarriedLaw.{EndsAsRead}
 use Rattle.sbp_laws.specs.Decided.{DecisionStands}
 use Rattle.sbp_laws.specs.JudgementLaw.{JudgementLaw}
 use Rattle.sbp_laws.specs.LoginLaw.{LoginLaw}
@@ -46,6 +47,7 @@ pub record LawfulInTurns (start : List Disk) (past : List Moment) : Type 0 where
   pub failing : EachTurn (FailsByRows start) past
   pub announced : EachTurn (AnnouncesWhereDue start) past
   pub alone : EachTurn (PushesAlone start) past
+  pub runs_end : EachTurn (EndsAsRead start) past
 
 abbrev pub TurnsLaw : Type 0
 TurnsLaw = OfEveryRun LawfulInTurns

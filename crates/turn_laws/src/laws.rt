@@ -18,6 +18,7 @@ ghost use Rattle.turn_laws.specs.Once.{OnceLaw};
 ghost use Rattle.turn_laws.specs.Operations.{NoneEndsLaw};
 ghost use Rattle.turn_laws.specs.Ordered.{OrderedLaw};
 ghost use Rattle.turn_laws.specs.Packets.{PacketsLaw};
+ghost use Rattle.turn_laws.specs.RunsEnd.{RunsEndLaw};
 ghost use Rattle.turn_laws.specs.Silent.{SilentLaw};
 ghost use Rattle.turn_laws.specs.UnderWay.{TargetWaitsLaw};
 ghost use Rattle.turn_laws.specs.Unserved.{UnservedLaw};
@@ -203,4 +204,11 @@ pub fn statuses_and_resets_end_operations()
 #[tactic(auto, using(crate::proofs::TargetWaits::target_waits_law))]
 pub fn what_is_active_waits_for_a_request()
     ensures { TargetWaitsLaw }
+{}
+
+/// In every run, whatever anybody injected, a command that runs ends by the ORB that was read: by the check that
+/// holds on the plain disk or, where none does, good or by a medium call that failed: `runs_end` of the lawful runs.
+#[tactic(auto, using(crate::proofs::RunEnds::runs_end_law))]
+pub fn commands_end_as_read()
+    ensures { RunsEndLaw }
 {}
