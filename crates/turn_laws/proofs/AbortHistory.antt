@@ -36,7 +36,7 @@ use Rattle.sbp_world.proofs.Common.{and_first, and_second, equal, untrue}
 use Rattle.turn_laws.proofs.AbortMarks.{Falls, Goes, Keeps, away, bell_keeps, lost_falls, point_keeps, reply_goes, reset_keeps, same, self, then_falls}
 use Rattle.turn_laws.proofs.Handed.{IsInner}
 use Rattle.turn_laws.proofs.PresentOrbs.{dead_rests, sent_rests}
-use Rattle.turn_laws.proofs.AgentFolds.{AreKept, AreLasting, AreSo, AreStill, cut_still, over_still, set_still, stand_still}
+use Rattle.turn_laws.proofs.AgentFolds.{AreKept, AreLasting, AreSo, AreStill, Every, cut_still, over_still, set_still, stand_still}
 use Rattle.turn_laws.proofs.AgentNotes.{IfApart, managed_kept, note_kept, pick}
 use Rattle.sbp_world.proofs.Lists.ResetStays.{keys}
 
@@ -54,8 +54,8 @@ module _ (R : Machine → Machine → Type 0) (then_so : (m a b : Machine) → R
   abbrev From : ℕ → Agent → Type 0
   From q a = R (first q).machine a.machine
 
-  sends : (q : ℕ) (a : Agent) (is_write : Bool) (serial : ℕ) → From q a → From q (sends_of is_write serial a)
-  sends q a is_write serial h = by (wants a.asks is_write) (wants a.asks_ahead is_write)
+  sends : (q : ℕ) (a : Agent) (is_write : Bool) (serial : ℕ) → Every serial → From q a → From q (sends_of is_write serial a)
+  sends q a is_write serial may h = by (wants a.asks is_write) (wants a.asks_ahead is_write)
     where
       by : (x y : Bool) → From q (cond x (record a { main = Some serial; asks = Nothing }) (cond y (record a { ahead = Some serial; asks_ahead = Nothing }) a))
       by true y = h
@@ -79,7 +79,7 @@ module _ (R : Machine → Machine → Type 0) (then_so : (m a b : Machine) → R
       by true = k
       by false = then_so (first q).machine (main_lost a).machine (lost_step (main_lost a).machine Ahead causes.Label).1 k (lost_falls (main_lost a).machine Ahead causes.Label)
 
-  lasts : AreLasting From
+  lasts : AreLasting From Every
   lasts = record {
     untells = λ q a b h. h;
     sends = sends;
@@ -94,10 +94,10 @@ Went first q a = Goes (first q).machine a.machine
 abbrev pub Kept : (ℕ → Agent) → ℕ → Agent → Type 0
 Kept first q a = Keeps (first q).machine a.machine
 
-went_lasts : (first : ℕ → Agent) → AreLasting (Went first)
+went_lasts : (first : ℕ → Agent) → AreLasting (Went first) Every
 went_lasts first = lasts Goes then_falls first
 
-pub are_kept : (first : ℕ → Agent) → AreKept (Kept first)
+pub are_kept : (first : ℕ → Agent) → AreKept (Kept first) Every
 are_kept first = record { lasting = lasts Keeps then_keeps first; cuts = λ q a h. reset_keeps (first q).machine a.machine }
 
 -- ---- at a moment, from the agents before it
