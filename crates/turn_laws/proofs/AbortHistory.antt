@@ -30,12 +30,11 @@ use Rattle.sbp_laws.proofs.Going.{going_rests, going_still, run_rests, taken_res
 use Rattle.sbp_journal.specs.Transactions.{part_of}
 use Rattle.sbp_laws.specs.Packets.{access_in_bytes, access_at, answer_in, id_for, packet_at, sender_in}
 use Rattle.sbp_laws.specs.Targets.{going_on, Agent, Decided, Purpose, Target, agent_at, agent_over, entered_by, enters_in, for_agent, for_manager, for_nobody, got_by, is_nothing, is_own_run, is_write_access, known_at, main_lost, manager_step, moved, new_agent, over, pointed_by, points, purpose_of, register_got, replied, replied_to, request_got, rings, sends_of, start_got, started_by, taken_on, target_at, target_by, wants, with_agent}
-use Rattle.sbp_world.proofs.Lists.AgentFolds.{at_place, is_for, set_or}
+use Rattle.sbp_world.proofs.Lists.AgentFolds.{AreKept, AreLasting, AreSo, AreStill, Every, at_place, cut_still, is_for, over_still, set_or, set_still, stand_still}
 use Rattle.sbp_world.proofs.Common.{and_first, and_second, equal, untrue}
 use Rattle.turn_laws.proofs.AbortMarks.{Falls, Goes, Keeps, away, bell_keeps, lost_falls, point_keeps, reply_goes, reset_keeps, same, self, then_falls}
 use Rattle.turn_laws.proofs.Handed.{IsInner}
 use Rattle.turn_laws.proofs.PresentOrbs.{dead_rests, sent_rests}
-use Rattle.sbp_world.proofs.Lists.AgentFolds.{AreKept, AreLasting, AreSo, AreStill, cut_still, over_still, set_still, stand_still}
 use Rattle.sbp_world.proofs.Lists.AgentNotes.{IfApart, managed_kept, note_kept, pick}
 use Rattle.sbp_world.proofs.Lists.AgentGoes.{keys}
 
@@ -53,8 +52,8 @@ module _ (R : Machine → Machine → Type 0) (then_so : (m a b : Machine) → R
   abbrev From : ℕ → Agent → Type 0
   From q a = R (first q).machine a.machine
 
-  sends : (q : ℕ) (a : Agent) (is_write : Bool) (serial : ℕ) → From q a → From q (sends_of is_write serial a)
-  sends q a is_write serial h = by (wants a.asks is_write) (wants a.asks_ahead is_write)
+  sends : (q : ℕ) (a : Agent) (is_write : Bool) (serial : ℕ) → Every serial → From q a → From q (sends_of is_write serial a)
+  sends q a is_write serial may h = by (wants a.asks is_write) (wants a.asks_ahead is_write)
     where
       by : (x y : Bool) → From q (cond x (record a { main = Some serial; asks = Nothing }) (cond y (record a { ahead = Some serial; asks_ahead = Nothing }) a))
       by true y = h
@@ -78,7 +77,7 @@ module _ (R : Machine → Machine → Type 0) (then_so : (m a b : Machine) → R
       by true = k
       by false = then_so (first q).machine (main_lost a).machine (lost_step (main_lost a).machine Ahead causes.Label).1 k (lost_falls (main_lost a).machine Ahead causes.Label)
 
-  lasts : AreLasting From
+  lasts : AreLasting From Every
   lasts = record {
     untells = λ q a b h. h;
     sends = sends;
@@ -93,10 +92,10 @@ Went first q a = Goes (first q).machine a.machine
 abbrev pub Kept : (ℕ → Agent) → ℕ → Agent → Type 0
 Kept first q a = Keeps (first q).machine a.machine
 
-went_lasts : (first : ℕ → Agent) → AreLasting (Went first)
+went_lasts : (first : ℕ → Agent) → AreLasting (Went first) Every
 went_lasts first = lasts Goes then_falls first
 
-pub are_kept : (first : ℕ → Agent) → AreKept (Kept first)
+pub are_kept : (first : ℕ → Agent) → AreKept (Kept first) Every
 are_kept first = record { lasting = lasts Keeps then_keeps first; cuts = λ q a h. reset_keeps (first q).machine a.machine }
 
 -- ---- at a moment, from the agents before it

@@ -6,6 +6,7 @@ use Rattle.bus_memory.specs.declared.window.Window.TheVariants as windows
 use Rattle.label_table.specs.Bodies.{Body}
 use Rattle.label_table.specs.Layer.{Layer}
 use Rattle.login_table.specs.declared.login.Login.{Login}
+use Rattle.orb_layout.specs.declared.ask.Ask.TheVariants.{Write}
 use Rattle.orb_list.specs.Tickets.{TicketParts}
 use Rattle.command_agent.specs.Machine.{Machine, has_present}
 use Rattle.command_agent.specs.declared.phase.Phase.{Phase}
@@ -20,6 +21,7 @@ use Rattle.sbp_laws.specs.Lists.{Orb, named, orb as named_orb, slot_at}
 use Rattle.sbp_laws.specs.NoteKinds.{is_end_note, of_kind}
 use Rattle.sbp_laws.specs.Packets.{finds_label}
 use Rattle.sbp_laws.specs.Targets.{Target, initiator_at, login_at}
+use Rattle.sbp_laws.specs.SentWrites.{writes_to}
 use Rattle.sbp_laws.specs.Turns.{Turn}
 use Rattle.sbp_target.specs.declared.purpose.Purpose.{Purpose}
 use Rattle.sbp_target.specs.Agents.{agent_body}
@@ -34,10 +36,14 @@ use Rattle.turn_laws.proofs.EndFound.{body_same, ends_tried}
 use Rattle.turn_laws.proofs.EndNotes.{brought_noted, ends_noted}
 use Rattle.turn_laws.proofs.EndShapes.{IsShapedStep}
 use Rattle.turn_laws.proofs.EndSizes.{IsSizedBy}
+use Rattle.turn_laws.proofs.FollowEnds.{no_label}
+use Rattle.turn_laws.proofs.FollowSends.{requests}
+use Rattle.turn_laws.proofs.FoundLabels.{Spells}
+use Rattle.turn_laws.proofs.TurnWrites.{all_writes}
 use Rattle.turn_laws.proofs.EndTries.{brought, brought_notes, brought_sides, found_by, notes_tried}
 
 -- an ORB that is there is that of a list
-listed : (phase : Phase) → has_present phase ≡ true → has_list phase ≡ true
+pub listed : (phase : Phase) → has_present phase ≡ true → has_list phase ≡ true
 listed phases.Fetching e = refl
 listed phases.ReadingTable e = refl
 listed (phases.ReadingData wanted) e = refl
@@ -60,6 +66,12 @@ pub record IsTurnOf (start : List Disk) (T : Target) (t : Turn) (a : AgentTurn) 
   pub law_sized : IsSizedBy a.step.ended a.step.ask a.machine.outgoing
   pub sized : IsSizedBy step.ended step.ask m.outgoing
   pub finds : (body : Body) → FitsRequest body → finds_in a.place layer login body ≡ finds_label (wire_after t) 0 (suc (initiator_at T (wire_before t) a.place)) body
+  pub spells : Spells a.place layer login
+  pub fits_lost : (let l = no_label m in IfBody (agent_body l.0.ask (is_some l.0.ended) login.fifo l.1.outgoing))
+  -- it reads ahead, and what is written to its initiator are its requests
+  pub tame : (offset size : ℕ) → step.ahead ≡ Write offset size → ⊥
+  pub behind : Layer Purpose
+  pub writes : (let i = initiator_at T (wire_before t) a.place in writes_to (suc i) t.rest ≡ all_writes (suc i) (requests a.place login (found_at a.place layer login step m) layer behind step m))
   pub holders : ℕ → Holder
   pub tickets : ℕ → ℕ → Option TicketParts
   pub told : of_kind is_end_note t.rest ≡ ends_noted holders tickets (brought_sides a.place m (brought (found_at a.place layer login step m) step m.phase))
@@ -85,10 +97,10 @@ module _ (start : List Disk) (T : Target) (t : Turn) (a : AgentTurn) (step : Age
   abbrev pub own : Option Body
   own = body_of step.ask m step.ended (fifo_in (login_at T q))
 
-  own_is : agent_body step.ask (is_some step.ended) login.fifo m.outgoing ≡ own
+  pub own_is : agent_body step.ask (is_some step.ended) login.fifo m.outgoing ≡ own
   own_is = body_same step.ask step.ended login.fifo m h.carried ∙ ap (body_of step.ask m step.ended) (sym h.fifo)
 
-  of_own : (body : Body) → own ≡ Some body → FitsRequest body
+  pub of_own : (body : Body) → own ≡ Some body → FitsRequest body
   of_own body e = subst IfBody (own_is ∙ e) h.fits
 
   pub found_is : found ≡ found_by (finds_in q layer login) own

@@ -1,10 +1,11 @@
 -- What the target tells of deaths and ends as an agent goes on: by a reply, behind a time-out, a pointer or a doorbell. They are those that its step brings, by whether its first request finds a label.
-use Rattle.std.proofs.Common.{◌≡◌, ◌∙◌, refl, sym, ap, ℕ, ◌<◌, is_some, Bool, true, false, List, [], ◌++◌, length, append-nil, Option, Some, Result, Ok, Err}
+use Rattle.std.proofs.Common.{◌≡◌, ◌∙◌, refl, sym, ap, ℕ, ◌<◌, is_some, Bool, true, false, List, [], ◌∷◌, ◌++◌, length, append-nil, Option, Some, None, Result, Ok, Err}
 use Rattle.std.proofs.Math.ListN.{length-set}
-use Rattle.async_packet.specs.Packet.{Packet}
+use Rattle.async_packet.specs.Packet.{Packet, header_in}
 use Rattle.label_table.specs.Bodies.{Body}
 use Rattle.label_table.specs.Layer.{Layer, answering_step}
 use Rattle.login_table.specs.declared.login.Login.{Login}
+use Rattle.login_table.specs.Table.{Table}
 use Rattle.orb_layout.specs.declared.ask.Ask.{Ask}
 use Rattle.orb_layout.specs.declared.ask.FailCause.TheVariants as causes
 use Rattle.orb_layout.specs.declared.pointer.OrbPointer.{OrbPointer}
@@ -36,16 +37,22 @@ use Rattle.turn_laws.proofs.StepLabels.{asked_found, finds_in}
 use Rattle.turn_laws.proofs.EndShapes.{IsShapedStep, lost_shaped, mute_of, reply_shaped, sent_of}
 use Rattle.turn_laws.proofs.EndTries.{brought, brought_sides, found_by, told_brings}
 use Rattle.turn_laws.proofs.FollowEnds.{ends_in, follow_ends, told_by}
+use Rattle.turn_laws.proofs.FollowSends.{follow_packets, requests}
+use Rattle.turn_laws.proofs.PushSends.{Pushes, announce_sends}
+use Rattle.sbp_world.proofs.Agents.AskedLate.{follow_logins}
 use Rattle.turn_laws.proofs.FollowSides.{Goes, announce_ends, announce_goes, follow_goes}
 
 -- whether the first request of a step finds a label at this layer
 abbrev pub found_at : ℕ → Layer Purpose → Login → AgentStep → Machine → Bool
 found_at q layer login step m = found_by (finds_in q layer login) (agent_body step.ask (is_some step.ended) login.fifo m.outgoing)
 
--- what is told behind these sides
-pub record Tells (q : ℕ) (layer : Layer Purpose) (login : Login) (step : AgentStep) (m : Machine) (first told : List Side) : Type 0 where
-  pub goes : Goes first told
-  pub ends : ends_in told ≡ ends_in first ++ brought_sides q m (brought (found_at q layer login step m) step m.phase)
+-- what is told and sent behind these sides and packets, where these are the logins
+pub record Tells (q : ℕ) (layer : Layer Purpose) (login : Login) (step : AgentStep) (m : Machine) (places : List (Option Login)) (first given : OutboxState) : Type 0 where
+  pub goes : Goes first.sides given.sides
+  pub ends : ends_in given.sides ≡ ends_in first.sides ++ brought_sides q m (brought (found_at q layer login step m) step m.phase)
+  -- the layer behind the first request
+  pub behind : Layer Purpose
+  pub sends : Pushes places login.unit q (first.packets ++ requests q login (found_at q layer login step m) layer behind step m) given.packets
 
 -- nothing yet
 goes_none : (first : List Side) → Goes first first
@@ -65,8 +72,22 @@ module _ (q : ℕ) (b : q < 8) (before : NodeState) (m : Machine) (login : Login
       ∙ (ap (λ x. ends_in s.outbox.sides ++ told_by x q step m) asked_is
       ∙ ap (λ ns. ends_in s.outbox.sides ++ ns) (told_brings q m (found_at q s.node.layer login step m) step shaped.0 (λ e. mute_of finds step m fin login.fifo m.outgoing step.ended step.dead step.ask shaped.1.0 e)))
 
-  pub follow_tells : Tells q s.node.layer login step m s.outbox.sides (follow q login step s).outbox.sides
-  follow_tells = record { goes = follow_goes s.outbox.sides q login step s (goes_none s.outbox.sides); ends = follow_brings }
+  abbrev behind_first : Layer Purpose
+  behind_first = (ask_main q login step (noted q step s)).1.node.layer
+
+  pub follow_requests : (follow q login step s).outbox.packets ≡ s.outbox.packets ++ requests q login (found_at q s.node.layer login step m) s.node.layer behind_first step m
+  follow_requests =
+      let fin = is_some step.ended in
+      follow_packets q b before login m step s h (λ e. sent_of finds step m fin login.fifo m.outgoing step.ended step.ask m.phase shaped.1.1 (sym asked_is ∙ e))
+      ∙ ap (λ x. s.outbox.packets ++ requests q login x s.node.layer behind_first step m) asked_is
+
+  pub follow_tells : Tells q s.node.layer login step m s.node.logins.places s.outbox (follow q login step s).outbox
+  follow_tells = record {
+    goes = follow_goes s.outbox.sides q login step s (goes_none s.outbox.sides);
+    ends = follow_brings;
+    behind = behind_first;
+    sends = record { more = []; is = follow_requests ∙ sym (append-nil _); pushes = tt };
+  }
 
 -- ---- a desk whose agent goes on
 taken_pointer : (which : Which) (d : Desk) → ((taken which d).pointer ≡ d.pointer) × ((taken which d).is_enabled ≡ d.is_enabled)
@@ -85,21 +106,28 @@ module _ (q : ℕ) (b : q < 8) (node : NodeState) (size : length node.desks ≡ 
       holds_set q node d.agent m node now (record (taken which d) { agent = m }) b own_holds e refl t.0 t.1
 
   -- ---- a reply
-  changed_desks : (x : Bool) (unit : ℕ) (n : NodeState) → ((changed_by x unit q n).desks ≡ n.desks) × ((changed_by x unit q n).layer ≡ n.layer)
-  changed_desks true unit n = (refl, refl)
-  changed_desks false unit n = (refl, refl)
+  changed_desks : (x : Bool) (unit : ℕ) (n : NodeState) → ((changed_by x unit q n).desks ≡ n.desks) × (((changed_by x unit q n).layer ≡ n.layer) × ((changed_by x unit q n).logins ≡ n.logins))
+  changed_desks true unit n = (refl, (refl, refl))
+  changed_desks false unit n = (refl, (refl, refl))
 
   module _ (login : Login) (which : Which) (x : Bool) (step : AgentStep) (m : Machine) (shaped : IsShapedStep (step, m)) where
-    all_tells : (now : NodeState) (o : OutboxState) → now.desks ≡ (with_desk node q (record (taken which (desk_at node q)) { agent = m })).desks → now.layer ≡ node.layer → Tells q node.layer login step m o.sides (follow_all x q login step (scene now o)).outbox.sides
+    all_tells : (now : NodeState) (o : OutboxState) → now.desks ≡ (with_desk node q (record (taken which (desk_at node q)) { agent = m })).desks → now.layer ≡ node.layer → now.logins ≡ node.logins
+        → Tells q node.layer login step m node.logins.places o (follow_all x q login step (scene now o)).outbox
     unfolding follow_all
-    all_tells now o e l =
+    all_tells now o e l k =
         let t = scene (changed_by x login.unit q now) o in
         let c = changed_desks x login.unit now in
         let h = stepped_holds which m t.node (c.0 ∙ e) in
         let r = follow_tells q b node m login step t h shaped in
         record {
           goes = announce_goes o.sides x login.unit q (follow q login step t) r.goes;
-          ends = announce_ends x login.unit q (follow q login step t) ∙ (r.ends ∙ ap (λ (k : Layer Purpose). ends_in o.sides ++ brought_sides q m (brought (found_at q k login step m) step m.phase)) (c.1 ∙ l));
+          ends = announce_ends x login.unit q (follow q login step t) ∙ (r.ends ∙ ap (λ (k : Layer Purpose). ends_in o.sides ++ brought_sides q m (brought (found_at q k login step m) step m.phase)) (c.1.0 ∙ l));
+          behind = behind_first q b node m login step t h shaped;
+          sends =
+              announce_sends node.logins.places login.unit q (o.packets ++ requests q login (found_at q node.layer login step m) node.layer (behind_first q b node m login step t h shaped) step m) x (follow q login step t)
+              (ap (λ (table : Table). table.places) (follow_logins q login step t ∙ (c.1.1 ∙ k)))
+              (follow_requests q b node m login step t h shaped
+              ∙ ap (λ (layer : Layer Purpose). o.packets ++ requests q login (found_at q layer login step m) layer (behind_first q b node m login step t h shaped) step m) (c.1.0 ∙ l));
         }
 
   module _ (told : Option Told) (login : Login) (which : Which) (answer : Answer) (o : OutboxState) (disks : List Disk) where
@@ -109,17 +137,17 @@ module _ (q : ℕ) (b : q < 8) (node : NodeState) (size : length node.desks ≡ 
     abbrev its : AgentStep × Machine
     its = reply_step (desk_at node q).agent q (plain_at (stage node disks) login.unit) told which answer
 
-    replied_tells : (r : AgentStep × Machine) → IsShapedStep (r.0, r.1) → Tells q node.layer login r.0 r.1 o.sides (advanced_with q login (replied_with q login.unit which r (stage node disks)) here).outbox.sides
+    replied_tells : (r : AgentStep × Machine) → IsShapedStep (r.0, r.1) → Tells q node.layer login r.0 r.1 node.logins.places o (advanced_with q login (replied_with q login.unit which r (stage node disks)) here).outbox
     replied_tells (step, m) shaped =
         let st = (replied_with q login.unit which (step, m) (stage node disks)).1 in
-        all_tells login which (came (disk_at disks login.unit) (disk_at st.disks login.unit)) step m shaped st.node o refl refl
+        all_tells login which (came (disk_at disks login.unit) (disk_at st.disks login.unit)) step m shaped st.node o refl refl refl
 
-    pub advance_tells : Tells q node.layer login its.0 its.1 o.sides (advance told q login which answer here).outbox.sides
+    pub advance_tells : Tells q node.layer login its.0 its.1 node.logins.places o (advance told q login which answer here).outbox
     unfolding advance step_replied
     advance_tells = replied_tells its (reply_shaped (desk_at node q).agent q (plain_at (stage node disks) login.unit) told which answer)
 
   -- ---- a time-out
-  pub expired_tells : (login : Login) (which : Which) (o : OutboxState) → (let l = lost_step (desk_at node q).agent which causes.Timeout in Tells q node.layer login l.0 l.1 o.sides (expired_with q login (expired_desk which (desk_at node q)) (scene node o)).outbox.sides)
+  pub expired_tells : (login : Login) (which : Which) (o : OutboxState) → (let l = lost_step (desk_at node q).agent which causes.Timeout in Tells q node.layer login l.0 l.1 node.logins.places o (expired_with q login (expired_desk which (desk_at node q)) (scene node o)).outbox)
   expired_tells login which o =
       let l = lost_step (desk_at node q).agent which causes.Timeout in
       let t = scene (with_desk node q (record (taken which (desk_at node q)) { agent = l.1 })) o in
@@ -179,6 +207,10 @@ module _ (q : ℕ) (b : q < 8) (node : NodeState) (size : length node.desks ≡ 
         kept = λ p f. (refl, refl);
       }
 
-  pub asked_tells : (ask : Ask) (login : Login) → Asks ask d.agent → Tells q answered_layer login (asks ask) d.agent o.sides (asked_in q ask (Some login) behind).outbox.sides
+  -- the response
+  abbrev pub response : OutboxState
+  response = record o { packets = o.packets ++ record { to = (header_in request).source; label = None; bytes = (answering_step node.layer request bytes 0 []).0 } ∷ [] }
+
+  pub asked_tells : (ask : Ask) (login : Login) → Asks ask d.agent → Tells q answered_layer login (asks ask) d.agent node.logins.places response (asked_in q ask (Some login) behind).outbox
   unfolding answer_step
   asked_tells ask login shaped = follow_tells q b (with_desk node q d) d.agent login (asks ask) behind answered_holds shaped

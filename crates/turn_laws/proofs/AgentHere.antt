@@ -36,7 +36,8 @@ use Rattle.sbp_target.proofs.Histories.Stepped.{Carries, ahead_loses, ahead_repl
 use Rattle.sbp_world.specs.Agents.Management.Offices.{Agrees, Office, office_of}
 use Rattle.sbp_world.specs.Agents.Holders.{IsHeld}
 use Rattle.sbp_world.specs.Agents.Serials.{kept_as}
-use Rattle.sbp_world.specs.FitTarget.{BytesTold, FitsLogin}
+use Rattle.orb_layout.specs.declared.ask.FailCause.TheVariants as causes
+use Rattle.sbp_world.specs.FitTarget.{BytesTold, FitsAgent, FitsLogin}
 use Rattle.sbp_world.specs.Hosts.Fits.{AreRows, IfLast}
 use Rattle.sbp_world.specs.Hosts.Rows.{name_in}
 use Rattle.sbp_bus.specs.Places.{or_nobody}
@@ -49,6 +50,7 @@ use Rattle.sbp_world.proofs.Agents.Management.Still.{hist}
 use Rattle.sbp_world.proofs.Common.{none_is}
 use Rattle.sbp_world.proofs.FitTarget.Agents.{BytesIn, FitsStep, lost_fits, reply_fits}
 use Rattle.sbp_world.proofs.FitTarget.Nodes.{IfBody, agent_body_fits}
+use Rattle.turn_laws.proofs.FollowEnds.{no_label}
 use Rattle.sbp_world.proofs.Lists.DueRuns.{named_as}
 use Rattle.turn_laws.proofs.Places.{Place}
 use Rattle.sbp_world.proofs.Agents.AskedAgents.{sent_reset}
@@ -173,3 +175,7 @@ module _ (units ready : ℕ) (has : 0 < units) (start : List Disk) (past : List 
 
     pub lost_body : (which : Which) (cause : FailCause) → (let r = lost_step (desk_at node q).agent which cause in IfBody (agent_body r.0.ask (is_some r.0.ended) login.fifo r.1.outgoing))
     lost_body which cause = body_fits (lost_step (desk_at node q).agent which cause) (lost_fits (desk_at node q).agent which cause (here.holds.sound.nodes.target_holds.fits.agents q))
+
+    -- and so do those of a loss behind a step
+    pub again_body : (m : Machine) → FitsAgent m → (let l = no_label m in IfBody (agent_body l.0.ask (is_some l.0.ended) login.fifo l.1.outgoing))
+    again_body m f = body_fits (no_label m) (lost_fits m Main causes.Label f)

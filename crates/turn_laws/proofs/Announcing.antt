@@ -77,9 +77,8 @@ use Rattle.sbp_world.specs.Worlds.{Scene, WorldState, initiator_at, with_note, w
 use Rattle.login_table.proofs.Searching.{within}
 use Rattle.sbp_target.proofs.Histories.Calling.{Good}
 use Rattle.sbp_target.proofs.Histories.Found.{IsFound, found as found_as}
-use Rattle.sbp_target.proofs.Histories.Primitives.{closing_known}
+use Rattle.sbp_target.proofs.Histories.Primitives.{closing_known, live_on}
 use Rattle.sbp_target.proofs.Histories.Seats.{Lives}
-use Rattle.sbp_target.proofs.Histories.Primitives.{live_on}
 use Rattle.sbp_target.proofs.Histories.Told.{side_law}
 use Rattle.sbp_world.proofs.Agents.CrewFirsts.{agrees}
 use Rattle.sbp_world.proofs.Agents.Management.Calm as calm

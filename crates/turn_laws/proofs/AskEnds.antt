@@ -1,6 +1,6 @@
 -- The deaths and ends of a request that the target got: those of an agent whose pointer or doorbell it writes, whose read finds no label, and none else.
-use Rattle.std.proofs.Common.{arith, ◌≡◌, ◌∙◌, refl, sym, ap, subst, ℕ, suc, ◌<◌, ◌≤◌, true, false, List, [], ◌∷◌, length, Option, Some, None, Result, Ok, Err}
-use Rattle.async_packet.specs.Packet.{Packet}
+use Rattle.std.proofs.Common.{arith, ◌≡◌, ◌∙◌, refl, sym, ap, subst, ℕ, suc, ◌<◌, ◌≤◌, true, false, List, [], ◌∷◌, ◌++◌, length, Option, Some, None, Result, Ok, Err}
+use Rattle.async_packet.specs.Packet.{Packet, header_in}
 use Rattle.async_packet.specs.Reading.{reading}
 use Rattle.label_table.specs.Bodies.{Body}
 use Rattle.label_table.specs.Layer.{Layer, answering_step}
@@ -38,15 +38,15 @@ use Rattle.sbp_target.specs.Serving.{answered, asked_in}
 use Rattle.sbp_target.specs.Telling.{orb_of}
 use Rattle.sbp_target.proofs.Histories.Following.{IsServed}
 use Rattle.sbp_target.proofs.Histories.Stepped.{Carries}
-use Rattle.sbp_world.specs.Agents.Alike.{Alike}
+use Rattle.sbp_world.specs.Agents.Alike.{Alike, has_list}
 use Rattle.sbp_world.specs.Hosts.Rows.{name_in}
-use Rattle.sbp_world.specs.Telling.{holder, ticket_at, told}
+use Rattle.sbp_world.specs.Telling.{holder, ticket_at, ticket_of, told}
 use Rattle.sbp_world.specs.Worlds.{Scene, WorldState}
 use Rattle.sbp_world.proofs.Agents.Management.Still.{hist}
 use Rattle.sbp_world.proofs.FitTarget.Agents.{FitsAsk}
 use Rattle.turn_laws.proofs.AgentDue.{HasTurn, IsTurnOf, has_rest, has_steps}
 use Rattle.turn_laws.proofs.AgentEnds.{Tells, asked_tells, found_at}
-use Rattle.turn_laws.proofs.AgentHere.{fifo_is, good, holder_is, initiator_is, names_are, stands_are}
+use Rattle.turn_laws.proofs.AgentHere.{again_body, fifo_is, good, holder_is, initiator_is, names_are, small_fifo, stands_are}
 use Rattle.bus_transactions.specs.Fitting.{FitsRequest}
 use Rattle.orb_layout.specs.declared.ask.Ask.TheVariants.{Nothing}
 use Rattle.orb_list.specs.Tickets.{TicketParts}
@@ -54,24 +54,29 @@ use Rattle.sbp_bus.specs.Places.{or_nobody, place_in}
 use Rattle.sbp_bus.specs.Telling as bus
 use Rattle.sbp_target.specs.Agents.{agent_body}
 use Rattle.sbp_target.specs.Sending.{with_side}
-use Rattle.sbp_world.specs.Agents.Alike.{has_list}
 use Rattle.sbp_world.specs.Agents.Holders.{IsHeld}
 use Rattle.sbp_world.specs.FitTarget.{FitsAgent}
-use Rattle.sbp_world.specs.Telling.{ticket_of}
 use Rattle.sbp_target.specs.declared.purpose.Purpose.{Purpose}
 use Rattle.sbp_world.proofs.Agents.CrewFirsts.{asks_part}
 use Rattle.sbp_world.proofs.FitTarget.Nodes.{IfBody, agent_body_fits}
 use Rattle.sbp_world.proofs.Lists.DueRuns.{list_same}
 use Rattle.sbp_world.proofs.Lists.OpenPlaces.{opened_here}
-use Rattle.turn_laws.proofs.AgentHere.{small_fifo}
 use Rattle.turn_laws.proofs.StepLabels.{finds_in}
 use Rattle.turn_laws.proofs.EndNotes.{beside_handed, ends_noted, opened_handed}
 use Rattle.turn_laws.proofs.EndShapes.{IsShapedStep}
 use Rattle.turn_laws.proofs.EndSizes.{IsNoWrite, IsSizedBy, no_write_sized}
 use Rattle.turn_laws.proofs.EndTries.{brought, brought_sides}
 use Rattle.turn_laws.proofs.FollowEnds.{ends_in}
+use Rattle.turn_laws.proofs.FollowSends.{requests, requests_to_peer}
 use Rattle.turn_laws.proofs.FollowSides.{AreBeside}
-use Rattle.turn_laws.proofs.FoundLabels.{request_finds}
+use Rattle.turn_laws.proofs.PushSends.{Pushes}
+use Rattle.turn_laws.proofs.TurnWrites.{all_writes, turn_writes}
+use Rattle.sbp_journal.specs.declared.outbox.Outgoing.{Outgoing}
+use Rattle.sbp_laws.specs.SentWrites.{writes_to}
+use Rattle.sbp_world.specs.Hosts.Handing.{AreOthers}
+use Rattle.sbp_world.proofs.Lists.StatusReads.{answer_reads}
+use Rattle.sbp_world.proofs.Lists.StatusSteps.{none_wrote}
+use Rattle.turn_laws.proofs.FoundLabels.{Spells, peer_is, request_finds, request_spells}
 use Rattle.turn_laws.proofs.Handed.{handed}
 use Rattle.turn_laws.proofs.Places.{Place}
 
@@ -155,6 +160,25 @@ module _ (units ready : ℕ) (has : 0 < units) (start : List Disk) (past : List 
       request_finds units ready start past s here q login served.is served.live serial one found zero_to part.label part.kind part.part answered_layer answered_peers answered_node body fit
       ∙ ap (λ n. finds_label (terms (said (notes.Got serial) ∷ ms)) 0 (suc n) body) (sym (initiator_is units ready has start past s here q login served.is served.live ∙ holder_is units ready has start past s here q login served.is served.live))
 
+  spells_so : Spells q answered_layer login
+  spells_so =
+      let part = asks_part units ready has start w here.holds serial false one found zero_to p read none in
+      request_spells units ready start past s here q login served.is served.live serial one found zero_to part.label part.kind part.part answered_layer answered_peers answered_node
+
+  -- what is written behind the response
+  abbrev response : List Outgoing
+  response = record { to = (header_in p).source; label = None; bytes = (answering_step new p one.bytes 0 []).0 } ∷ []
+
+  writes_behind : (now : WorldState) (o : OutboxState) (behind : Layer Purpose) (ask : Ask) (m : Machine) → now.generations ≡ w.generations → AreOthers o.sides
+      → Pushes node.logins.places login.unit q (response ++ requests q login (found_at q answered_layer login (asks ask) m) answered_layer behind (asks ask) m) o.packets
+      → writes_to (suc i) (handed 0 0 o now) ≡ all_writes (suc i) (requests q login (found_at q answered_layer login (asks ask) m) answered_layer behind (asks ask) m)
+  writes_behind now o behind ask m same others pushes =
+      let out = requests q login (found_at q answered_layer login (asks ask) m) answered_layer behind (asks ask) m in
+      let mine = initiator_is units ready has start past s here q login served.is served.live ∙ holder_is units ready has start past s here q login served.is served.live in
+      turn_writes (suc i) w.generations node.logins.places (good units ready has start past s here).table.sound q login served.is served.live
+      (peer_is units ready start past s here q login served.is served.live ∙ ap (λ n. Some (suc n)) (sym mine)) o now response out same others (answer_reads new p one.bytes 0 [], tt)
+      (requests_to_peer q login (found_at q answered_layer login (asks ask) m) answered_layer behind (asks ask) m) pushes
+
   -- the turn of an agent that asks
   abbrev law_turn : Ask → Machine → AgentTurn
   law_turn ask machine = record { place = q; untold = A.untold; which = Main; step = asks ask; machine = machine }
@@ -162,7 +186,7 @@ module _ (units ready : ℕ) (has : 0 < units) (start : List Disk) (past : List 
   body_fits : (ask : Ask) (m : Machine) → FitsAsk ask → FitsAgent m → IfBody (agent_body ask false login.fifo m.outgoing)
   body_fits ask m f g = agent_body_fits ask false login.fifo m.outgoing f (small_fifo units ready has start past s here q login served.is served.live) g.outgoing
 
-  module _ (rest : List Note) (ask : Ask) (m : Machine) (law_ask : Ask) (law_machine : Machine) (ask_is : law_ask ≡ ask) (alike : Alike A.untold law_machine m) (shaped : IsShapedStep (asks ask, m)) (carried : Carries ask m.outgoing) (reads : IsNoWrite ask) (fits_ask : FitsAsk ask) (fits_agent : FitsAgent m) (H : ℕ → Holder) (K : ℕ → ℕ → Option TicketParts) (told_is : of_kind is_end_note rest ≡ ends_noted H K (brought_sides q m (brought (found_at q answered_layer login (asks ask) m) (asks ask) m.phase))) (initiator : (H q).initiator ≡ (holder w q).initiator) (list : (H q).list ≡ list_taken start (said (notes.Got serial) ∷ ms) q) (tickets : (orb : ℕ) → K q orb ≡ ticket_at w q orb) where
+  module _ (rest : List Note) (ask : Ask) (m : Machine) (law_ask : Ask) (law_machine : Machine) (ask_is : law_ask ≡ ask) (alike : Alike A.untold law_machine m) (shaped : IsShapedStep (asks ask, m)) (carried : Carries ask m.outgoing) (reads : IsNoWrite ask) (fits_ask : FitsAsk ask) (fits_agent : FitsAgent m) (H : ℕ → Holder) (K : ℕ → ℕ → Option TicketParts) (told_is : of_kind is_end_note rest ≡ ends_noted H K (brought_sides q m (brought (found_at q answered_layer login (asks ask) m) (asks ask) m.phase))) (initiator : (H q).initiator ≡ (holder w q).initiator) (list : (H q).list ≡ list_taken start (said (notes.Got serial) ∷ ms) q) (behind : Layer Purpose) (writes : writes_to (suc i) rest ≡ all_writes (suc i) (requests q login (found_at q answered_layer login (asks ask) m) answered_layer behind (asks ask) m)) (tickets : (orb : ℕ) → K q orb ≡ ticket_at w q orb) where
     is_turn : IsTurnOf start T (t rest) (law_turn law_ask law_machine) (asks ask) m login answered_layer
     is_turn = record {
       step_is = ap asks ask_is;
@@ -174,6 +198,11 @@ module _ (units ready : ℕ) (has : 0 < units) (start : List Disk) (past : List 
       law_sized = subst (λ x. IsSizedBy None x law_machine.outgoing) (sym ask_is) (no_write_sized ask law_machine.outgoing reads);
       sized = no_write_sized ask m.outgoing reads;
       finds = finds_so;
+      spells = spells_so;
+      fits_lost = again_body units ready has start past s here q login served.is served.live m fits_agent;
+      tame = none_wrote;
+      behind = behind;
+      writes = writes;
       holders = H;
       tickets = K;
       told = told_is;
@@ -187,7 +216,7 @@ module _ (units ready : ℕ) (has : 0 < units) (start : List Disk) (past : List 
     asks_due = has_steps (asks ask) m login answered_layer is_turn
 
   -- ---- the world behind the note of the packet: the places and tickets are as before
-  module _ (now : WorldState) (holders : (k : ℕ) → holder now k ≡ holder w k) (tickets_now : (k orb : ℕ) → ticket_at now k orb ≡ ticket_at w k orb) (places : now.places ≡ w.places) where
+  module _ (now : WorldState) (holders : (k : ℕ) → holder now k ≡ holder w k) (tickets_now : (k orb : ℕ) → ticket_at now k orb ≡ ticket_at w k orb) (places : now.places ≡ w.places) (bus_same : now.generations ≡ w.generations) where
     -- ---- ORB_POINTER
     module _ (ask : Ask) (m : Machine) (pointer : OrbPointer) (law_machine : Machine) (alike : Alike A.untold law_machine m) (shaped : IsShapedStep (asks ask, m)) (carried : Carries ask m.outgoing) (reads : IsNoWrite ask) (fits_ask : FitsAsk ask) (fits_agent : FitsAgent m) (there : has_list m.phase ≡ true) (orb_is : orb_of m ≡ m.present) where
       abbrev desk : Desk
@@ -202,7 +231,7 @@ module _ (units ready : ℕ) (has : 0 < units) (start : List Disk) (past : List 
       abbrev asking : TargetScene
       asking = asked_in q ask (Some login) (answered p one.bytes 0 [] (scene (with_desk left q desk) (with_side empty_outbox first)))
 
-      tells : Tells q answered_layer login (asks ask) m (first ∷ []) asking.outbox.sides
+      tells : Tells q answered_layer login (asks ask) m node.logins.places (record (with_side empty_outbox first) { packets = response }) asking.outbox
       tells = asked_tells q b left (good units ready has start past s here).mid.size p one.bytes (with_side empty_outbox first) desk ask login shaped
 
       abbrev hold : IsHeld wire (length w.initiators) (target_at start ms) w.places q login
@@ -234,36 +263,40 @@ module _ (units ready : ℕ) (has : 0 < units) (start : List Disk) (past : List 
           ∙ (sym (list_same (ticket_at w q m.present))
           ∙ (ap list_in (names_are units ready has start past s here q login served.is served.live m.present ∙ ap (named ms i) (sym (alike.present there))) ∙ sym law_list)))
 
-      module _ (o : OutboxState) (o_is : o.sides ≡ asking.outbox.sides) (law_ask : Ask) (ask_is : law_ask ≡ ask) (law_list : list_taken start (said (notes.Got serial) ∷ ms) q ≡ list_in (named ms i law_machine.present)) where
+      module _ (o : OutboxState) (o_is : o ≡ asking.outbox) (others : AreOthers o.sides) (law_ask : Ask) (ask_is : law_ask ≡ ask) (law_list : list_taken start (said (notes.Got serial) ∷ ms) q ≡ list_in (named ms i law_machine.present)) where
         pub opened_due : HasTurn start T (t (handed 0 0 o now)) (law_turn law_ask law_machine)
         opened_due =
             let g = tells.goes in
             let H = holder opened in
             let K = ticket_at opened in
             asks_due (handed 0 0 o now) ask m law_ask law_machine ask_is alike shaped carried reads fits_ask fits_agent H K
-            (opened_handed H K 0 q (orb_of m) g.more o now (o_is ∙ g.is) (λ k. refl, λ k orb. refl) g.beside ∙ ap (ends_noted H K) (sym (ap ends_in g.is) ∙ tells.ends))
-            owner (opened_list law_list) opened_ticket
+            (opened_handed H K 0 q (orb_of m) g.more o now (ap (λ (y : OutboxState). y.sides) o_is ∙ g.is) (λ k. refl, λ k orb. refl) g.beside ∙ ap (ends_noted H K) (sym (ap ends_in g.is) ∙ tells.ends))
+            owner (opened_list law_list) tells.behind
+            (writes_behind now o tells.behind ask m bus_same others (subst (λ (y : OutboxState). Pushes node.logins.places login.unit q (response ++ requests q login (found_at q answered_layer login (asks ask) m) answered_layer tells.behind (asks ask) m) y.packets) (sym o_is) tells.sends))
+            opened_ticket
 
     -- ---- DOORBELL, of an agent out of RESET
     module _ (ask : Ask) (m : Machine) (law_ask : Ask) (law_machine : Machine) (ask_is : law_ask ≡ ask) (alike : Alike A.untold law_machine m) (shaped : IsShapedStep (asks ask, m)) (carried : Carries ask m.outgoing) (reads : IsNoWrite ask) (fits_ask : FitsAsk ask) (fits_agent : FitsAgent m) where
       abbrev rung : TargetScene
       rung = asked_in q ask (Some login) (answered p one.bytes 0 [] (scene (with_desk left q (record d { agent = m })) empty_outbox))
 
-      ring_tells : Tells q answered_layer login (asks ask) m [] rung.outbox.sides
+      ring_tells : Tells q answered_layer login (asks ask) m node.logins.places (record empty_outbox { packets = response }) rung.outbox
       ring_tells = asked_tells q b left (good units ready has start past s here).mid.size p one.bytes empty_outbox (record d { agent = m }) ask login shaped
 
-      module _ (o : OutboxState) (o_is : o.sides ≡ rung.outbox.sides) where
+      module _ (o : OutboxState) (o_is : o ≡ rung.outbox) (others : AreOthers o.sides) where
         ring_noted : of_kind is_end_note (handed 0 0 o now) ≡ ends_noted (holder now) (ticket_at now) (brought_sides q m (brought (found_at q answered_layer login (asks ask) m) (asks ask) m.phase))
         ring_noted =
             let g = ring_tells.goes in
-            beside_handed (holder now) (ticket_at now) 0 o now (λ k. refl, λ k orb. refl) (subst AreBeside (sym (o_is ∙ g.is)) g.beside)
-            ∙ ap (ends_noted (holder now) (ticket_at now)) (ap ends_in o_is ∙ ring_tells.ends)
+            beside_handed (holder now) (ticket_at now) 0 o now (λ k. refl, λ k orb. refl) (subst AreBeside (sym (ap (λ (y : OutboxState). y.sides) o_is ∙ g.is)) g.beside)
+            ∙ ap (ends_noted (holder now) (ticket_at now)) (ap (λ (y : OutboxState). ends_in y.sides) o_is ∙ ring_tells.ends)
 
         pub rung_due : is_reset (state_in d.agent.phase) ≡ false → list_taken start (said (notes.Got serial) ∷ ms) q ≡ list_taken start ms q → HasTurn start T (t (handed 0 0 o now)) (law_turn law_ask law_machine)
         rung_due up law_list =
             asks_due (handed 0 0 o now) ask m law_ask law_machine ask_is alike shaped carried reads fits_ask fits_agent (holder now) (ticket_at now) ring_noted
             (ap (λ (h : Holder). h.initiator) (holders q))
             (ap (λ (h : Holder). h.list) (holders q) ∙ (sym (here.taken q b up) ∙ sym law_list))
+            ring_tells.behind
+            (writes_behind now o ring_tells.behind ask m bus_same others (subst (λ (y : OutboxState). Pushes node.logins.places login.unit q (response ++ requests q login (found_at q answered_layer login (asks ask) m) answered_layer ring_tells.behind (asks ask) m) y.packets) (sym o_is) ring_tells.sends))
             (λ orb. tickets_now q orb)
 
         -- one in RESET asks for nothing

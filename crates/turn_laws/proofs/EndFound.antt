@@ -31,7 +31,7 @@ use Rattle.turn_laws.proofs.EndShapes.{IsMute, IsShapedStep, IsUnderWay}
 use Rattle.turn_laws.proofs.EndTries.{Brought, IsShaped, brings, brought, brought_notes, brought_unsent, fails_in, found_by, notes_tried}
 
 -- ---- a request, as the target and as the laws spell it
-fits : (n : ℕ) → n ≤ 2048 → nat_le n largest ≡ true
+pub fits : (n : ℕ) → n ≤ 2048 → nat_le n largest ≡ true
 fits n c = grind (arith, nat_tests)
 
 pub body_same : (ask : Ask) (ended : Option StatusKind) (fifo : ℕ) (m : Machine) → Carries ask m.outgoing → agent_body ask (is_some ended) fifo m.outgoing ≡ body_of ask m ended fifo
@@ -40,7 +40,7 @@ body_same (Read offset len) ended fifo m c = ap (λ b. cond b (Some (block_read 
 body_same (Write offset len) None fifo m c = ap (λ b. cond b (Some (block_write offset m.outgoing)) None) (fits (length m.outgoing) c)
 body_same (Write offset len) (Some kind) fifo m c = ap (λ b. cond b (Some (block_write fifo m.outgoing)) None) (fits (length m.outgoing) c)
 
-answering_is : (phase : Phase) → is_answering phase ≡ true → phase ≡ phases.Answering
+pub answering_is : (phase : Phase) → is_answering phase ≡ true → phase ≡ phases.Answering
 answering_is phases.Answering e = refl
 answering_is phases.Reset e = absurd (let no : false ≡ true = e in cc)
 answering_is phases.Fetching e = absurd (let no : false ≡ true = e in cc)
@@ -113,7 +113,7 @@ shaped_there kind dead phases.ReadingNext h = absurd h
 shaped_there kind dead phases.Suspended h = absurd h
 shaped_there kind dead phases.Dead h = absurd h
 
-failed_there : (kind : StatusKind) (phase : Phase) → fails_in phase ≡ Some kind → has_present phase ≡ true
+pub failed_there : (kind : StatusKind) (phase : Phase) → fails_in phase ≡ Some kind → has_present phase ≡ true
 failed_there kind phases.Fetching e = refl
 failed_there kind phases.ReadingTable e = refl
 failed_there kind (phases.ReadingData wanted) e = refl

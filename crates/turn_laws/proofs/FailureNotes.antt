@@ -44,9 +44,8 @@ use Rattle.sbp_laws.specs.Targets.{Purpose as TermPurpose, Target, for_agent, fo
 use Rattle.sbp_laws.specs.Turns.{turn}
 use Rattle.sbp_target.specs.declared.purpose.Purpose.{Purpose}
 use Rattle.sbp_target.specs.declared.purpose.Purpose.TheVariants as purposes
-use Rattle.sbp_target.specs.Nodes.{NodeState}
+use Rattle.sbp_target.specs.Nodes.{NodeState, scene as target_scene}
 use Rattle.sbp_target.specs.Nodes as target_nodes
-use Rattle.sbp_target.specs.Nodes.{scene as target_scene}
 use Rattle.sbp_target.specs.Receiving.{answer_in, expired, expired_in, received, received_as, with_layer}
 use Rattle.sbp_target.specs.Serving.{answered, is_barred, request_step, serve}
 use Rattle.sbp_target.proofs.Histories.Calling.{Good}

@@ -9,6 +9,7 @@ use Rattle.sbp_target.specs.Agents.{follow}
 use Rattle.sbp_target.specs.Nodes.{Scene}
 use Rattle.sbp_target.specs.Replies.{announced_by}
 use Rattle.sbp_target.proofs.Histories.Followed.{all_follows, announces_by}
+use Rattle.sbp_world.specs.Hosts.Handing.{AreOthers, IsOther}
 use Rattle.turn_laws.proofs.FollowEnds.{ends_in, is_end}
 
 -- a side that changes no place
@@ -23,6 +24,14 @@ IsBeside side = ⊥
 abbrev pub AreBeside : List Side → Type 0
 AreBeside [] = Unit {0}
 AreBeside (side ∷ later) = IsBeside side × AreBeside later
+
+one_other : (side : Side) → IsBeside side → IsOther side
+one_other (sides.Own note) h = absurd h
+one_other side h = tt
+
+pub beside_others : (later : List Side) → AreBeside later → AreOthers later
+beside_others [] h = tt
+beside_others (side ∷ later) h = (one_other side h.0, beside_others later h.1)
 
 both_beside : (a b : List Side) → AreBeside a → AreBeside b → AreBeside (a ++ b)
 both_beside [] b h i = i

@@ -11,7 +11,8 @@ use Rattle.bus_transactions.specs.Wire.{Node, as_sending, id_for}
 use Rattle.bus_transactions.proofs.FitSteps.{expires_same, judges_same}
 use Rattle.bus_transactions.proofs.Fits.{request_fits}
 use Rattle.label_table.specs.Bodies.{Body, header_to, request_with}
-use Rattle.label_table.specs.Layer.{Finding, Layer, expiring_step, judging_step, of_response}
+use Rattle.label_table.specs.Layer.{Finding, Layer, asking_step, expiring_step, judging_step, of_response}
+use Rattle.label_table.specs.declared.judgement.Asked.{Asked}
 use Rattle.label_table.specs.declared.reply.Stale.{Stale}
 use Rattle.login_table.specs.Table.{is_live}
 use Rattle.login_table.specs.declared.login.Login.{Login}
@@ -19,14 +20,14 @@ use Rattle.packet_store.specs.declared.sent.Sent.{Sent}
 use Rattle.packet_store.specs.Kept.{found_sent}
 use Rattle.rbc_disk.specs.Disk.{Disk}
 use Rattle.sbp_bus.specs.declared.requests.Request.{Request}
-use Rattle.sbp_bus.specs.Generations.{id_of, topology_at}
+use Rattle.sbp_bus.specs.Generations.{id_of, node_of, topology_at}
 use Rattle.sbp_bus.specs.Requests.{find}
 use Rattle.sbp_journal.specs.Run.{Moment, said}
 use Rattle.sbp_journal.specs.Transactions.{Kind, Part, Sending, Transaction, asked_by, at, between, is_same_kind, no_packet, part_of, request, response}
 use Rattle.async_packet.specs.Fields.{rcode_of}
 use Rattle.sbp_journal.specs.Wire.{Held, Terms, arrives, closes, closes_if, free, gets, gets_as, is_news, is_served, judges, rests, terms, waits}
 use Rattle.sbp_journal.specs.declared.note.Note.TheVariants as notes
-use Rattle.sbp_laws.specs.Packets.{finds_label, label_for}
+use Rattle.sbp_laws.specs.Packets.{access_in_bytes, finds_label, label_for}
 use Rattle.sbp_laws.specs.Targets.{target_at}
 use Rattle.sbp_target.specs.declared.purpose.Purpose.{Purpose}
 use Rattle.sbp_target.specs.declared.purpose.Purpose.TheVariants as purposes
@@ -37,8 +38,9 @@ use Rattle.sbp_world.specs.Worlds.{Scene, WorldState, with_note}
 use Rattle.sbp_world.proofs.Agents.Management.Holding.{known_id, was_sent}
 use Rattle.sbp_world.proofs.Agents.Management.Still.{hist}
 use Rattle.sbp_world.proofs.Wire.Asks.{upd_own}
+use Rattle.sbp_world.proofs.Wire.Found.{node_found}
 use Rattle.sbp_world.proofs.Wire.Holding.{latest_small}
-use Rattle.turn_laws.proofs.RequestLabels.{finds_at}
+use Rattle.turn_laws.proofs.RequestLabels.{access_at, body_access, finds_at}
 use Rattle.turn_laws.proofs.StepLabels.{finds_in, peers_ask}
 use Rattle.turn_laws.proofs.Places.{Place}
 use Rattle.turn_laws.proofs.TurnWires.{Judges, alone, judged_stands, late_stands, repeated}
@@ -111,6 +113,10 @@ pub request_labels : (s : ℕ) (q : Sending) (label : ℕ) (kind : Kind) (t : Te
 request_labels s q label kind t was part =
     subst (λ o. SameLabels (gets o s t) t) (sym was) (subst (λ p. SameLabels (gets_as p s q (arrived s t)) t) (sym part) (judged_labels (asked_by q) s q t))
 
+-- the packet of a request of an agent asks for what its body does
+abbrev pub Spells : ℕ → Layer Purpose → Login → Type 0
+Spells q layer login = (body : Body) → FitsRequest body → (asked : Asked) → (asking_step layer login.node body (purposes.Agent q)).0 ≡ Some asked → access_in_bytes asked.bytes ≡ body_access body
+
 -- ---- at a place, of the agent of a live login
 module _ (units ready : ℕ) (start : List Disk) (past : List Moment) (s : Scene) (here : Place units ready start past s) (q : ℕ) (login : Login) (there : login_at s.world.target q ≡ Some login) (live : is_live login ≡ true) where
   abbrev w : WorldState
@@ -139,6 +145,10 @@ module _ (units ready : ℕ) (start : List Disk) (past : List Moment) (s : Scene
       sym (known_id w here.holds.sound.stands (suc i) inside)
       ∙ (ap (λ n. (terms ms).ids ((terms ms).generation 0) n) (let e : suc i ≡ i + 1 = omega arith in e) ∙ of.of.node_is)
 
+  -- its node
+  pub peer_is : node_of w.generations 0 login.node ≡ Some (suc i)
+  peer_is = node_found w here.holds.sound.stands 0 (omega arith) login.node (record { node = suc i; there = inside; id_is = node_id })
+
   -- over any wire with the target's generation
   module _ (before : List Moment) (layers : ℕ → Node) (v : WorldState) (stands : StandsAt before layers None v) (generations : v.generations ≡ w.generations) (count : length v.initiators ≡ length w.initiators) (layer : Layer Purpose) (own_is : layers 0 ≡ bare layer) (small : layer.node < 2 ^ 16) (body : Body) (fit : FitsRequest body) where
     inside_there : suc i ≤ length v.initiators
@@ -161,6 +171,9 @@ module _ (units ready : ℕ) (start : List Disk) (past : List Moment) (s : Scene
     finds_there : finds_in q layer login body ≡ finds_label (terms (hist before v)) 0 (suc i) body
     finds_there = finds_at v stands 0 (suc i) low inside_there layer own_is login.node id_is body valid (purposes.Agent q)
 
+    spells_there : (asked : Asked) → (asking_step layer login.node body (purposes.Agent q)).0 ≡ Some asked → access_in_bytes asked.bytes ≡ body_access body
+    spells_there = access_at v stands 0 (suc i) low inside_there layer own_is login.node id_is body valid (purposes.Agent q)
+
   small_here : node.layer.node < 2 ^ 16
   small_here = here.holds.sound.nodes.target_holds.layer.small
 
@@ -176,6 +189,11 @@ module _ (units ready : ℕ) (start : List Disk) (past : List Moment) (s : Scene
     pub late_finds : (body : Body) → FitsRequest body → finds_in q new login body ≡ finds_label (terms (said (notes.TimedOut serial) ∷ ms)) 0 (suc i) body
     late_finds body fit =
         finds_there past (upd (layers_of w) request.node (bare new)) (with_note (notes.TimedOut serial) w) stands_late refl refl new
+        (ap (λ n. upd (layers_of w) n (bare new) 0) zero_is ∙ upd_own (layers_of w) 0 (bare new)) small_late body fit
+
+    pub late_spells : Spells q new login
+    late_spells body fit =
+        spells_there past (upd (layers_of w) request.node (bare new)) (with_note (notes.TimedOut serial) w) stands_late refl refl new
         (ap (λ n. upd (layers_of w) n (bare new) 0) zero_is ∙ upd_own (layers_of w) 0 (bare new)) small_late body fit
 
   -- ---- a packet that is got
@@ -204,6 +222,11 @@ module _ (units ready : ℕ) (start : List Disk) (past : List Moment) (s : Scene
           (ap (λ n. upd (layers_of v) n (bare new) 0) zero_to ∙ upd_own (layers_of v) 0 (bare new)) small_got body fit
           ∙ same_labels 0 (suc i) body (terms (said (notes.Got serial) ∷ line)) (terms (said (notes.Got serial) ∷ ms)) (gets_same (t.sent serial) serial t)
 
+      pub response_spells : Spells q new login
+      response_spells body fit =
+          spells_there line (upd (layers_of v) one.to (bare new)) (with_note (notes.Got serial) v) stands_got refl refl new
+          (ap (λ n. upd (layers_of v) n (bare new) 0) zero_to ∙ upd_own (layers_of v) 0 (bare new)) small_got body fit
+
     -- a request, which is answered first
     module _ (number : ℕ) (kind : Kind) (part : part_of one.bytes ≡ request number kind) (new : Layer Purpose) (peers_are : new.peers ≡ node.layer.peers) (node_is : new.node ≡ node.layer.node) where
       pub request_finds : (body : Body) → FitsRequest body → finds_in q new login body ≡ finds_label (terms (said (notes.Got serial) ∷ ms)) 0 (suc i) body
@@ -211,3 +234,8 @@ module _ (units ready : ℕ) (start : List Disk) (past : List Moment) (s : Scene
           ap (λ o. is_some o) (peers_ask node.layer new peers_are node_is login.node body (purposes.Agent q))
           ∙ (finds_there past (layers_of w) w here.holds.sound.stands refl refl node.layer refl small_here body fit
           ∙ sym (same_labels 0 (suc i) body (terms (said (notes.Got serial) ∷ ms)) t (request_labels serial (as_sending one) number kind t (was_sent w here.holds.sound.stands serial one found) part)))
+
+      pub request_spells : Spells q new login
+      request_spells body fit asked e =
+          spells_there past (layers_of w) w here.holds.sound.stands refl refl node.layer refl small_here body fit asked
+          (sym (peers_ask node.layer new peers_are node_is login.node body (purposes.Agent q)) ∙ e)

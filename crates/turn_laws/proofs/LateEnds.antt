@@ -48,14 +48,20 @@ use Rattle.sbp_world.proofs.Lists.RunTells.{AreRunless, lapse_runless}
 use Rattle.sbp_world.proofs.Lists.Runless.{AllPlain}
 use Rattle.turn_laws.proofs.AgentDue.{IsTurnOf, TellsEnds, has_steps, none_tells, turn_in, turn_tells}
 use Rattle.turn_laws.proofs.AgentEnds.{Tells, expired_tells, found_at}
-use Rattle.turn_laws.proofs.AgentHere.{desk_fits, fifo_is, good, holder_is, initiator_is, lost_body, lost_carries, names_are, stands_are, up_by}
+use Rattle.turn_laws.proofs.AgentHere.{again_body, desk_fits, fifo_is, good, holder_is, initiator_is, lost_body, lost_carries, names_are, stands_are, up_by}
 use Rattle.turn_laws.proofs.EndNotes.{NoEnds, beside_handed, ends_noted, low_ranks, none_handed}
 use Rattle.turn_laws.proofs.FollowEnds.{ends_in}
 use Rattle.turn_laws.proofs.EndShapes.{lost_shaped}
 use Rattle.turn_laws.proofs.EndSizes.{lost_sized, reply_sized}
 use Rattle.turn_laws.proofs.EndTries.{brought, brought_sides}
+use Rattle.turn_laws.proofs.FollowSends.{requests, requests_to_peer}
 use Rattle.turn_laws.proofs.FollowSides.{AreBeside}
-use Rattle.turn_laws.proofs.FoundLabels.{late_finds}
+use Rattle.turn_laws.proofs.PushSends.{Pushes}
+use Rattle.turn_laws.proofs.TurnWrites.{all_writes, turn_writes}
+use Rattle.sbp_laws.specs.SentWrites.{writes_to}
+use Rattle.sbp_world.proofs.FitTarget.Agents.{lost_fits}
+use Rattle.sbp_world.proofs.Lists.StatusSteps.{lost_leaves}
+use Rattle.turn_laws.proofs.FoundLabels.{late_finds, late_spells, peer_is}
 use Rattle.turn_laws.proofs.Handed.{handed}
 use Rattle.turn_laws.proofs.OrderManaged.{manages}
 use Rattle.turn_laws.proofs.Places.{Place}
@@ -141,14 +147,14 @@ module _ (units ready : ℕ) (has : 0 < units) (start : List Disk) (past : List 
       abbrev given : OutboxState
       given = (timed_out (Some (purposes.Agent q)) request.peer request.label (scene left empty_outbox)).outbox
 
-      abbrev By : Option Login → Option Which → List Side
-      By login which = (expired_by q login which (scene left empty_outbox)).outbox.sides
+      abbrev By : Option Login → Option Which → OutboxState
+      By login which = (expired_by q login which (scene left empty_outbox)).outbox
 
-      tells : Tells q new login l.0 l.1 [] given.sides
+      tells : Tells q new login l.0 l.1 node.logins.places empty_outbox given
       unfolding expire_agent
       tells =
-          subst (λ x. Tells q new login l.0 l.1 [] (By x (which_in d request.peer request.label))) (sym its.serve.login_is)
-          (subst (λ k. Tells q new login l.0 l.1 [] (By (Some login) k)) (sym its.serve.which_is)
+          subst (λ x. Tells q new login l.0 l.1 node.logins.places empty_outbox (By x (which_in d request.peer request.label))) (sym its.serve.login_is)
+          (subst (λ k. Tells q new login l.0 l.1 node.logins.places empty_outbox (By (Some login) k)) (sym its.serve.which_is)
           (expired_tells q b left (good units ready has start past s here).mid.size login its.which empty_outbox))
 
       -- by the terms
@@ -201,6 +207,16 @@ module _ (units ready : ℕ) (has : 0 < units) (start : List Disk) (past : List 
             beside_handed (holder now) (ticket_at now) 0 o now (λ p. refl, λ p orb. refl) beside
             ∙ ap (ends_noted (holder now) (ticket_at now)) (ap (λ (x : OutboxState). ends_in x.sides) o_is ∙ tells.ends)
 
+        writes : writes_to (suc i) rest ≡ all_writes (suc i) (requests q login (found_at q new login l.0 l.1) new tells.behind l.0 l.1)
+        writes =
+            let there = its.serve.login_is in
+            let live = its.serve.live in
+            let out = requests q login (found_at q new login l.0 l.1) new tells.behind l.0 l.1 in
+            let mine = initiator_is units ready has start past s here q login there live ∙ holder_is units ready has start past s here q login there live in
+            turn_writes (suc i) w.generations node.logins.places (good units ready has start past s here).table.sound q login there live (peer_is units ready start past s here q login there live ∙ ap (λ n. Some (suc n)) (sym mine)) o now [] out
+            refl others tt (requests_to_peer q login (found_at q new login l.0 l.1) new tells.behind l.0 l.1)
+            (subst (λ (y : OutboxState). Pushes node.logins.places login.unit q out y.packets) (sym o_is) tells.sends)
+
         is_turn : IsTurnOf start T (t rest) (law_turn rest) l.0 l.1 login new
         is_turn =
             let plainly = plain_handed o now runless in
@@ -218,6 +234,11 @@ module _ (units ready : ℕ) (has : 0 < units) (start : List Disk) (past : List 
               finds = λ body fit.
                   late_finds units ready start past s here q login there live serial request found zero_is purpose new e body fit
                   ∙ ap (λ n. finds_label (terms (said (notes.TimedOut serial) ∷ ms)) 0 (suc n) body) (sym (initiator_is units ready has start past s here q login there live ∙ holder_is units ready has start past s here q login there live));
+              spells = late_spells units ready start past s here q login there live serial request found zero_is purpose new e;
+              fits_lost = again_body units ready has start past s here q login there live l.1 (lost_fits d.agent its.which causes.Timeout (here.holds.sound.nodes.target_holds.fits.agents q)).agent;
+              tame = (lost_leaves d.agent its.which causes.Timeout).tame;
+              behind = tells.behind;
+              writes = writes;
               holders = holder now;
               tickets = ticket_at now;
               told = ends;

@@ -116,7 +116,7 @@ module _ (Q : ℕ → List ℕ → Type 0) where
       (sent_plain from outbox.packets v (subst (λ g. AllLeave from g outbox.packets) (sym (sides_generations weight outbox.sides w)) l))
 
 -- ---- the front of a history
-one_count : (note : Note) (past : List Moment) → SerialsCount (said note ∷ past) → SerialsCount past
+pub one_count : (note : Note) (past : List Moment) → SerialsCount (said note ∷ past) → SerialsCount past
 one_count (notes.Sent serial generation from to bytes) past c = c.1
 one_count note past c = c
 

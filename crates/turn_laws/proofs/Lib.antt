@@ -28,6 +28,11 @@ pub mod AskedLabels
 pub mod StepLabels
 pub mod EndShapes
 pub mod FollowSides
+pub mod FollowSends
+pub mod PushSends
+pub mod TurnWrites
+pub mod RequestWrites
+pub mod FetchSteps
 pub mod EndNotes
 pub mod EndFound
 pub mod AgentEnds
@@ -81,7 +86,10 @@ pub mod NextSteps
 pub mod Progresses
 pub mod PresentOrbs
 pub mod SilentTurns
+pub mod Fetches
 pub mod Silent
+pub mod StatusWrites
+pub mod Statuses
 pub mod AbortSteps
 pub mod AbortMarks
 pub mod AbortHistory

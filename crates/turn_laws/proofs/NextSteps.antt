@@ -1,6 +1,5 @@
 -- The next pointer of the ORB that an agent has read is the one that its progress got last, step by step. While the ORB is read and has not ended it is `next`, and of an ORB that
--- was read ahead `ahead`; so an ORB that ends without a death has the src of the pointer that was got last.
--- ends without a death has the src of the pointer that was got last.
+-- was read ahead `ahead`; so an ORB that ends has the src of the pointer that was got last, but where it was still to be read.
 use Rattle.std.proofs.Common.{◌≡◌, ◌∙◌, refl, sym, ap, subst, ℕ, ◌+◌, ◌*◌, ◌==◌, is_some, Bool, true, false, cond, List, ◌++◌, length, Option, Some, None, Result, Ok, Err}
 use Rattle.orb_layout.specs.declared.ask.Ask.TheVariants.{Nothing, Read}
 use Rattle.orb_layout.specs.declared.ask.FailCause.{FailCause}
@@ -64,12 +63,13 @@ pub record IsTracked (p : Progress) (m : Machine) : Type 0 where
   pub ahead : AheadIs p.ahead m.orb.next m.ahead
   pub idle : has_read m.phase ≡ false → m.ahead ≡ aheads.Idle
 
-pub record Steps (p : Progress) (s : AgentStep × Machine) : Type 0 where
+-- F is what is known of an ORB that was still to be read
+pub record Steps (p : Progress) (F : Type 0) (s : AgentStep × Machine) : Type 0 where
   pub tracked : IsTracked p s.1
-  pub ended : s.0.dead ≡ None → is_some s.0.ended ≡ true → p.next ≡ s.1.orb.next
+  pub ended : F → is_some s.0.ended ≡ true → p.next ≡ s.1.orb.next
   pub looks : is_nothing s.0.ahead ≡ false → keeps_orb s.1.ahead ≡ false
 
-null_idle : (got : Option OrbPointer) (next : OrbPointer) (ahead : ReadAhead) → next ≡ Null → AheadIs got next ahead → ahead ≡ aheads.Idle
+pub null_idle : (got : Option OrbPointer) (next : OrbPointer) (ahead : ReadAhead) → next ≡ Null → AheadIs got next ahead → ahead ≡ aheads.Idle
 null_idle got next aheads.Idle e h = refl
 null_idle got next (aheads.UnderWay rung) e h = absurd (let no : Null ≡ At h.offset = sym e ∙ h.is in cc)
 null_idle got next (aheads.Kept orb) e h = absurd (let no : Null ≡ At h.names.offset = sym e ∙ h.names.is in cc)
@@ -83,55 +83,55 @@ pub record HasOrb (p : Progress) (m : Machine) : Type 0 where
   pub ahead : AheadIs p.ahead m.orb.next m.ahead
 
 -- and one that has it still behind a step, if it did not die
-pub record Lives (p : Progress) (s : AgentStep × Machine) : Type 0 where
-  pub steps : Steps p s
+pub record Lives (p : Progress) (F : Type 0) (s : AgentStep × Machine) : Type 0 where
+  pub steps : Steps p F s
   pub alive : s.0.dead ≡ None → has_read s.1.phase ≡ true
 
-module _ (p : Progress) where
-  ends : (m : Machine) (kind : StatusKind) (dead : Option FailCause) → HasOrb p m → Lives p (end_step m kind dead)
-  ends m kind None h = record { steps = record { tracked = record { main = λ e. untrue e; ahead = h.ahead; idle = λ e. yes e }; ended = λ d e. h.next; looks = λ x. yes x }; alive = λ d. refl }
+module _ (p : Progress) (F : Type 0) where
+  ends : (m : Machine) (kind : StatusKind) (dead : Option FailCause) → HasOrb p m → Lives p F (end_step m kind dead)
+  ends m kind None h = record { steps = record { tracked = record { main = λ e. untrue e; ahead = h.ahead; idle = λ e. yes e }; ended = λ f e. h.next; looks = λ x. yes x }; alive = λ d. refl }
   ends m kind (Some cause) h =
-      record { steps = record { tracked = record { main = λ e. untrue e; ahead = tt; idle = λ e. refl }; ended = λ d e. some_none cause d; looks = λ x. yes x }; alive = λ d. some_none cause d }
+      record { steps = record { tracked = record { main = λ e. untrue e; ahead = tt; idle = λ e. refl }; ended = λ f e. h.next; looks = λ x. yes x }; alive = λ d. some_none cause d }
 
-  fails : (m : Machine) (cause : FailCause) → Steps p (end_step m kinds.Failed (Some cause))
-  fails m cause = record { tracked = record { main = λ e. untrue e; ahead = tt; idle = λ e. refl }; ended = λ d e. some_none cause d; looks = λ x. yes x }
+  fails : (m : Machine) (cause : FailCause) → (F → p.next ≡ m.orb.next) → Steps p F (end_step m kinds.Failed (Some cause))
+  fails m cause n = record { tracked = record { main = λ e. untrue e; ahead = tt; idle = λ e. refl }; ended = λ f e. n f; looks = λ x. yes x }
 
-  dies : (m : Machine) (cause : FailCause) → Steps p (dead_step m cause)
-  dies m cause = record { tracked = record { main = λ e. untrue e; ahead = tt; idle = λ e. refl }; ended = λ d e. untrue e; looks = λ x. yes x }
+  dies : (m : Machine) (cause : FailCause) → Steps p F (dead_step m cause)
+  dies m cause = record { tracked = record { main = λ e. untrue e; ahead = tt; idle = λ e. refl }; ended = λ f e. untrue e; looks = λ x. yes x }
 
-  answers : (m : Machine) → HasOrb p m → Lives p (answer_step m)
-  answers m h = record { steps = record { tracked = record { main = λ e. h.next; ahead = h.ahead; idle = λ e. yes e }; ended = λ d e. untrue e; looks = λ x. yes x }; alive = λ d. refl }
+  answers : (m : Machine) → HasOrb p m → Lives p F (answer_step m)
+  answers m h = record { steps = record { tracked = record { main = λ e. h.next; ahead = h.ahead; idle = λ e. yes e }; ended = λ f e. untrue e; looks = λ x. yes x }; alive = λ d. refl }
 
-  either : (b : Bool) (x y : AgentStep × Machine) → Lives p x → Lives p y → Lives p (cond b x y)
+  either : (b : Bool) (x y : AgentStep × Machine) → Lives p F x → Lives p F y → Lives p F (cond b x y)
   either true x y h i = h
   either false x y h i = i
 
-  ran : (m : Machine) (outcome : Outcome) → HasOrb p m → Lives p (ran_as m outcome)
+  ran : (m : Machine) (outcome : Outcome) → HasOrb p m → Lives p F (ran_as m outcome)
   ran m (outcomes.Check sense) h = ends m (kinds.Check sense) None h
   ran m (outcomes.Good len) h = either (len == 0) (end_step m kinds.Good None) (answer_step m) (ends m kinds.Good None h) (answers m h)
 
-  same_lives : (s : AgentStep × Machine) (outcome : Outcome) → Lives p s → Lives p (record s.0 { ran = Some outcome }, s.1)
+  same_lives : (s : AgentStep × Machine) (outcome : Outcome) → Lives p F s → Lives p F (record s.0 { ran = Some outcome }, s.1)
   same_lives s outcome h = record { steps = record { tracked = h.steps.tracked; ended = h.steps.ended; looks = h.steps.looks }; alive = h.alive }
 
-  runs : (m : Machine) (told : Told) → HasOrb p m → Lives p (run_step m told)
+  runs : (m : Machine) (told : Told) → HasOrb p m → Lives p F (run_step m told)
   runs m told h =
       let n = record m { answer = told.answer; written = 0 } in
       same_lives (ran_as n told.outcome) told.outcome (ran n told.outcome (record { next = h.next; ahead = h.ahead }))
 
-  reads_data : (m : Machine) (wanted : ℕ) → HasOrb p m → Lives p (data_step m wanted)
-  reads_data m wanted h = record { steps = record { tracked = record { main = λ e. h.next; ahead = h.ahead; idle = λ e. yes e }; ended = λ d e. untrue e; looks = λ x. yes x }; alive = λ d. refl }
+  reads_data : (m : Machine) (wanted : ℕ) → HasOrb p m → Lives p F (data_step m wanted)
+  reads_data m wanted h = record { steps = record { tracked = record { main = λ e. h.next; ahead = h.ahead; idle = λ e. yes e }; ended = λ f e. untrue e; looks = λ x. yes x }; alive = λ d. refl }
 
-  by_need : (m : Machine) (told : Told) (need : Need) → HasOrb p m → Lives p (judged m told need)
+  by_need : (m : Machine) (told : Told) (need : Need) → HasOrb p m → Lives p F (judged m told need)
   by_need m told needs.RunNow h = runs m told h
   by_need m told (needs.Payload len) h = reads_data m len h
 
-  judges : (m : Machine) (place : ℕ) (plain : PlainDisk) (told : Told) → HasOrb p m → Lives p (judge_step m place plain told)
+  judges : (m : Machine) (place : ℕ) (plain : PlainDisk) (told : Told) → HasOrb p m → Lives p F (judge_step m place plain told)
   judges m place plain told h = by_need m told (need_of m.orb.cdb (plan_of m) plain place) h
 
-  tables : (m : Machine) → HasOrb p m → Lives p (asks (Read m.orb.descriptor (8 * m.orb.data_size)), record m { phase = phases.ReadingTable })
-  tables m h = record { steps = record { tracked = record { main = λ e. h.next; ahead = h.ahead; idle = λ e. yes e }; ended = λ d e. untrue e; looks = λ x. yes x }; alive = λ d. refl }
+  tables : (m : Machine) → HasOrb p m → Lives p F (asks (Read m.orb.descriptor (8 * m.orb.data_size)), record m { phase = phases.ReadingTable })
+  tables m h = record { steps = record { tracked = record { main = λ e. h.next; ahead = h.ahead; idle = λ e. yes e }; ended = λ f e. untrue e; looks = λ x. yes x }; alive = λ d. refl }
 
-  checks : (m : Machine) (place : ℕ) (plain : PlainDisk) (told : Told) (found : Option StatusKind) → HasOrb p m → Lives p (checked m place plain told found)
+  checks : (m : Machine) (place : ℕ) (plain : PlainDisk) (told : Told) (found : Option StatusKind) → HasOrb p m → Lives p F (checked m place plain told found)
   checks m place plain told (Some kind) h = ends m kind (death_by kind) h
   checks m place plain told None h =
       let n = record m { segments = unread_buffer m.orb } in
@@ -139,7 +139,7 @@ module _ (p : Progress) where
       (judges n place plain told (record { next = h.next; ahead = h.ahead }))
 
   -- behind it the read ahead of the ORB that it names
-  looks_ahead : (dead : Option FailCause) (next : OrbPointer) (s : AgentStep × Machine) → s.0.dead ≡ dead → s.1.orb.next ≡ next → Lives p s → Steps p (ahead_of dead next s)
+  looks_ahead : (dead : Option FailCause) (next : OrbPointer) (s : AgentStep × Machine) → s.0.dead ≡ dead → s.1.orb.next ≡ next → Lives p F s → Steps p F (ahead_of dead next s)
   looks_ahead None (At next) s d e h = record {
     tracked = record { main = h.steps.tracked.main; ahead = record { offset = next; is = e }; idle = λ x. yes (sym (h.alive d) ∙ x) };
     ended = h.steps.ended;
@@ -150,12 +150,12 @@ module _ (p : Progress) where
 
   -- ---- moves
   abbrev Moves : Move × Machine → Type 0
-  Moves (moves.Send step, m) = Steps p (step, m)
+  Moves (moves.Send step, m) = Steps p F (step, m)
   Moves (moves.Check, m) = HasOrb p m
   Moves (moves.Judge, m) = HasOrb p m
   Moves (moves.Run, m) = HasOrb p m
 
-  serves : (place : ℕ) (plain : PlainDisk) (told : Told) (r : Move × Machine) → Moves r → Steps p (served place plain told r.0 r.1)
+  serves : (place : ℕ) (plain : PlainDisk) (told : Told) (r : Move × Machine) → Moves r → Steps p F (served place plain told r.0 r.1)
   serves place plain told (moves.Send step, m) h = h
   serves place plain told (moves.Check, m) h =
       let s = check_step m place plain told in looks_ahead s.0.dead s.1.orb.next s refl refl (checks m place plain told (verdict m.orb m.aborted) h)
@@ -166,22 +166,22 @@ module _ (p : Progress) where
   pick true x y h i = h
   pick false x y h i = i
 
-  fetched : (m : Machine) (r : Result (List ℕ) FailCause) → m.ahead ≡ aheads.Idle → ((bytes : List ℕ) → r ≡ Ok bytes → p.next ≡ pointer_at bytes 0) → Moves (orb_read m r)
-  fetched m (Err cause) e f = fails m cause
-  fetched m (Ok bytes) e f = record { next = f bytes refl; ahead = idle_is p.ahead (pointer_at bytes 0) m.ahead e }
+  fetched : (m : Machine) (r : Result (List ℕ) FailCause) → m.ahead ≡ aheads.Idle → ((bytes : List ℕ) → r ≡ Ok bytes → p.next ≡ pointer_at bytes 0) → ((cause : FailCause) → r ≡ Err cause → F → p.next ≡ m.orb.next) → Moves (orb_read m r)
+  fetched m (Err cause) e f n = fails m cause (n cause refl)
+  fetched m (Ok bytes) e f n = record { next = f bytes refl; ahead = idle_is p.ahead (pointer_at bytes 0) m.ahead e }
 
   by_fault : (m : Machine) (bytes : List ℕ) (fault : Option PageFault) → HasOrb p m → Moves (elements_read m bytes fault)
   by_fault m bytes None h = record { next = h.next; ahead = h.ahead }
   by_fault m bytes (Some fault) h = (ends m (kinds.Illegal 0xff) (Some causes.Grammar) h).steps
 
   tabled : (m : Machine) (r : Result (List ℕ) FailCause) → HasOrb p m → Moves (table_read m r)
-  tabled m (Err cause) h = fails m cause
+  tabled m (Err cause) h = fails m cause (λ f. h.next)
   tabled m (Ok bytes) h =
       let fault = first_fault 0 (elements_of bytes) in
       pick m.aborted (sent (end_step m kinds.Aborted None)) (elements_read m bytes fault) (ends m kinds.Aborted None h).steps (by_fault m bytes fault h)
 
   filled : (m : Machine) (wanted : ℕ) (r : Result (List ℕ) FailCause) → HasOrb p m → Moves (data_read m wanted r)
-  filled m wanted (Err cause) h = fails m cause
+  filled m wanted (Err cause) h = fails m cause (λ f. h.next)
   filled m wanted (Ok bytes) h =
       let n = record m { payload = m.payload ++ bytes } in
       let k : HasOrb p n = record { next = h.next; ahead = h.ahead } in
@@ -189,7 +189,7 @@ module _ (p : Progress) where
       (pick (length n.payload == wanted) (moves.Run, n) (sent (data_step n wanted)) k (reads_data n wanted k).steps)
 
   chunked : (m : Machine) (failure : Option FailCause) → HasOrb p m → Moves (chunk_written m failure)
-  chunked m (Some cause) h = fails m cause
+  chunked m (Some cause) h = fails m cause (λ f. h.next)
   chunked m None h =
       let n = record m { written = m.written + answer_chunk m } in
       let k : HasOrb p n = record { next = h.next; ahead = h.ahead } in
@@ -199,16 +199,16 @@ module _ (p : Progress) where
   quiet_in : (m : Machine) (phase : Phase) → holds_read phase ≡ false → m.ahead ≡ aheads.Idle → IsTracked p (record m { phase = phase })
   quiet_in m phase e i = record { main = λ x. untrue (sym e ∙ x); ahead = idle_is p.ahead m.orb.next m.ahead i; idle = λ x. i }
 
-  waits : (m : Machine) → m.ahead ≡ aheads.Idle → Steps p (wait_step m)
+  waits : (m : Machine) → m.ahead ≡ aheads.Idle → Steps p F (wait_step m)
   waits m i = by m.doorbell
     where
-      by : (b : Bool) → Steps p (cond b (reread_step m) (quiet, record m { phase = phases.Suspended }))
-      by true = record { tracked = record { main = λ x. untrue x; ahead = idle_is p.ahead m.orb.next m.ahead i; idle = λ x. i }; ended = λ d e. untrue e; looks = λ x. yes x }
-      by false = record { tracked = quiet_in m phases.Suspended refl i; ended = λ d e. untrue e; looks = λ x. yes x }
+      by : (b : Bool) → Steps p F (cond b (reread_step m) (quiet, record m { phase = phases.Suspended }))
+      by true = record { tracked = record { main = λ x. untrue x; ahead = idle_is p.ahead m.orb.next m.ahead i; idle = λ x. i }; ended = λ f e. untrue e; looks = λ x. yes x }
+      by false = record { tracked = quiet_in m phases.Suspended refl i; ended = λ f e. untrue e; looks = λ x. yes x }
 
   turned_by : (m : Machine) (next : ℕ) (ahead : ReadAhead) → ((orb : CommandOrb) → ahead ≡ aheads.Kept orb → p.next ≡ orb.next) → Moves (turn_step m next ahead)
-  turned_by m next aheads.Idle f = record { tracked = record { main = λ x. untrue x; ahead = tt; idle = λ x. refl }; ended = λ d e. untrue e; looks = λ x. yes x }
-  turned_by m next (aheads.UnderWay rung) f = record { tracked = record { main = λ x. untrue x; ahead = tt; idle = λ x. refl }; ended = λ d e. untrue e; looks = λ x. yes x }
+  turned_by m next aheads.Idle f = record { tracked = record { main = λ x. untrue x; ahead = tt; idle = λ x. refl }; ended = λ f e. untrue e; looks = λ x. yes x }
+  turned_by m next (aheads.UnderWay rung) f = record { tracked = record { main = λ x. untrue x; ahead = tt; idle = λ x. refl }; ended = λ f e. untrue e; looks = λ x. yes x }
   turned_by m next (aheads.Kept orb) f = record { next = f orb refl; ahead = tt }
 
   follows : (m : Machine) (next : OrbPointer) → ((orb : CommandOrb) → m.ahead ≡ aheads.Kept orb → p.next ≡ orb.next) → (next ≡ Null → m.ahead ≡ aheads.Idle) → Moves (follow_step m next)
@@ -225,12 +225,12 @@ module _ (p : Progress) where
 kept_next : (p : Progress) (next : OrbPointer) (ahead : ReadAhead) (orb : CommandOrb) → ahead ≡ aheads.Kept orb → AheadIs p.ahead next ahead → (turns p.ahead p).next ≡ orb.next
 kept_next p next ahead orb e h = let k : NamesKept next p.ahead orb = subst (AheadIs p.ahead next) e h in ap (λ x. (turns x p).next) k.got_is
 
-status_moves : (p : Progress) (m : Machine) (answer : Answer) → AheadIs p.ahead m.orb.next m.ahead → Moves (gets_main phases.WritingStatus answer p) (status_written m (write_failure answer))
-status_moves p m (Payload bytes) h = dies p m causes.Grammar
-status_moves p m (Refused rcode) h = dies p m causes.Refused
-status_moves p m Expired h = dies p m causes.Timeout
-status_moves p m NoLabel h = dies p m causes.Label
-status_moves p m Done h = follows (turns p.ahead p) m m.orb.next (λ orb e. kept_next p m.orb.next m.ahead orb e h) (λ e. null_idle p.ahead m.orb.next m.ahead e h)
+status_moves : (p : Progress) (F : Type 0) (m : Machine) (answer : Answer) → AheadIs p.ahead m.orb.next m.ahead → Moves (gets_main phases.WritingStatus answer p) F (status_written m (write_failure answer))
+status_moves p F m (Payload bytes) h = dies p F m causes.Grammar
+status_moves p F m (Refused rcode) h = dies p F m causes.Refused
+status_moves p F m Expired h = dies p F m causes.Timeout
+status_moves p F m NoLabel h = dies p F m causes.Label
+status_moves p F m Done h = follows (turns p.ahead p) F m m.orb.next (λ orb e. kept_next p m.orb.next m.ahead orb e h) (λ e. null_idle p.ahead m.orb.next m.ahead e h)
 
 first_is : (bytes : List ℕ) (p : Progress) (b : Bool) → (length bytes == 32) ≡ b → (other : List ℕ) → cond b (Ok bytes) (Err causes.Grammar) ≡ Ok other
     → (gets_main phases.Fetching (Payload bytes) p).next ≡ pointer_at other 0
@@ -246,23 +246,40 @@ orb_first p (Refused rcode) bytes e = absurd (let no : Err causes.Refused ≡ Ok
 orb_first p Expired bytes e = absurd (let no : Err causes.Timeout ≡ Ok bytes = e in cc)
 orb_first p NoLabel bytes e = absurd (let no : Err causes.Label ≡ Ok bytes = e in cc)
 
-main_moves : (p : Progress) (phase : Phase) (m : Machine) (answer : Answer) → m.phase ≡ phase → IsTracked p m → Moves (gets_main phase answer p) (advanced phase m answer)
-main_moves p phases.Fetching m answer e t = fetched (gets_main phases.Fetching answer p) m (payload_of answer 32) (t.idle (ap has_read e)) (λ bytes f. orb_first p answer bytes f)
-main_moves p phases.ReadingTable m answer e t = tabled p m (payload_of answer (8 * m.orb.data_size)) (record { next = t.main (ap holds_read e); ahead = t.ahead })
+-- one whose read failed brought none
+failed_by : (bytes : List ℕ) (p : Progress) (b : Bool) → (length bytes == 32) ≡ b → (cause : FailCause) → cond b (Ok bytes) (Err causes.Grammar) ≡ Err cause → (gets_main phases.Fetching (Payload bytes) p).next ≡ p.next
+failed_by bytes p true e cause f = absurd (let no : Ok bytes ≡ Err cause = f in cc)
+failed_by bytes p false e cause f = ap (λ x. (with_next (cond {A = Option OrbPointer} x (Some (pointer_at bytes 0)) None) p).next) e
+
+orb_failed : (p : Progress) (answer : Answer) (cause : FailCause) → payload_of answer 32 ≡ Err cause → (gets_main phases.Fetching answer p).next ≡ p.next
+orb_failed p (Payload bytes) cause e = failed_by bytes p (length bytes == 32) refl cause e
+orb_failed p Done cause e = refl
+orb_failed p (Refused rcode) cause e = refl
+orb_failed p Expired cause e = refl
+orb_failed p NoLabel cause e = refl
+
+-- the next pointer of an ORB that is still to be read was not got either
+abbrev pub Unread : Progress → Machine → Type 0
+Unread p m = m.phase ≡ phases.Fetching → p.next ≡ m.orb.next
+
+main_moves : (p : Progress) (phase : Phase) (m : Machine) (answer : Answer) → m.phase ≡ phase → IsTracked p m → Moves (gets_main phase answer p) (Unread p m) (advanced phase m answer)
+main_moves p phases.Fetching m answer e t = fetched (gets_main phases.Fetching answer p) (Unread p m) m (payload_of answer 32) (t.idle (ap has_read e)) (λ bytes f. orb_first p answer bytes f)
+    (λ cause f unread. orb_failed p answer cause f ∙ unread e)
+main_moves p phases.ReadingTable m answer e t = tabled p (Unread p m) m (payload_of answer (8 * m.orb.data_size)) (record { next = t.main (ap holds_read e); ahead = t.ahead })
 main_moves p (phases.ReadingData wanted) m answer e t =
-    filled p m wanted (payload_of answer (chunk_of m (length m.payload) wanted).length) (record { next = t.main (ap holds_read e); ahead = t.ahead })
-main_moves p phases.Answering m answer e t = chunked p m (write_failure answer) (record { next = t.main (ap holds_read e); ahead = t.ahead })
-main_moves p phases.WritingStatus m answer e t = status_moves p m answer t.ahead
-main_moves p phases.ReadingNext m answer e t = next_got (gets_main phases.ReadingNext answer p) m (payload_of answer 8) (t.idle (ap has_read e))
-main_moves p phases.WritingLastStatus m answer e t = record { tracked = quiet_in p m phases.Dead refl (t.idle (ap has_read e)); ended = λ d f. untrue f; looks = λ x. yes x }
+    filled p (Unread p m) m wanted (payload_of answer (chunk_of m (length m.payload) wanted).length) (record { next = t.main (ap holds_read e); ahead = t.ahead })
+main_moves p phases.Answering m answer e t = chunked p (Unread p m) m (write_failure answer) (record { next = t.main (ap holds_read e); ahead = t.ahead })
+main_moves p phases.WritingStatus m answer e t = status_moves p (Unread p m) m answer t.ahead
+main_moves p phases.ReadingNext m answer e t = next_got (gets_main phases.ReadingNext answer p) (Unread p m) m (payload_of answer 8) (t.idle (ap has_read e))
+main_moves p phases.WritingLastStatus m answer e t = record { tracked = quiet_in p (Unread p m) m phases.Dead refl (t.idle (ap has_read e)); ended = λ d f. untrue f; looks = λ x. yes x }
 main_moves p phases.Reset m answer e t = record { tracked = t; ended = λ d f. untrue f; looks = λ x. yes x }
 main_moves p phases.Suspended m answer e t = record { tracked = t; ended = λ d f. untrue f; looks = λ x. yes x }
 main_moves p phases.Dead m answer e t = record { tracked = t; ended = λ d f. untrue f; looks = λ x. yes x }
 
 pub main_tracked : (p : Progress) (m : Machine) (place : ℕ) (plain : PlainDisk) (told : Option Told) (answer : Answer) → IsTracked p m
-    → Steps (gets_main m.phase answer p) (reply_step m place plain told Main answer)
+    → Steps (gets_main m.phase answer p) (Unread p m) (reply_step m place plain told Main answer)
 unfolding reply_step
-main_tracked p m place plain told answer t = let r = advanced m.phase m answer in serves (gets_main m.phase answer p) place plain (told_or told) r (main_moves p m.phase m answer refl t)
+main_tracked p m place plain told answer t = let r = advanced m.phase m answer in serves (gets_main m.phase answer p) (Unread p m) place plain (told_or told) r (main_moves p m.phase m answer refl t)
 
 -- ---- and to the read ahead, which is under way
 ahead_next : (p : Progress) (answer : Answer) → (gets_ahead answer p).next ≡ p.next
@@ -301,7 +318,7 @@ module _ (p : Progress) (m : Machine) (answer : Answer) (free : keeps_orb m.ahea
   abbrev now : Progress
   now = gets_ahead answer p
 
-  read_tracked : is_ahead m.ahead ≡ true → (r : Result (List ℕ) FailCause) → payload_of answer 32 ≡ r → Steps now (ahead_read m r)
+  read_tracked : is_ahead m.ahead ≡ true → (r : Result (List ℕ) FailCause) → payload_of answer 32 ≡ r → Steps now (Unread p m) (ahead_read m r)
   read_tracked under_way (Ok bytes) e = record {
     tracked = record {
       main = λ x. ahead_next p answer ∙ t.main x;
@@ -317,18 +334,18 @@ module _ (p : Progress) (m : Machine) (answer : Answer) (free : keeps_orb m.ahea
     looks = λ x. yes x;
   }
 
-  rests : Steps now (quiet, m)
+  rests : Steps now (Unread p m) (quiet, m)
   rests = record {
     tracked = record { main = λ x. ahead_next p answer ∙ t.main x; ahead = free_is p.ahead now.ahead m.orb.next m.ahead free t.ahead; idle = t.idle };
     ended = λ d x. untrue x;
     looks = λ x. yes x;
   }
 
-  by_ahead : (b : Bool) → is_ahead m.ahead ≡ b → Steps now (cond b (ahead_step m answer) (quiet, m))
+  by_ahead : (b : Bool) → is_ahead m.ahead ≡ b → Steps now (Unread p m) (cond b (ahead_step m answer) (quiet, m))
   by_ahead true e = read_tracked e (payload_of answer 32) refl
   by_ahead false e = rests
 
-  pub ahead_tracked : (place : ℕ) (plain : PlainDisk) (told : Option Told) → Steps now (reply_step m place plain told Ahead answer)
+  pub ahead_tracked : (place : ℕ) (plain : PlainDisk) (told : Option Told) → Steps now (Unread p m) (reply_step m place plain told Ahead answer)
   unfolding reply_step
   ahead_tracked place plain told = by_ahead (is_ahead m.ahead) refl
 
@@ -375,13 +392,13 @@ module _ (p : Progress) where
   bell_tracked m t = bell_in m.phase m refl t
 
   main_lost_tracked : (phase : Phase) (m : Machine) (cause : FailCause) → m.phase ≡ phase → IsTracked p m → IsTracked p (main_lost phase m cause).1
-  main_lost_tracked phases.Fetching m cause e t = (fails p m cause).tracked
-  main_lost_tracked phases.ReadingTable m cause e t = (fails p m cause).tracked
-  main_lost_tracked (phases.ReadingData wanted) m cause e t = (fails p m cause).tracked
-  main_lost_tracked phases.Answering m cause e t = (fails p m cause).tracked
-  main_lost_tracked phases.WritingStatus m cause e t = (dies p m cause).tracked
-  main_lost_tracked phases.ReadingNext m cause e t = (dies p m cause).tracked
-  main_lost_tracked phases.WritingLastStatus m cause e t = quiet_in p m phases.Dead refl (t.idle (ap has_read e))
+  main_lost_tracked phases.Fetching m cause e t = (fails p ⊥ m cause (λ f. absurd f)).tracked
+  main_lost_tracked phases.ReadingTable m cause e t = (fails p ⊥ m cause (λ f. absurd f)).tracked
+  main_lost_tracked (phases.ReadingData wanted) m cause e t = (fails p ⊥ m cause (λ f. absurd f)).tracked
+  main_lost_tracked phases.Answering m cause e t = (fails p ⊥ m cause (λ f. absurd f)).tracked
+  main_lost_tracked phases.WritingStatus m cause e t = (dies p ⊥ m cause).tracked
+  main_lost_tracked phases.ReadingNext m cause e t = (dies p ⊥ m cause).tracked
+  main_lost_tracked phases.WritingLastStatus m cause e t = quiet_in p ⊥ m phases.Dead refl (t.idle (ap has_read e))
   main_lost_tracked phases.Reset m cause e t = t
   main_lost_tracked phases.Suspended m cause e t = t
   main_lost_tracked phases.Dead m cause e t = t

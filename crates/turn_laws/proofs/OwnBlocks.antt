@@ -3,8 +3,7 @@ use Rattle.std.proofs.Common.{[], arith, ◌%◌, ◌&&◌, ◌==◌, ◌^◌, �
 use Rattle.std.proofs.lemmas.Bool.Decides.{nat_tests}
 use Rattle.std.specs.Prelude.{slice_index_or, unwrap_or}
 use Rattle.async_packet.specs.declared.packet.Header.{Header}
-use Rattle.async_packet.specs.Packet.{Packet, lock, lock_response, read_block_response, read_quadlet, read_quadlet_response, write_block, write_quadlet, write_response}
-use Rattle.async_packet.specs.Packet.{read_block as reads_block}
+use Rattle.async_packet.specs.Packet.{Packet, lock, lock_response, read_block as reads_block, read_block_response, read_quadlet, read_quadlet_response, write_block, write_quadlet, write_response}
 use Rattle.bus_memory.specs.Memory.{place_at}
 use Rattle.bus_memory.specs.Windows.{is_fifo}
 use Rattle.initiator_base.specs.Places.{is_managed_orb, names_place}

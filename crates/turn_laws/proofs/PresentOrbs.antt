@@ -41,11 +41,10 @@ use Rattle.sbp_laws.specs.Targets.{Agent, Reply, Target, agent_at, agent_over, i
 use Rattle.sbp_laws.specs.Turns.{event_of}
 use Rattle.sbp_laws.proofs.Going.{going_rests, run_rests, taken_rests}
 use Rattle.sbp_world.proofs.Common.{said_split, same_number, untrue}
-use Rattle.sbp_world.proofs.Lists.AgentFolds.{is_for}
+use Rattle.sbp_world.proofs.Lists.AgentFolds.{AreKept, AreSo, Every, Pends, is_for}
 use Rattle.sbp_world.proofs.Lists.MainAnswers.{sends_as}
 use Rattle.sbp_world.proofs.Lists.StatusLosses.{lost_present}
 use Rattle.sbp_world.proofs.Wire.Lowest.{reversed}
-use Rattle.sbp_world.proofs.Lists.AgentFolds.{AreKept, AreSo, Pends}
 use Rattle.sbp_world.proofs.Lists.AgentNotes.{IfApart, note_kept}
 use Rattle.turn_laws.proofs.Handed.{AllInner, IsInner}
 
@@ -213,11 +212,11 @@ module _ (place at : ℕ) where
   abbrev Stands : ℕ → Agent → Type 0
   Stands q a = q ≡ place → a.machine.present ≡ at
 
-  are_kept : AreKept Stands
+  are_kept : AreKept Stands Every
   are_kept = record {
     lasting = record {
       untells = λ q a b h e. h e;
-      sends = λ q a is_write serial h e. sends_present is_write serial a ∙ h e;
+      sends = λ q a is_write serial may h e. sends_present is_write serial a ∙ h e;
       loses = λ q a h e. loses_present a ∙ h e;
       ends = λ q a h e. over_present a ∙ h e;
       stays = λ q which answer plain told b h e. sym (new_present q plain told which answer) ∙ h e;

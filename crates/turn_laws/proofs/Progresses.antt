@@ -36,7 +36,7 @@ use Rattle.sbp_world.proofs.Agents.Handed.{is_its_serial}
 use Rattle.sbp_world.proofs.Agents.Management.Firsts.{wire_is}
 use Rattle.sbp_world.proofs.Common.{none_is, same_number, untrue}
 use Rattle.sbp_world.proofs.Lists.OrbSteps.{has_read, holds_read, yes}
-use Rattle.sbp_world.proofs.Lists.AgentFolds.{AreKept, AreLasting, AreSo, AreStill, Pends, at_place, cut_still, new_there, over_still, set_so, set_still, so, stand, stand_still}
+use Rattle.sbp_world.proofs.Lists.AgentFolds.{AreKept, AreLasting, AreSo, AreStill, Every, Pends, at_place, cut_still, new_there, over_still, set_so, set_still, so, stand, stand_still}
 use Rattle.sbp_world.proofs.Lists.AgentNotes.{leaves_kept, managed_kept, note_kept, pick}
 use Rattle.turn_laws.proofs.DeathAnswers.{NoReply, write_no}
 use Rattle.turn_laws.proofs.NextSteps.{AheadIs, IsTracked, abort_ahead, abort_tracked, ahead_tracked, bell_ahead, bell_tracked, free_is, keeps_orb, lost_free, lost_looks, lost_tracked, main_tracked, none_read, point_tracked, reset_tracked, unheard_looks, unheard_tracked}
@@ -119,16 +119,16 @@ module _ (p : Progress) where
 abbrev pub Whole : (ℕ → Progress) → ℕ → Agent → Type 0
 Whole p q a = IsWhole (p q) a
 
-lasts : (p : ℕ → Progress) → AreLasting (Whole p)
+lasts : (p : ℕ → Progress) → AreLasting (Whole p) Every
 lasts p = record {
   untells = λ q a b h. record { tracked = h.tracked; waits = h.waits; looks = h.looks };
-  sends = λ q a is_write serial h. sends (p q) a is_write serial h;
+  sends = λ q a is_write serial may h. sends (p q) a is_write serial h;
   loses = λ q a h. loses (p q) a h;
   ends = λ q a h. ends (p q) a h;
   stays = λ q which answer plain told b h. new_whole (p q);
 }
 
-are_kept : (p : ℕ → Progress) → AreKept (Whole p)
+are_kept : (p : ℕ → Progress) → AreKept (Whole p) Every
 are_kept p = record { lasting = lasts p; cuts = λ q a h. cuts (p q) a }
 
 aborts : (p : ℕ → Progress) (q : ℕ) (a : Agent) (orb : ℕ) → Whole p q a → Whole p q (record a { machine = abort_step a.machine orb })
@@ -182,7 +182,7 @@ whole_as p now a e f h = record {
   looks = h.looks;
 }
 
-calm_gets : (e : Event) → NoReply e → (q : ℕ) (a : Agent) (p : Progress) → ((gets e q a p).next ≡ p.next) × ((gets e q a p).ahead ≡ p.ahead)
+pub calm_gets : (e : Event) → NoReply e → (q : ℕ) (a : Agent) (p : Progress) → ((gets e q a p).next ≡ p.next) × ((gets e q a p).ahead ≡ p.ahead)
 calm_gets nothing n q a p = (refl, refl)
 calm_gets (replies reply) n q a p = absurd (n reply refl)
 calm_gets (writes agent_state other given) n q a p = (refl, refl)
@@ -333,7 +333,7 @@ module _ (start : List Disk) where
       (late_whole (At past) (over (target_at start past)) s serial (is_serial (sender_in (wire.sent serial)) 0))
   on_note (notes.Sent serial generation zero to bytes) past h =
       let now = target_at start (said (notes.Sent serial generation 0 to bytes) ∷ past) in
-      let s : AreStill (Whole (At past)) now = leaves_kept (Whole (At past)) (are_kept (At past)) serial generation 0 to bytes past (known_at start past).wire (target_at start past) h in
+      let s : AreStill (Whole (At past)) now = leaves_kept (Whole (At past)) (are_kept (At past)) serial generation 0 to bytes past (known_at start past).wire (target_at start past) tt h in
       so (Whole (At (said (notes.Sent serial generation 0 to bytes) ∷ past))) now (record { agents = λ q. sent_whole (At past q) (agent_at now q) (s.agents q) serial; none = s.none })
   on_note (notes.Sent serial generation (suc from) to bytes) past h =
       note_kept (Whole (At past)) (are_kept (At past)) (notes.Sent serial generation (suc from) to bytes) past (known_at start past).wire (target_at start past) h tt

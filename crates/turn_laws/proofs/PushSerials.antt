@@ -93,7 +93,7 @@ small_none n s e = absurd (let f : None ≡ Some s = e in cc)
 wider : (n m : ℕ) (o : Option ℕ) → n ≤ m → Small n o → Small m o
 wider n m o l h s e = let k = h s e in omega (arith, k, l)
 
-apart_of : (n s : ℕ) (o : Option ℕ) → n < s → Small n o → Apart s o
+pub apart_of : (n s : ℕ) (o : Option ℕ) → n < s → Small n o → Apart s o
 apart_of n s None l h = refl
 apart_of n s (Some x) l h = let k = h x refl in let z : nat_eq x s ≡ false = grind (arith, nat_tests) in z
 

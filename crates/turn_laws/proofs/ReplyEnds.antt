@@ -29,6 +29,7 @@ use Rattle.sbp_journal.specs.declared.side.Side.{Side}
 use Rattle.sbp_laws.specs.Agents.{AgentTurn, agent_turn, list_taken, listed_at, told_among, untold_among}
 use Rattle.sbp_laws.specs.NoteKinds.{is_end_note, of_kind}
 use Rattle.sbp_laws.specs.Packets.{finds_label}
+use Rattle.sbp_laws.specs.SentWrites.{writes_to}
 use Rattle.sbp_laws.specs.Targets.{Agent, Target, agent_at, initiator_at, over, target_at}
 use Rattle.sbp_laws.specs.Turns.{Turn, turn}
 use Rattle.sbp_target.specs.declared.desk.Desk.{Desk}
@@ -47,18 +48,23 @@ use Rattle.sbp_world.specs.Telling.{holder, ticket_at}
 use Rattle.sbp_world.specs.Worlds.{Scene, WorldState, with_note, with_target}
 use Rattle.sbp_world.proofs.Agents.Management.Holding.{ours}
 use Rattle.sbp_world.proofs.Agents.Management.Still.{hist}
+use Rattle.sbp_world.proofs.FitTarget.Agents.{reply_fits}
 use Rattle.sbp_world.proofs.FitTarget.Demands.{answer_small}
+use Rattle.sbp_world.proofs.Lists.StatusSteps.{replied_leaves}
 use Rattle.sbp_world.proofs.Lists.DueRuns.{AtDelivery, alike, event_is, plain_is}
 use Rattle.turn_laws.proofs.AgentDue.{IsTurnOf, TellsEnds, has_steps, turn_in, turn_tells}
 use Rattle.turn_laws.proofs.AgentEnds.{Tells, advance_tells, found_at}
-use Rattle.turn_laws.proofs.AgentHere.{desk_fits, fifo_is, good, holder_is, initiator_is, names_are, reply_body, reply_carries, stands_are, up_by}
+use Rattle.turn_laws.proofs.AgentHere.{again_body, desk_fits, fifo_is, good, holder_is, initiator_is, names_are, reply_body, reply_carries, stands_are, up_by}
 use Rattle.turn_laws.proofs.EndNotes.{beside_handed, ends_noted}
 use Rattle.turn_laws.proofs.EndShapes.{reply_shaped}
 use Rattle.turn_laws.proofs.EndSizes.{reply_sized}
 use Rattle.turn_laws.proofs.EndTries.{brought, brought_sides}
 use Rattle.turn_laws.proofs.FollowEnds.{ends_in}
-use Rattle.turn_laws.proofs.FollowSides.{AreBeside}
-use Rattle.turn_laws.proofs.FoundLabels.{response_finds}
+use Rattle.turn_laws.proofs.FollowSends.{requests, requests_to_peer}
+use Rattle.turn_laws.proofs.FollowSides.{AreBeside, beside_others}
+use Rattle.turn_laws.proofs.PushSends.{Pushes}
+use Rattle.turn_laws.proofs.TurnWrites.{all_writes, turn_writes}
+use Rattle.turn_laws.proofs.FoundLabels.{peer_is, response_finds, response_spells}
 use Rattle.turn_laws.proofs.Handed.{handed}
 use Rattle.turn_laws.proofs.Places.{Place}
 
@@ -92,6 +98,13 @@ module _ (units ready : ℕ) (has : 0 < units) (start : List Disk) (past : List 
       by true = refl
       by false = refl
 
+  pub still_bus : (v : WorldState) → (marked serial again v).generations ≡ v.generations
+  still_bus v = by (again || not (is_flying serial v.store.kept))
+    where
+      by : (b : Bool) → (cond b v (record v { store = deliver_step v.store serial })).generations ≡ v.generations
+      by true = refl
+      by false = refl
+
   pub still_ticket : (v : WorldState) (p orb : ℕ) → ticket_at (marked serial again v) p orb ≡ ticket_at v p orb
   still_ticket v p orb = by (again || not (is_flying serial v.store.kept))
     where
@@ -119,14 +132,14 @@ module _ (units ready : ℕ) (has : 0 < units) (start : List Disk) (past : List 
     abbrev given : OutboxState
     given = (concluded run (Some (purposes.Agent q)) (header_in p).source label answer (with_layer new (whole_of node s.media))).outbox
 
-    abbrev By : Option Login → Option Which → List Side
-    By login which = (replied_by run q answer login which (with_layer new (whole_of node s.media))).outbox.sides
+    abbrev By : Option Login → Option Which → OutboxState
+    By login which = (replied_by run q answer login which (with_layer new (whole_of node s.media))).outbox
 
-    tells : Tells q new login own.0 own.1 [] given.sides
+    tells : Tells q new login own.0 own.1 node.logins.places empty_outbox given
     unfolding concluded replied_to
     tells =
-        subst (λ x. Tells q new login own.0 own.1 [] (By x (which_in d (header_in p).source label))) (sym served)
-        (subst (λ k. Tells q new login own.0 own.1 [] (By (Some login) k)) (sym is_which)
+        subst (λ x. Tells q new login own.0 own.1 node.logins.places empty_outbox (By x (which_in d (header_in p).source label))) (sym served)
+        (subst (λ k. Tells q new login own.0 own.1 node.logins.places empty_outbox (By (Some login) k)) (sym is_which)
         (advance_tells q b left (good units ready has start past s here).mid.size run login which answer empty_outbox s.media.disks))
 
     abbrev A : Agent
@@ -173,6 +186,15 @@ module _ (units ready : ℕ) (has : 0 < units) (start : List Disk) (past : List 
             ∙ (beside_handed (holder w) (ticket_at w) 0 o now (still_holder (with_target x w), still_ticket (with_target x w)) beside
             ∙ ap (ends_noted (holder w) (ticket_at w)) (ap (λ (y : OutboxState). ends_in y.sides) o_is ∙ tells.ends))
 
+        writes : writes_to (suc i) rest ≡ all_writes (suc i) (requests q login (found_at q new login own.0 own.1) new tells.behind own.0 own.1)
+        writes =
+            let out = requests q login (found_at q new login own.0 own.1) new tells.behind own.0 own.1 in
+            let mine = initiator_is units ready has start past s here q login there live ∙ holder_is units ready has start past s here q login there live in
+            ap (writes_to (suc i)) rest_is
+            ∙ turn_writes (suc i) w.generations node.logins.places (good units ready has start past s here).table.sound q login there live (peer_is units ready start past s here q login there live ∙ ap (λ n. Some (suc n)) (sym mine)) o now [] out
+            (still_bus (with_target x w)) (beside_others o.sides beside) tt (requests_to_peer q login (found_at q new login own.0 own.1) new tells.behind own.0 own.1)
+            (subst (λ (y : OutboxState). Pushes node.logins.places login.unit q out y.packets) (sym o_is) tells.sends)
+
         is_turn : IsTurnOf start T (t rest) (law_turn plain rest) own.0 own.1 login new
         is_turn = record {
           step_is = steps.step;
@@ -187,6 +209,12 @@ module _ (units ready : ℕ) (has : 0 < units) (start : List Disk) (past : List 
           finds = λ body fit.
               response_finds units ready start past s here q login there live serial one found zero_to p label (Some (purposes.Agent q)) new e body fit
               ∙ ap (λ n. finds_label (terms (said (notes.Got serial) ∷ ms)) 0 (suc n) body) (sym (initiator_is units ready has start past s here q login there live ∙ holder_is units ready has start past s here q login there live));
+          spells = response_spells units ready start past s here q login there live serial one found zero_to p label (Some (purposes.Agent q)) new e;
+          fits_lost = again_body units ready has start past s here q login there live own.1
+              (reply_fits d.agent q plain run which answer told_bytes (answer_small p (bytes_of p one.bytes (spelled one.bytes p read) (ours w here.holds.sound.stands serial one found).bytes)) (here.holds.sound.nodes.target_holds.fits.agents q)).agent;
+          tame = (replied_leaves d.agent q plain run which answer).tame;
+          behind = tells.behind;
+          writes = writes;
           holders = holder w;
           tickets = ticket_at w;
           told = ends;

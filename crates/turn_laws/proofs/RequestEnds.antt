@@ -91,7 +91,7 @@ cut_none : (b : Bool) (q : ℕ) → NoEnds (told_cut b q cuts.AgentReset empty_o
 cut_none true q = tt
 cut_none false q = (tt, tt)
 
-module _ (units ready : ℕ) (has : 0 < units) (start : List Disk) (past : List Moment) (s : Scene) (here : Place units ready start past s) (serial : ℕ) (one : Sent) (found : found_sent serial s.world.store.kept ≡ Some one) (zero_to : one.to ≡ 0) (p : Packet) (read : reading one.bytes ≡ Ok p) (none : reply_kind p ≡ None) (new : Layer Purpose) (same_layer : new ≡ s.world.target.layer) (bar : is_barred s.world.target p ≡ false) (now : WorldState) (holders : (k : ℕ) → holder now k ≡ holder s.world k) (tickets : (k orb : ℕ) → ticket_at now k orb ≡ ticket_at s.world k orb) (places : now.places ≡ s.world.places) (o : OutboxState) (others : AreOthers o.sides) where
+module _ (units ready : ℕ) (has : 0 < units) (start : List Disk) (past : List Moment) (s : Scene) (here : Place units ready start past s) (serial : ℕ) (one : Sent) (found : found_sent serial s.world.store.kept ≡ Some one) (zero_to : one.to ≡ 0) (p : Packet) (read : reading one.bytes ≡ Ok p) (none : reply_kind p ≡ None) (new : Layer Purpose) (same_layer : new ≡ s.world.target.layer) (bar : is_barred s.world.target p ≡ false) (now : WorldState) (holders : (k : ℕ) → holder now k ≡ holder s.world k) (tickets : (k orb : ℕ) → ticket_at now k orb ≡ ticket_at s.world k orb) (places : now.places ≡ s.world.places) (bus_same : now.generations ≡ s.world.generations) (o : OutboxState) (others : AreOthers o.sides) where
   abbrev w : WorldState
   w = s.world
 
@@ -163,6 +163,9 @@ module _ (units ready : ℕ) (has : 0 < units) (start : List Disk) (past : List 
         ap L event_is ∙ (request_takes L before list_pointed list_rung list_takes (length node.rom) p there.access here.holds.rom there.is ∙ ap (demand_takes L before list_pointed list_rung list_takes) d)
 
   -- ---- what the target does
+  sides_by : {y : OutboxState} → o ≡ y → o.sides ≡ y.sides
+  sides_by e = ap (λ (x : OutboxState). x.sides) e
+
   none_due : (demand : Demand) → demand_of (length node.rom) p ≡ demand → demand_takes F None pointed rung takes demand ≡ None → NoEnds o.sides → Due
   none_due demand d e n = turn_tells start t None (turn_is ∙ (ap (demand_takes F None pointed rung takes) d ∙ e)) (none_handed o now others n)
 
@@ -179,7 +182,7 @@ module _ (units ready : ℕ) (has : 0 < units) (start : List Disk) (past : List 
     -- a pointer
     module _ (pointer : OrbPointer) (is_pointer : IsPointer pointer) (demand : demand_of (length node.rom) p ≡ demands.Agent q (accesses.Point pointer)) where
       abbrev Points : Result Ask PointRefusal × Machine → Type 0
-      Points r = o.sides ≡ (pointed_by q p one.bytes (pointed_desk d r) here_scene).outbox.sides → point_step d.agent pointer ≡ r → Due
+      Points r = o ≡ (pointed_by q p one.bytes (pointed_desk d r) here_scene).outbox → point_step d.agent pointer ≡ r → Due
 
       law_is : (r : Result Ask PointRefusal × Machine) → point_step A.machine pointer ≡ r → turn_in start t ≡ by_pointer q A r
       law_is r e = turn_is ∙ (ap (demand_takes F None pointed rung takes) demand ∙ ap (λ x. by_pointer q A x) e)
@@ -194,7 +197,7 @@ module _ (units ready : ℕ) (has : 0 < units) (start : List Disk) (past : List 
       refused refusal (Err other, m) e = refl
       refused refusal (Ok ask, m) e = absurd (let no : Ok ask ≡ Err refusal = e in cc)
 
-      module _ (ask : Ask) (m : Machine) (is : o.sides ≡ (pointed_by q p one.bytes (pointed_desk d (Ok ask, m)) here_scene).outbox.sides) (e : point_step d.agent pointer ≡ (Ok ask, m)) where
+      module _ (ask : Ask) (m : Machine) (is : o ≡ (pointed_by q p one.bytes (pointed_desk d (Ok ask, m)) here_scene).outbox) (e : point_step d.agent pointer ≡ (Ok ask, m)) where
         reads : ReadsIf (Ok ask, m)
         reads = subst ReadsIf e (point_reads d.agent pointer)
 
@@ -210,9 +213,9 @@ module _ (units ready : ℕ) (has : 0 < units) (start : List Disk) (past : List 
             let fit = point_fits d.agent pointer is_pointer (here.holds.sound.nodes.target_holds.fits.agents q) in
             let there = carried.1 in
             turn_tells start t (by_pointer q A (Ok other, machine)) (law_is (Ok other, machine) f)
-            (opened_due units ready has start past s here serial one found zero_to p read none new same_layer q b served now holders tickets places ask m pointer machine al shaped carried.0 reads
+            (opened_due units ready has start past s here serial one found zero_to p read none new same_layer q b served now holders tickets places bus_same ask m pointer machine al shaped carried.0 reads
             (fit.ask ask (ap (λ (r : Result Ask PointRefusal × Machine). r.0) e)) (subst (λ (r : Result Ask PointRefusal × Machine). FitsAgent r.1) e fit.agent) there.0 there.1
-            o (is ∙ ap (λ x. (asked_in q ask x (answered p one.bytes 0 [] (scene (with_desk here_scene.node q (record d { agent = m; pointer = present_of m })) (with_side empty_outbox (sides.Opened q (orb_of m)))))).outbox.sides) served.is)
+            o (is ∙ ap (λ x. (asked_in q ask x (answered p one.bytes 0 [] (scene (with_desk here_scene.node q (record d { agent = m; pointer = present_of m })) (with_side empty_outbox (sides.Opened q (orb_of m)))))).outbox) served.is) others
             other (let same : other ≡ ask = cc in same) (listed_is (Ok other, machine) f))
 
       points : (r : Result Ask PointRefusal × Machine) → Points r
@@ -220,7 +223,7 @@ module _ (units ready : ℕ) (has : 0 < units) (start : List Disk) (past : List 
           turn_tells start t None
           (law_is (point_step A.machine pointer) refl
           ∙ refused refusal (point_step A.machine pointer) ((point_alike A.untold A.machine d.agent pointer (here.agents.are.each q b).machine).0 ∙ ap (λ (r : Result Ask PointRefusal × Machine). r.0) e))
-          (none_handed o now others (subst NoEnds (sym (is ∙ answered_sides p one.bytes _ [] (scene (with_desk here_scene.node q (record d { agent = m })) empty_outbox))) tt))
+          (none_handed o now others (subst NoEnds (sym (sides_by is ∙ answered_sides p one.bytes _ [] (scene (with_desk here_scene.node q (record d { agent = m })) empty_outbox))) tt))
       points (Ok ask, m) is e =
           let al = point_alike A.untold A.machine d.agent pointer (here.agents.are.each q b).machine in
           by_law ask m is e (point_step A.machine pointer) refl (al.0 ∙ ap (λ (r : Result Ask PointRefusal × Machine). r.0) e)
@@ -234,9 +237,9 @@ module _ (units ready : ℕ) (has : 0 < units) (start : List Disk) (past : List 
       still_listed : list_taken start (said (notes.Got serial) ∷ ms) q ≡ list_taken start ms q
       still_listed = list_is q (demands.Agent q accesses.Ring) demand
 
-      module _ (ask : Ask) (m : Machine) (is : o.sides ≡ (rung_by q p one.bytes (ask, m) here_scene).outbox.sides) (e : doorbell_step d.agent ≡ (ask, m)) where
-        sides_are : o.sides ≡ (asked_in q ask (Some served.login) (answered p one.bytes 0 [] (scene (with_desk here_scene.node q (record d { agent = m })) empty_outbox))).outbox.sides
-        sides_are = is ∙ ap (λ x. (asked_in q ask x (answered p one.bytes 0 [] (scene (with_desk here_scene.node q (record d { agent = m })) empty_outbox))).outbox.sides) served.is
+      module _ (ask : Ask) (m : Machine) (is : o ≡ (rung_by q p one.bytes (ask, m) here_scene).outbox) (e : doorbell_step d.agent ≡ (ask, m)) where
+        outbox_is : o ≡ (asked_in q ask (Some served.login) (answered p one.bytes 0 [] (scene (with_desk here_scene.node q (record d { agent = m })) empty_outbox))).outbox
+        outbox_is = is ∙ ap (λ x. (asked_in q ask x (answered p one.bytes 0 [] (scene (with_desk here_scene.node q (record d { agent = m })) empty_outbox))).outbox) served.is
 
         rings_by : (r : Ask × Machine) → doorbell_step A.machine ≡ r → r.0 ≡ ask → Alike A.untold r.1 m → (x : Bool) → is_reset (state_in d.agent.phase) ≡ x → Due
         rings_by (other, machine) f g al x up =
@@ -250,38 +253,38 @@ module _ (units ready : ℕ) (has : 0 < units) (start : List Disk) (past : List 
           where
             by : (x : Bool) → is_reset (state_in d.agent.phase) ≡ x → IsShapedStep (asks ask, m) → Carries ask m.outgoing → IsNoWrite ask → FitsAsk ask → FitsAgent m → TellsFor start T t (by_doorbell q A (other, machine))
             by false up shaped carried reads fits_ask fits_agent =
-                rung_due units ready has start past s here serial one found zero_to p read none new same_layer q b served now holders tickets places ask m other machine g al shaped carried reads fits_ask fits_agent o sides_are up still_listed
+                rung_due units ready has start past s here serial one found zero_to p read none new same_layer q b served now holders tickets places bus_same ask m other machine g al shaped carried reads fits_ask fits_agent o outbox_is others up still_listed
             by true up shaped carried reads fits_ask fits_agent =
-                rung_none units ready has start past s here serial one found zero_to p read none new same_layer q b served now holders tickets places ask m other machine g al shaped carried reads fits_ask fits_agent o sides_are
+                rung_none units ready has start past s here serial one found zero_to p read none new same_layer q b served now holders tickets places bus_same ask m other machine g al shaped carried reads fits_ask fits_agent o outbox_is others
                 (sym (ap (λ (r : Ask × Machine). r.0) e) ∙ reset_rings d.agent up)
 
-      rings : (r : Ask × Machine) → o.sides ≡ (rung_by q p one.bytes r here_scene).outbox.sides → doorbell_step d.agent ≡ r → Due
+      rings : (r : Ask × Machine) → o ≡ (rung_by q p one.bytes r here_scene).outbox → doorbell_step d.agent ≡ r → Due
       rings (ask, m) is e =
           let al = doorbell_alike A.untold A.machine d.agent (here.agents.are.each q b).machine in
           rings_by ask m is e (doorbell_step A.machine) refl (al.0 ∙ ap (λ (r : Ask × Machine). r.0) e)
           (subst (λ (r : Ask × Machine). Alike A.untold (doorbell_step A.machine).1 r.1) e al.1) (is_reset (state_in d.agent.phase)) refl
 
     -- ---- whatever is asked of the agent
-    access_ends : (access : Access) → demand_of (length node.rom) p ≡ demands.Agent q access → o.sides ≡ (accessed_by access q p one.bytes here_scene).outbox.sides → Due
+    access_ends : (access : Access) → demand_of (length node.rom) p ≡ demands.Agent q access → o ≡ (accessed_by access q p one.bytes here_scene).outbox → Due
     unfolding point ring cut
-    access_ends accesses.State e is = none_due (demands.Agent q accesses.State) e refl (subst NoEnds (sym (is ∙ answered_sides p one.bytes 0 _ here_scene)) tt)
-    access_ends accesses.Pointer e is = none_due (demands.Agent q accesses.Pointer) e refl (subst NoEnds (sym (is ∙ answered_sides p one.bytes 0 _ here_scene)) tt)
-    access_ends accesses.Enable e is = none_due (demands.Agent q accesses.Enable) e refl (subst NoEnds (sym (is ∙ answered_sides p one.bytes 0 [] (enabled q here_scene))) tt)
+    access_ends accesses.State e is = none_due (demands.Agent q accesses.State) e refl (subst NoEnds (sym (sides_by is ∙ answered_sides p one.bytes 0 _ here_scene)) tt)
+    access_ends accesses.Pointer e is = none_due (demands.Agent q accesses.Pointer) e refl (subst NoEnds (sym (sides_by is ∙ answered_sides p one.bytes 0 _ here_scene)) tt)
+    access_ends accesses.Enable e is = none_due (demands.Agent q accesses.Enable) e refl (subst NoEnds (sym (sides_by is ∙ answered_sides p one.bytes 0 [] (enabled q here_scene))) tt)
     access_ends accesses.Reset e is =
-        none_due (demands.Agent q accesses.Reset) e refl (subst NoEnds (sym (is ∙ answered_sides p one.bytes 0 [] (cut cuts.AgentReset q here_scene))) (cut_none (is_reset (state_in d.agent.phase)) q))
+        none_due (demands.Agent q accesses.Reset) e refl (subst NoEnds (sym (sides_by is ∙ answered_sides p one.bytes 0 [] (cut cuts.AgentReset q here_scene))) (cut_none (is_reset (state_in d.agent.phase)) q))
     access_ends (accesses.Point pointer) e is =
         let fit : FitsDemand (length node.rom) p (demands.Agent q (accesses.Point pointer)) = subst (FitsDemand (length node.rom) p) e (demand_fits (length node.rom) p small_bytes) in
         points pointer fit.1 e (point_step d.agent pointer) is refl
     access_ends accesses.Ring e is = rings e (doorbell_step d.agent) is refl
 
-  demand_ends : (demand : Demand) → demand_of (length node.rom) p ≡ demand → o.sides ≡ (served_as demand p one.bytes here_scene).outbox.sides → Due
-  demand_ends (demands.Refused rcode) e is = none_due (demands.Refused rcode) e refl (subst NoEnds (sym (is ∙ answered_sides p one.bytes rcode [] here_scene)) tt)
-  demand_ends (demands.Rom at len) e is = none_due (demands.Rom at len) e refl (subst NoEnds (sym (is ∙ answered_sides p one.bytes 0 _ here_scene)) tt)
+  demand_ends : (demand : Demand) → demand_of (length node.rom) p ≡ demand → o ≡ (served_as demand p one.bytes here_scene).outbox → Due
+  demand_ends (demands.Refused rcode) e is = none_due (demands.Refused rcode) e refl (subst NoEnds (sym (sides_by is ∙ answered_sides p one.bytes rcode [] here_scene)) tt)
+  demand_ends (demands.Rom at len) e is = none_due (demands.Rom at len) e refl (subst NoEnds (sym (sides_by is ∙ answered_sides p one.bytes 0 _ here_scene)) tt)
   demand_ends (demands.Manage orb) e is =
-      none_due (demands.Manage orb) e refl (subst NoEnds (sym is) (low_ranks (served_as (demands.Manage orb) p one.bytes here_scene).outbox.sides 0 (starts here_scene.node orb p one.bytes)))
+      none_due (demands.Manage orb) e refl (subst NoEnds (sym (sides_by is)) (low_ranks (served_as (demands.Manage orb) p one.bytes here_scene).outbox.sides 0 (starts here_scene.node orb p one.bytes)))
   demand_ends (demands.Agent q access) e is =
       let r = reaches node (good units ready has start past s here) p q access bar e in access_ends q r.small r.served access e is
 
-  pub request_ends : o.sides ≡ (serve p one.bytes here_scene).outbox.sides → Due
+  pub request_ends : o ≡ (serve p one.bytes here_scene).outbox → Due
   unfolding serve
   request_ends is = demand_ends (demand_of (length node.rom) p) refl is

@@ -1,8 +1,10 @@
 -- A request of a node finds a label exactly where the history says so: at any wire that stands and owes no answer, so also between two moves of a turn, and for any layer of the node whatever
 -- its transactions are for.
-use Rattle.std.proofs.Common.{arith, ◌≡◌, refl, sym, ◌∙◌, ap, subst, ℕ, ◌≤◌, is_some, List, Option, Some, None, length}
+use Rattle.std.proofs.Common.{arith, ◌≡◌, refl, sym, ◌∙◌, ap, subst, ℕ, ◌≤◌, ◌<◌, is_some, List, Option, Some, None, length}
 use Rattle.async_packet.specs.Canon.{IsValid, canon}
+use Rattle.label_table.specs.Laws.{relabelled}
 use Rattle.async_packet.proofs.RoundTrip.{canon_spells}
+use Rattle.async_packet.proofs.Spelled.{reading_spelled}
 use Rattle.bus_transactions.specs.Bare.{bare, bare_after, same}
 use Rattle.bus_transactions.specs.May.{MayAsk}
 use Rattle.bus_transactions.specs.Sent.{LabelsLaw, bare_request}
@@ -14,20 +16,32 @@ use Rattle.bus_transactions.proofs.SentLaws.{asked_own, labels_always}
 use Rattle.bus_transactions.proofs.Stands.{Stands as Holds}
 use Rattle.bus_transactions.proofs.Steps.{AskedAs, asks}
 use Rattle.label_table.specs.declared.judgement.Asked.{Asked}
-use Rattle.label_table.specs.Bodies.{Body, header_to, request_with}
+use Rattle.label_table.specs.Bodies.{Body, block_read, block_write, header_to, quadlet_read, quadlet_write, request_with}
 use Rattle.label_table.specs.Layer.{Layer, asking_step, unlabelled}
 use Rattle.label_table.specs.Requests.{with_label}
 use Rattle.label_table.proofs.Requests.{least_spelled}
 use Rattle.label_table.proofs.Rewritten.{writes_labels}
+use Rattle.sbp_journal.specs.Addresses.{Access, access_of}
 use Rattle.sbp_journal.specs.Run.{Moment}
 use Rattle.sbp_journal.specs.Wire.{Terms, terms}
-use Rattle.sbp_laws.specs.Packets.{finds_label, label_for, request_bytes, serves}
+use Rattle.sbp_laws.specs.Packets.{access_in, access_in_bytes, finds_label, label_for, request_bytes, serves, spelled_by}
 use Rattle.sbp_world.specs.Hosts.Labels.{label_in}
 use Rattle.sbp_world.specs.Wire.Wires.{StandsAt}
 use Rattle.sbp_world.specs.Worlds.{WorldState}
 use Rattle.sbp_world.proofs.Agents.Management.Still.{hist}
+use Rattle.sbp_world.proofs.Common.{none_is}
 use Rattle.sbp_world.proofs.Hosts.Labels.{first_found, serves_same, none_found, found_by, some_label}
 use Rattle.sbp_world.proofs.Wire.Bus.{holds}
+
+-- what a request asks for, whoever sends it
+abbrev pub body_access : Body → Option Access
+body_access body = access_of (request_with (header_to 0 0 0) body)
+
+label_access : (number from to : ℕ) (body : Body) → access_of (relabelled number (request_with (header_to from to 0) body)) ≡ body_access body
+label_access number from to (quadlet_write offset value) = refl
+label_access number from to (block_write offset payload) = refl
+label_access number from to (quadlet_read offset) = refl
+label_access number from to (block_read offset asked) = refl
 
 module _ {P : Type 0} {past : List Moment} {layers : ℕ → Node} (w : WorldState) (stands : StandsAt past layers None w) (node peer : ℕ) (node_there : node ≤ length w.initiators) (peer_there : peer ≤ length w.initiators) (layer : Layer P) (own_is : layers node ≡ bare layer) (id : ℕ) (id_is : id_for stands.wire node peer ≡ id) (body : Body) (valid : IsValid (request_with (header_to layer.node id 0) body)) where
   abbrev wire : Wire
@@ -115,3 +129,22 @@ module _ {P : Type 0} {past : List Moment} {layers : ℕ → Node} (w : WorldSta
       let t = terms (hist past w) in
       sym (some_label (asking_step layer id body purpose).0)
       ∙ (ap (λ o. is_some o) (label_at purpose) ∙ sym (found_by t node peer body (label_for t node peer (request_bytes t node peer body)) refl))
+
+  -- and its packet asks for this
+  number_in : (r : Option Asked × Node) → AskedAs (wire.layer node) (id_for wire node peer) (unlabelled (wire.layer node) (id_for wire node peer) body) r → (asked : Asked) → r.0 ≡ Some asked
+      → (asked.label.number < 64) × (asked.bytes ≡ with_label asked.label.number (unlabelled (wire.layer node) (id_for wire node peer) body))
+  number_in (None, new) a asked e = none_is asked e
+  number_in (Some other, new) a asked e =
+      let same : other ≡ asked = cc in
+      subst (λ (o : Asked). (o.label.number < 64) × (o.bytes ≡ with_label o.label.number (unlabelled (wire.layer node) (id_for wire node peer) body))) same (a.small, a.labelled)
+
+  pub access_at : (purpose : P) (asked : Asked) → (asking_step layer id body purpose).0 ≡ Some asked → access_in_bytes asked.bytes ≡ body_access body
+  access_at purpose asked e =
+      let own_layer = wire.layer node in
+      let to = id_for wire node peer in
+      let n = number_in (asking_step own_layer to body tt) (asks own_layer to body (wire_holds.nodes node).places) asked (sym (asks_same purpose) ∙ e) in
+      let number = asked.label.number in
+      let p = request_with (header_to own_layer.node to 0) body in
+      let q = relabelled number p in
+      let spelled : asked.bytes ≡ canon q = n.1 ∙ writes_labels.canonical p number may.valid n.0 in
+      ap access_in_bytes spelled ∙ (ap (λ r. access_in (spelled_by r)) (reading_spelled (canon q) q (canon_spells q (writes_labels.valid p number may.valid n.0))) ∙ label_access number own_layer.node to body)

@@ -114,7 +114,7 @@ module _ (Q : Option ℕ → Type 0) (none : Q None) where
   where_all test place (a ∷ agents) all (suc p) = where_all test (place + 1) agents (λ q. all (suc q)) p
 
   -- ---- the target
-  takes_on : (told : Option Told) (reply : Option Reply) (t : Target) → Goes t (taken_on told reply t)
+  pub takes_on : (told : Option Told) (reply : Option Reply) (t : Target) → Goes t (taken_on told reply t)
   takes_on told None t = self t
   takes_on told (Some reply) t =
       let a = agent_at t reply.place in

@@ -1,6 +1,7 @@
 -- In each turn of every run an end of an ORB whose status write finds no label has a death beside it: the write that the history names is the one that its agent asks for.
 use Rattle.std.proofs.Common.{◌≡◌, ◌∙◌, refl, sym, ap, subst, ℕ, suc, ◌==◌, ◌&&◌, is_some, Bool, true, false, cond, List, [], ◌∷◌, Option, Some, None, Result, Ok, Err}
 use Rattle.bus_memory.specs.Windows.{start as slot_start}
+use Rattle.bus_transactions.specs.Packets.{SerialsCount}
 use Rattle.bus_memory.specs.declared.window.Window.TheVariants as windows
 use Rattle.label_table.specs.Bodies.{block_write}
 use Rattle.orb_layout.specs.declared.ask.Ask.{Ask}
@@ -33,7 +34,7 @@ use Rattle.sbp_laws.specs.NoteKinds.{is_end_note, of_kind}
 use Rattle.sbp_laws.specs.Packets.{access_at, answer_in, answered_at, finds_label, packet_at, receiver_in, sender_in}
 use Rattle.sbp_laws.specs.Progress.{Progress, gets, gets_by, progress}
 use Rattle.sbp_laws.specs.SentWrites.{End, address_in, behind_turn, end_in, is_unsent, lacks_death, place_in, served, src_by, statuses_due, status_of}
-use Rattle.sbp_laws.specs.Targets.{Agent, Purpose, Reply, Target, agent_at, for_agent, for_manager, for_nobody, got_by, initiator_at, is_serial, login_at, over, plain_for, purpose_of, replied, replied_to, target_at, target_by}
+use Rattle.sbp_laws.specs.Targets.{Agent, Purpose, Reply, Target, agent_at, for_agent, for_manager, for_nobody, got_by, initiator_at, is_nothing, is_serial, login_at, over, plain_for, purpose_of, replied, replied_to, target_at, target_by}
 use Rattle.sbp_laws.specs.Turns.{EachTurn, EachTurnBefore, Turn}
 use Rattle.sbp_world.specs.Histories.{history_of}
 use Rattle.sbp_world.proofs.Agents.Management.Firsts.{wire_is}
@@ -51,6 +52,14 @@ use Rattle.turn_laws.proofs.PresentOrbs.{AllCalm, calm_notes, stands_there}
 use Rattle.turn_laws.proofs.Progresses.{whole_before}
 use Rattle.turn_laws.proofs.SilentTurns.{IsStatusServed, end_by_ends, status_served}
 use Rattle.turn_laws.proofs.StatusSteps.{EndsAs, IsEnd, reply_ends}
+use Rattle.sbp_world.proofs.Agents.Management.Still.{hist}
+use Rattle.sbp_world.proofs.Lists.MainAnswers.{main_of}
+use Rattle.sbp_world.proofs.Lists.OrbSteps.{holds_read}
+use Rattle.sbp_world.proofs.Wire.Starts.{laws_of}
+use Rattle.turn_laws.proofs.EveryPlace.{of_every_place}
+use Rattle.turn_laws.proofs.FetchSteps.{ahead_leaves}
+use Rattle.turn_laws.proofs.Fetches.{unread_before}
+use Rattle.turn_laws.proofs.LaterNotes.{one_count}
 use Rattle.sbp_world.proofs.Lists.EndReads.{ahead_none as read_none, none_if}
 
 -- ---- the notes of a turn begin none
@@ -75,6 +84,26 @@ inner_law = record {
   between = λ line run is some most size next deliveries told may. inner_from (history_between line run next deliveries told) [] tt;
 }
 
+-- before each turn serials count
+counts_from : (past : List Moment) (rest : List Note) → SerialsCount past → EachTurnBefore (λ t. SerialsCount t.past) past rest
+counts_from [] rest h = tt
+counts_from (asked line event ∷ past) rest h = (h, counts_from past [] h)
+counts_from (said (notes.Got serial) ∷ past) rest h = (h, counts_from past [] h)
+counts_from (said (notes.Ignored serial cause) ∷ past) rest h = (h, counts_from past [] h)
+counts_from (said (notes.TimedOut serial) ∷ past) rest h = (h, counts_from past [] h)
+counts_from (said (notes.Seen node generation) ∷ past) rest h = (h, counts_from past [] h)
+counts_from (said notes.Tick ∷ past) rest h = (h, counts_from past [] h)
+counts_from (said notes.Settled ∷ past) rest h = (h, counts_from past [] h)
+counts_from (said notes.Stopped ∷ past) rest h = (h, counts_from past [] h)
+counts_from (said note ∷ past) rest h = counts_from past (note ∷ rest) (one_count note past h)
+
+abbrev IsCounted : List Disk → Turn → Type 0
+IsCounted start t = SerialsCount t.past
+
+counted_law : OfEveryRun (λ start past. EachTurn (IsCounted start) past)
+counted_law =
+    of_every_place (λ start past. EachTurn (IsCounted start) past) (λ units ready start has past s here. counts_from (hist past s.world) [] (laws_of past s.world here.holds.sound.stands).serials)
+
 -- ---- a turn that replies to an agent
 module _ (start : List Disk) (past : List Moment) (reply : Reply) where
   abbrev T : Target
@@ -83,26 +112,39 @@ module _ (start : List Disk) (past : List Moment) (reply : Reply) where
   abbrev wire : Terms
   wire = terms past
 
+  -- a main transaction was under way
+  abbrev IsMain : Type 0
+  IsMain = reply.which ≡ Main → is_some (agent_at T reply.place).main ≡ true
+
   -- it takes the agent on, and is none of the management
   record IsReplied (moment : Moment) : Type 0 where
     waits : target_at start (moment ∷ past) ≡ record T { reply = Some reply }
     call : call_by moment T wire ≡ no_call
     goes : progress start (moment ∷ past) reply.place ≡ gets (replies reply) reply.place (agent_at T reply.place) (progress start past reply.place)
+    main : IsMain
 
-  to_purpose : (purpose : Purpose) (answer : Answer) → reply_to purpose answer ≡ replies reply → (replied_to purpose answer T ≡ record T { reply = Some reply }) × (answer_to purpose answer ≡ no_call)
-  to_purpose (for_agent place which) answer e = (ap (λ (r : Reply). record T { reply = Some r }) (same_reply (record { place = place; which = which; answer = answer }) reply e), refl)
-  to_purpose for_manager answer e = absurd (nothing_no reply e)
-  to_purpose for_nobody answer e = absurd (nothing_no reply e)
+  main_there : (own place : ℕ) (which : Which) (answer : Answer) → purpose_of T own ≡ for_agent place which → record { place = place; which = which; answer = answer } ≡ reply → IsMain
+  main_there own place which answer p same m =
+      let purpose : purpose_of T own ≡ for_agent reply.place Main =
+      p ∙ (ap (λ (r : Reply). for_agent r.place r.which) same ∙ ap (for_agent reply.place) m) in
+      ap (λ (x : Option ℕ). is_some x) (main_of T reply.place own purpose)
+
+  to_purpose : (own : ℕ) (purpose : Purpose) (answer : Answer) → purpose_of T own ≡ purpose → reply_to purpose answer ≡ replies reply
+      → (replied_to purpose answer T ≡ record T { reply = Some reply }) × ((answer_to purpose answer ≡ no_call) × IsMain)
+  to_purpose own (for_agent place which) answer p e =
+      let same = same_reply (record { place = place; which = which; answer = answer }) reply e in (ap (λ (r : Reply). record T { reply = Some r }) same, (refl, main_there own place which answer p same))
+  to_purpose own for_manager answer p e = absurd (nothing_no reply e)
+  to_purpose own for_nobody answer p e = absurd (nothing_no reply e)
 
   got_replies : (serial : ℕ) (b : Bool) (own : Option ℕ) → cond b (got_in own T wire serial) nothing ≡ replies reply
-      → (cond b (got_by own wire serial T) T ≡ record T { reply = Some reply }) × (cond b (got_call own T wire serial) no_call ≡ no_call)
-  got_replies serial true (Some own) e = to_purpose (purpose_of T own) (answer_in (packet_at wire serial)) e
+      → (cond b (got_by own wire serial T) T ≡ record T { reply = Some reply }) × ((cond b (got_call own T wire serial) no_call ≡ no_call) × IsMain)
+  got_replies serial true (Some own) e = to_purpose own (purpose_of T own) (answer_in (packet_at wire serial)) refl e
   got_replies serial true None e = absurd (write_no (access_at wire serial) reply e)
   got_replies serial false own e = absurd (nothing_no reply e)
 
   late_replies : (serial : ℕ) (b : Bool) → cond b (reply_to (purpose_of T serial) Expired) nothing ≡ replies reply
-      → (cond b (replied serial Expired T) T ≡ record T { reply = Some reply }) × (cond b (answer_to (purpose_of T serial) Expired) no_call ≡ no_call)
-  late_replies serial true e = to_purpose (purpose_of T serial) Expired e
+      → (cond b (replied serial Expired T) T ≡ record T { reply = Some reply }) × ((cond b (answer_to (purpose_of T serial) Expired) no_call ≡ no_call) × IsMain)
+  late_replies serial true e = to_purpose serial (purpose_of T serial) Expired refl e
   late_replies serial false e = absurd (nothing_no reply e)
 
   replies_so : (moment : Moment) → event_by moment T wire ≡ replies reply → IsReplied moment
@@ -110,14 +152,16 @@ module _ (start : List Disk) (past : List Moment) (reply : Reply) where
       let g = got_replies serial (is_serial (receiver_in (wire.sent serial)) 0) (answered_at wire serial) e in
       record {
         waits = ap (λ (w : Terms). target_by (notes.Got serial) past w (target_at start past)) (wire_is start past) ∙ g.0;
-        call = g.1;
+        call = g.1.0;
+        main = g.1.1;
         goes = ap (λ (ev : Event). gets ev reply.place (agent_at T reply.place) (progress start past reply.place)) e;
       }
   replies_so (said (notes.TimedOut serial)) e =
       let g = late_replies serial (is_serial (sender_in (wire.sent serial)) 0) e in
       record {
         waits = ap (λ (w : Terms). target_by (notes.TimedOut serial) past w (target_at start past)) (wire_is start past) ∙ g.0;
-        call = g.1;
+        call = g.1.0;
+        main = g.1.1;
         goes = ap (λ (ev : Event). gets ev reply.place (agent_at T reply.place) (progress start past reply.place)) e;
       }
   replies_so moment e = absurd (nothing_no reply e)
@@ -127,7 +171,7 @@ ahead_none : (m : Machine) (place : ℕ) (plain : PlainDisk) (told : Option Told
 unfolding reply_step
 ahead_none m place plain told answer = none_if (is_ahead m.ahead) (ahead_step m answer) (quiet, m) (read_none m (payload_of answer 32)) refl
 
-src_same : (next : OrbPointer) → src_by next ≡ src_of next
+pub src_same : (next : OrbPointer) → src_by next ≡ src_of next
 src_same Null = refl
 src_same (At address) = refl
 
@@ -135,12 +179,19 @@ module _ (start : List Disk) (past : List Moment) (q : ℕ) where
   abbrev here : Agent
   here = agent_at (over (target_at start past)) q
 
-  abbrev SrcIs : Which → Answer → AgentStep × Machine → Type 0
-  SrcIs which answer s = s.0.dead ≡ None → is_some s.0.ended ≡ true → (gets_by which here answer (progress start past q)).next ≡ s.1.orb.next
+  -- of a reply to the main transaction what it sends has the next pointer that was got last, where it ends the ORB, and while the ORB is read
+  pub record SrcIs (which : Which) (answer : Answer) (s : AgentStep × Machine) : Type 0 where
+    pub ended : is_some s.0.ended ≡ true → (gets_by which here answer (progress start past q)).next ≡ s.1.orb.next
+    pub held : is_nothing s.0.ask ≡ false → holds_read s.1.phase ≡ true → (gets_by which here answer (progress start past q)).next ≡ s.1.orb.next
 
-  next_is : (which : Which) (answer : Answer) (plain : PlainDisk) (told : Option Told) → SrcIs which answer (reply_step here.machine q plain told which answer)
-  next_is Main answer plain told d e = (main_tracked (progress start past q) here.machine q plain told answer (whole_before start past q).tracked).ended d e
-  next_is Ahead answer plain told d e = untrue (sym (ap (λ (x : Option StatusKind). is_some x) (ahead_none here.machine q plain told answer)) ∙ e)
+  next_is : SerialsCount past → (which : Which) → (which ≡ Main → is_some here.main ≡ true) → (answer : Answer) (plain : PlainDisk) (told : Option Told) → SrcIs which answer (reply_step here.machine q plain told which answer)
+  next_is count Main main answer plain told =
+      let t = main_tracked (progress start past q) here.machine q plain told answer (whole_before start past q).tracked in
+      record { ended = t.ended (unread_before start past count q (main refl)); held = λ e. t.tracked.main }
+  next_is count Ahead main answer plain told = record {
+    ended = λ e. untrue (sym (ap (λ (x : Option StatusKind). is_some x) (ahead_none here.machine q plain told answer)) ∙ e);
+    held = λ e. untrue (sym e ∙ ap (λ (step : AgentStep). is_nothing step.ask) (ahead_leaves here.machine q plain told answer).quiet_is);
+  }
 
 -- ---- an end is heard where the turn tells a death, or a label serves its status
 module _ (start : List Disk) (t : Turn) where
@@ -156,7 +207,7 @@ module _ (start : List Disk) (t : Turn) where
   none_heard e = ap (lacks_death start t) (end_by_ends t.rest ∙ ap end_in e)
 
 -- ---- its status
-module _ (start : List Disk) (t : Turn) (calm : AllInner t.rest) (logins : HasLogins start t) (reply : Reply) (event_is : agent_event start t ≡ replies reply) where
+module _ (start : List Disk) (t : Turn) (calm : AllInner t.rest) (logins : HasLogins start t) (count : SerialsCount t.past) (reply : Reply) (event_is : agent_event start t ≡ replies reply) where
   abbrev B : Target
   B = target_before start t
 
@@ -181,19 +232,33 @@ module _ (start : List Disk) (t : Turn) (calm : AllInner t.rest) (logins : HasLo
   all_calm : AllCalm t.rest
   all_calm = calm_notes t.rest calm (logins.decisions ∙ ap (λ c. decided_in (operator_of B t) (manager_turn c B)) replied_here.call)
 
+  src_here : SrcIs start t.past reply.place reply.which reply.answer s
+  src_here = next_is start t.past reply.place count reply.which replied_here.main reply.answer plain told
+
+  progress_is : (progress start (t.start ∷ t.past) reply.place).next ≡ (gets_by reply.which (agent_at B reply.place) reply.answer (progress start t.past reply.place)).next
+  progress_is =
+      let was = progress start t.past reply.place in
+      let got = gets_by reply.which (agent_at B reply.place) reply.answer was in
+      ap (λ (p : Progress). p.next) (replied_here.goes ∙ ap (λ b. cond b got was) (same_number reply.place))
+
+  pub next_ended : is_some s.0.ended ≡ true → (progress start (t.start ∷ t.past) reply.place).next ≡ s.1.orb.next
+  next_ended e = progress_is ∙ src_here.ended e
+
+  pub next_held : is_nothing s.0.ask ≡ false → holds_read s.1.phase ≡ true → (progress start (t.start ∷ t.past) reply.place).next ≡ s.1.orb.next
+  next_held e f = progress_is ∙ src_here.held e f
+
+  abbrev pub read_from : ℕ
+  read_from = (agent_at (target_at start (behind_turn t)) reply.place).machine.present
+
+  pub read_here : is_some (end_in t.rest) ≡ true → read_from ≡ s.1.present
+  read_here tells = stands_there start t.past t.start t.rest reply B replied_here.waits all_calm tells plain told
+
   module _ (end : End) (tells : end_in t.rest ≡ Some end) (status : IsStatusServed B t a end) where
     next : (progress start (t.start ∷ t.past) reply.place).next ≡ s.1.orb.next
-    next =
-        let was = progress start t.past reply.place in
-        let got = gets_by reply.which (agent_at B reply.place) reply.answer was in
-        ap (λ (p : Progress). p.next) (replied_here.goes ∙ ap (λ b. cond b got was) (same_number reply.place))
-        ∙ next_is start t.past reply.place reply.which reply.answer plain told status.alive (ap (λ (x : Option StatusKind). is_some x) status.ended)
-
-    abbrev read_from : ℕ
-    read_from = (agent_at (target_at start (behind_turn t)) reply.place).machine.present
+    next = next_ended (ap (λ (x : Option StatusKind). is_some x) status.ended)
 
     read_is : read_from ≡ s.1.present
-    read_is = stands_there start t.past t.start t.rest reply B replied_here.waits all_calm (ap (λ (x : Option End). is_some x) tells) plain told
+    read_is = read_here (ap (λ (x : Option End). is_some x) tells)
 
     -- where an ORB with a name stands in the slot of that
     abbrev InSlot : Type 0
@@ -266,25 +331,27 @@ module _ (start : List Disk) (T : Target) (t : Turn) where
   ring_heard q (ask, n) h = asks_heard (record { place = q; untold = (agent_at T q).untold; which = Main; step = asks ask; machine = n }) refl h
 
 -- ---- at each event
-event_heard : (start : List Disk) (t : Turn) → AllInner t.rest → HasLogins start t → (e : Event) → agent_event start t ≡ e
+event_heard : (start : List Disk) (t : Turn) → AllInner t.rest → HasLogins start t → SerialsCount t.past → (e : Event) → agent_event start t ≡ e
     → TellsFor start (target_before start t) t (agent_turn e (target_before start t) (wire_before t) t.rest) → EndsHeard start t
-event_heard start t calm logins nothing is h = none_heard start t h
-event_heard start t calm logins (replies reply) is h = reply_heard start t calm logins reply is h
-event_heard start t calm logins (writes agent_state q given) is h = none_heard start t h
-event_heard start t calm logins (writes agent_reset q given) is h = none_heard start t h
-event_heard start t calm logins (writes unsolicited_enable q given) is h = none_heard start t h
-event_heard start t calm logins (writes orb_pointer q given) is h =
+event_heard start t calm logins count nothing is h = none_heard start t h
+event_heard start t calm logins count (replies reply) is h = reply_heard start t calm logins count reply is h
+event_heard start t calm logins count (writes agent_state q given) is h = none_heard start t h
+event_heard start t calm logins count (writes agent_reset q given) is h = none_heard start t h
+event_heard start t calm logins count (writes unsolicited_enable q given) is h = none_heard start t h
+event_heard start t calm logins count (writes orb_pointer q given) is h =
     let T = target_before start t in pointer_heard start T t q (point_step (agent_at T q).machine (pointer_at given.payload 0)) h
-event_heard start t calm logins (writes doorbell q given) is h =
+event_heard start t calm logins count (writes doorbell q given) is h =
     let T = target_before start t in ring_heard start T t q (doorbell_step (agent_at T q).machine) h
 
-abbrev Calmly : List Disk → Turn → Type 0
-Calmly start t = AllInner t.rest × HasLogins start t
+abbrev pub Calmly : List Disk → Turn → Type 0
+Calmly start t = AllInner t.rest × (HasLogins start t × SerialsCount t.past)
 
-calm_law : OfEveryRun (λ start past. EachTurn (Calmly start) past)
-calm_law = joined_law IsWithin HasLogins Calmly (λ start t calm logins. (calm, logins)) inner_law login_run_law
+pub calm_law : OfEveryRun (λ start past. EachTurn (Calmly start) past)
+calm_law =
+    joined_law IsWithin (λ start t. HasLogins start t × SerialsCount t.past) Calmly (λ start t calm known. (calm, known)) inner_law
+    (joined_law HasLogins IsCounted (λ start t. HasLogins start t × SerialsCount t.past) (λ start t logins count. (logins, count)) login_run_law counted_law)
 
 pub silent_law : SilentLaw
 silent_law =
     joined_law Calmly TellsEnds EndsHeard
-    (λ start t c h. event_heard start t c.0 c.1 (agent_event start t) refl h) calm_law tells_law
+    (λ start t c h. event_heard start t c.0 c.1.0 c.1.1 (agent_event start t) refl h) calm_law tells_law

@@ -42,7 +42,7 @@ end_by_ends (notes.Dead i list cause ∷ rest) = end_by_ends rest
 end_by_ends (note ∷ rest) = end_by_ends rest
 
 -- it is the one that the step brings
-abbrev end_of : ℕ → Option Orb → Option StatusKind → Option End
+abbrev pub end_of : ℕ → Option Orb → Option StatusKind → Option End
 end_of i one None = None
 end_of i one (Some kind) = Some (record { initiator = i; list = list_in one; number = number_in one; kind = kind })
 
@@ -97,11 +97,11 @@ alone : (dead : Option FailCause) → (counted dead None == 0) ≡ true → dead
 alone None h = refl
 alone (Some cause) h = untrue h
 
-writes_it : (dead : Option FailCause) → writes_status (status_phase dead) ≡ true
+pub writes_it : (dead : Option FailCause) → writes_status (status_phase dead) ≡ true
 writes_it None = refl
 writes_it (Some cause) = refl
 
-presents_it : (dead : Option FailCause) → has_present (status_phase dead) ≡ true
+pub presents_it : (dead : Option FailCause) → has_present (status_phase dead) ≡ true
 presents_it None = refl
 presents_it (Some cause) = refl
 
@@ -128,16 +128,16 @@ module _ (start : List Disk) (T : Target) (t : Turn) (a : AgentTurn) (step : Age
   finds = finds_label (wire_after t) 0 (suc i)
 
   -- how it ends an ORB
-  of_end : (kind : StatusKind) → step.ended ≡ Some kind → IsEnd kind a.step a.machine
+  pub of_end : (kind : StatusKind) → step.ended ≡ Some kind → IsEnd kind a.step a.machine
   of_end kind e = subst (λ x. EndsAs x a.step a.machine) (ap (λ (s : AgentStep). s.ended) h.step_is ∙ e) as_end
 
-  phase_is : (kind : StatusKind) → step.ended ≡ Some kind → m.phase ≡ status_phase step.dead
+  pub phase_is : (kind : StatusKind) → step.ended ≡ Some kind → m.phase ≡ status_phase step.dead
   phase_is kind e = sym h.alike.phase ∙ ((of_end kind e).phase ∙ ap (λ (s : AgentStep). status_phase s.dead) h.step_is)
 
   tells : of_kind is_end_note t.rest ≡ brought_notes i list one b
   tells = told_is start T t a step m login layer h
 
-  end_is : end_in t.rest ≡ end_of i one b.ended
+  pub end_is : end_in t.rest ≡ end_of i one b.ended
   end_is = end_by_ends t.rest ∙ (ap end_in tells ∙ end_brought i list one b.dead b.ended b.dead_behind)
 
   deaths_are : deaths_in t ≡ counted b.dead b.dead_behind

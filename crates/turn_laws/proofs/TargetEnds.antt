@@ -39,7 +39,7 @@ use Rattle.turn_laws.proofs.Gots.{no_kind}
 use Rattle.turn_laws.proofs.GotEnds.{manager_ends, no_run, nobody_ends, some_run, unsolicited_ends}
 use Rattle.turn_laws.proofs.Handed.{handed}
 use Rattle.turn_laws.proofs.Places.{Place}
-use Rattle.turn_laws.proofs.ReplyEnds.{still_holder, still_ticket}
+use Rattle.turn_laws.proofs.ReplyEnds.{still_bus, still_holder, still_ticket}
 use Rattle.turn_laws.proofs.RequestEnds.{answered_sides, request_ends}
 
 none_told : NoEnds []
@@ -81,12 +81,12 @@ module _ (units ready : ℕ) (has : 0 < units) (start : List Disk) (past : List 
     abbrev left : TargetScene
     left = scene (record node { layer = new }) empty_outbox
 
-    got_ends : is_barred node p ≡ false → (x : NodeState) (o : OutboxState) → o.sides ≡ (serve p one.bytes left).outbox.sides → AreOthers o.sides → AreJudged (said (notes.Got serial) ∷ ms) → Ends judgements.Got x o
+    got_ends : is_barred node p ≡ false → (x : NodeState) (o : OutboxState) → o ≡ (serve p one.bytes left).outbox → AreOthers o.sides → AreJudged (said (notes.Got serial) ∷ ms) → Ends judgements.Got x o
     got_ends bar x o is others judged =
         request_ends units ready has start past s here serial one found zero_to p read kind new same bar (behind judgements.Got x)
         (still_holder units ready has start past s here serial again one found zero_to judged (with_target x w))
         (still_ticket units ready has start past s here serial again one found zero_to judged (with_target x w))
-        (still_places (with_target x w)) o others is
+        (still_places (with_target x w)) (still_bus units ready has start past s here serial again one found zero_to judged (with_target x w)) o others is
 
     bar_by : (b : Bool) → is_barred node p ≡ b → IfCalled (judged_scene (cond {A = Judged × TargetScene} b (judgements.Ignored causes.Login, answered p one.bytes 7 [] left) (judgements.Got, serve p one.bytes left)) (with_layer new (whole_of node s.media)))
     bar_by true e = λ others judged runs. ignored_ends causes.Login _ _ others (subst NoEnds (sym (answered_sides p one.bytes 7 [] left)) tt)

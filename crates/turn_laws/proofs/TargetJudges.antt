@@ -3,7 +3,7 @@ use Rattle.std.proofs.Common.{arith, ◌≡◌, ◌∙◌, refl, sym, ap, subst,
 use Rattle.async_packet.specs.Packet.{Packet, header_in}
 use Rattle.async_packet.specs.Reading.{reading}
 use Rattle.label_table.specs.Judging.{by_request}
-use Rattle.label_table.specs.Layer.{Finding, Layer, judging_step, of_again, of_generation, of_grammar, of_label, of_request, of_response}
+use Rattle.label_table.specs.Layer.{Finding, Layer, answering_step, judging_step, of_again, of_generation, of_grammar, of_label, of_request, of_response}
 use Rattle.login_table.specs.Table.{Table, by_agent}
 use Rattle.login_table.specs.declared.login.Login.{Login}
 use Rattle.packet_store.specs.declared.sent.Sent.{Sent}
@@ -32,7 +32,6 @@ use Rattle.sbp_target.specs.Replies.{Whole}
 use Rattle.sbp_target.specs.Sending.{answer_step}
 use Rattle.sbp_target.specs.Serving.{answered, request_step}
 use Rattle.sbp_target.specs.declared.purpose.Purpose.{Purpose}
-use Rattle.label_table.specs.Layer.{answering_step}
 use Rattle.sbp_world.specs.Agents.Management.Offices.{Agrees, office_of}
 use Rattle.sbp_world.specs.Delivering.{whole_of}
 use Rattle.sbp_world.specs.Wire.Wires.{Stands, layers_of}

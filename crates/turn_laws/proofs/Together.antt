@@ -20,6 +20,7 @@ use Rattle.turn_laws.proofs.OrderRuns.{ordered_law}
 use Rattle.turn_laws.proofs.RunEnds.{runs_end_law}
 use Rattle.turn_laws.proofs.SentPackets.{packets_run_law}
 use Rattle.turn_laws.proofs.Silent.{silent_law}
+use Rattle.turn_laws.proofs.Statuses.{statuses_law}
 use Rattle.turn_laws.proofs.Unserved.{unserved_law}
 
 pub turns_law : TurnsLaw
@@ -32,6 +33,7 @@ turns_law = record {
     cleared = cleared_law.after_lines line run is some most size;
     packets = packets_run_law.after_lines line run is some most size;
     answers = answered_law.after_lines line run is some most size;
+    statuses = statuses_law.after_lines line run is some most size;
     ends = ends_law.after_lines line run is some most size;
     once = once_law.after_lines line run is some most size;
     deaths = deaths_law.after_lines line run is some most size;
@@ -55,6 +57,7 @@ turns_law = record {
     cleared = cleared_law.between line run is some most size next deliveries told may;
     packets = packets_run_law.between line run is some most size next deliveries told may;
     answers = answered_law.between line run is some most size next deliveries told may;
+    statuses = statuses_law.between line run is some most size next deliveries told may;
     ends = ends_law.between line run is some most size next deliveries told may;
     once = once_law.between line run is some most size next deliveries told may;
     deaths = deaths_law.between line run is some most size next deliveries told may;

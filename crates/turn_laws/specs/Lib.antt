@@ -9,6 +9,7 @@ pub mod Once
 pub mod Deaths
 pub mod Codes
 pub mod Silent
+pub mod Statuses
 pub mod Aborts
 pub mod Unserved
 pub mod Ordered

@@ -10,6 +10,7 @@ use Rattle.sbp_laws.specs.JudgementLaw.{JudgementLaw}
 use Rattle.sbp_laws.specs.LoginLaw.{LoginLaw}
 use Rattle.sbp_laws.specs.SentAnswers.{AnswersLaw}
 use Rattle.sbp_laws.specs.SentPackets.{SentAt}
+use Rattle.sbp_laws.specs.SentWrites.{StatusesAreSent}
 use Rattle.sbp_laws.specs.Turns.{EachMoment, EachTurn}
 use Rattle.turn_laws.specs.Alone.{PushesAlone}
 use Rattle.turn_laws.specs.Announced.{AnnouncesWhereDue}
@@ -34,6 +35,7 @@ pub record LawfulInTurns (start : List Disk) (past : List Moment) : Type 0 where
   pub cleared : EachTurn (ClearsWhereDue start) past
   pub packets : EachMoment SentAt past
   pub answers : EachTurn (AnswersLaw start) past
+  pub statuses : EachTurn (StatusesAreSent start) past
   pub ends : EachTurn (EndsWhereDue start) past
   pub once : EachTurn (DiesOnce start) past
   pub deaths : EachTurn (DiesByRows start) past

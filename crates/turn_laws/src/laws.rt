@@ -20,6 +20,7 @@ ghost use Rattle.turn_laws.specs.Ordered.{OrderedLaw};
 ghost use Rattle.turn_laws.specs.Packets.{PacketsLaw};
 ghost use Rattle.turn_laws.specs.RunsEnd.{RunsEndLaw};
 ghost use Rattle.turn_laws.specs.Silent.{SilentLaw};
+ghost use Rattle.turn_laws.specs.Statuses.{StatusesLaw};
 ghost use Rattle.turn_laws.specs.UnderWay.{TargetWaitsLaw};
 ghost use Rattle.turn_laws.specs.Unserved.{UnservedLaw};
 
@@ -110,6 +111,15 @@ pub fn orbs_abort_where_due()
 #[tactic(auto, using(crate::proofs::Silent::silent_law))]
 pub fn ends_are_heard()
     ensures { SilentLaw }
+{}
+
+/// In each turn of every run, whatever anybody injected, behind an end of an ORB its initiator is sent one write, and
+/// no other: the status of that end, with the address of the ORB's slot, to the FIFO of the login, with src 0
+/// exactly where the next pointer that was got last is not null; and none where that write finds no label:
+/// `statuses` of the sent law.
+#[tactic(auto, using(crate::proofs::Statuses::statuses_law))]
+pub fn statuses_are_sent_where_due()
+    ensures { StatusesLaw }
 {}
 
 /// In every run, whatever anybody injected, there are bytes with which the write of a chunk of an answer finds no

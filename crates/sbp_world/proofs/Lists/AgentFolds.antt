@@ -74,10 +74,13 @@ abbrev pub is_for : Option Reply → ℕ → Bool
 is_for None q = false
 is_for (Some reply) q = reply.place == q
 
--- ---- what is done with an agent keeps it, as a turn goes on
-pub record AreLasting (P : ℕ → Agent → Type 0) : Type 0 where
+-- ---- what is done with an agent keeps it, as a turn goes on, where its packets have such serials
+abbrev pub Every : ℕ → Type 0
+Every serial = Unit {0}
+
+pub record AreLasting (P : ℕ → Agent → Type 0) (May : ℕ → Type 0) : Type 0 where
   pub untells : (q : ℕ) (a : Agent) (b : Bool) → P q a → P q (record a { untold = b })
-  pub sends : (q : ℕ) (a : Agent) (is_write : Bool) (serial : ℕ) → P q a → P q (sends_of is_write serial a)
+  pub sends : (q : ℕ) (a : Agent) (is_write : Bool) (serial : ℕ) → May serial → P q a → P q (sends_of is_write serial a)
   pub loses : (q : ℕ) (a : Agent) → P q a → P q (main_lost a)
   pub ends : (q : ℕ) (a : Agent) → P q a → P q (agent_over a)
   -- a reply takes a new agent nowhere
@@ -85,8 +88,8 @@ pub record AreLasting (P : ℕ → Agent → Type 0) : Type 0 where
       → P q (moved (reply_step new_machine q plain told which answer) (closed which (record new_agent { untold = b }))) → P q new_agent
 
 -- and as its list is cut
-pub record AreKept (P : ℕ → Agent → Type 0) : Type 0 where
-  pub lasting : AreLasting P
+pub record AreKept (P : ℕ → Agent → Type 0) (May : ℕ → Type 0) : Type 0 where
+  pub lasting : AreLasting P May
   pub cuts : (q : ℕ) (a : Agent) → P q a → P q (cut_agent a)
 
 module _ (P : ℕ → Agent → Type 0) where
@@ -160,7 +163,7 @@ module _ (P : ℕ → Agent → Type 0) (cuts : (q : ℕ) (a : Agent) → P q a 
       by q (inl g) = subst (P q) (sym g) (cuts q (at_place t.agents q) (h.agents q))
       by q (inr g) = subst (P q) (sym g) (h.agents q)
 
-module _ (P : ℕ → Agent → Type 0) (kept : AreLasting P) where
+module _ {May : ℕ → Type 0} (P : ℕ → Agent → Type 0) (kept : AreLasting P May) where
   -- ---- a reply takes an agent on
   taken_each : (told : Option Told) (reply : Reply) (t : Target) → t.reply ≡ Some reply → AreSo P t → (q : ℕ) → P q (agent_at (taken_on told (Some reply) t) q)
   taken_each told reply t e h q = by (set_agent t.agents reply.place x q)

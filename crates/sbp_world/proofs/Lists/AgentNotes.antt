@@ -24,7 +24,7 @@ use Rattle.sbp_laws.specs.Targets.{Agent, Target, agent_at, effect_on, going_on,
 use Rattle.sbp_laws.specs.Turns.{event_of}
 use Rattle.sbp_world.proofs.Lists.AgentFolds.{AreKept, AreSo, AreStill, all_cut, cut_still, going_still, lost_still, over_still, set_still, settles, so, stand, stand_still, where_still}
 
-module _ (P : ℕ → Agent → Type 0) (kept : AreKept P) where
+module _ {May : ℕ → Type 0} (P : ℕ → Agent → Type 0) (kept : AreKept P May) where
   abbrev Is : Target → Type 0
   Is t = AreSo P t
 
@@ -54,21 +54,21 @@ module _ (P : ℕ → Agent → Type 0) (kept : AreKept P) where
   managed_kept (step, (machine, table)) answer t f h = effects_kept step.effect _ f (stand_still P _ t refl refl h)
 
   -- ---- a packet is sent
-  sent_for_kept : (place : Option ℕ) (is_write : Bool) (serial : ℕ) (t : Target) → Settled t → Settled (sent_for place is_write serial t)
-  sent_for_kept (Some place) is_write serial t h = set_still P t place (sends_of is_write serial (agent_at t place)) h (λ a. kept.lasting.sends place (agent_at t place) is_write serial a)
-  sent_for_kept None is_write serial t h = pick (wants t.manager_asks is_write) _ _ (stand_still P _ t refl refl h) (stand_still P _ t refl refl h)
+  sent_for_kept : (place : Option ℕ) (is_write : Bool) (serial : ℕ) → May serial → (t : Target) → Settled t → Settled (sent_for place is_write serial t)
+  sent_for_kept (Some place) is_write serial may t h = set_still P t place (sends_of is_write serial (agent_at t place)) h (λ a. kept.lasting.sends place (agent_at t place) is_write serial may a)
+  sent_for_kept None is_write serial may t h = pick (wants t.manager_asks is_write) _ _ (stand_still P _ t refl refl h) (stand_still P _ t refl refl h)
 
-  sent_kept : (part : Part) (is_write : Bool) (serial : ℕ) (t : Target) → Settled t → Settled (sent_as part is_write serial t)
-  sent_kept (request label kind) is_write serial t h = sent_for_kept (position (wants_it is_write) t.agents) is_write serial t h
-  sent_kept (response label kind) is_write serial t h = h
-  sent_kept no_packet is_write serial t h = h
+  sent_kept : (part : Part) (is_write : Bool) (serial : ℕ) → May serial → (t : Target) → Settled t → Settled (sent_as part is_write serial t)
+  sent_kept (request label kind) is_write serial may t h = sent_for_kept (position (wants_it is_write) t.agents) is_write serial may t h
+  sent_kept (response label kind) is_write serial may t h = h
+  sent_kept no_packet is_write serial may t h = h
 
-  pub leaves_kept : (serial generation from to : ℕ) (bytes : List ℕ) (past : List Moment) (wire : Terms) (t : Target) → Is t
+  pub leaves_kept : (serial generation from to : ℕ) (bytes : List ℕ) (past : List Moment) (wire : Terms) (t : Target) → May serial → Is t
       → Settled (target_by (notes.Sent serial generation from to bytes) past wire t)
-  leaves_kept serial generation from to bytes past wire t h =
+  leaves_kept serial generation from to bytes past wire t may h =
       let s = settles P kept.lasting t h in
       pick (from == 0) (sent_as (part_of bytes) (is_write_access (access_in_bytes bytes)) serial (taken_on None t.reply t)) (taken_on None t.reply t)
-      (sent_kept (part_of bytes) (is_write_access (access_in_bytes bytes)) serial (taken_on None t.reply t) s) s
+      (sent_kept (part_of bytes) (is_write_access (access_in_bytes bytes)) serial may (taken_on None t.reply t) s) s
 
   -- ---- each note
   pub sees_kept : (b : Bool) (t : Target) → Settled t → Settled (reset_seen b t)
@@ -97,6 +97,7 @@ module _ (P : ℕ → Agent → Type 0) (kept : AreKept P) where
   IfApart (notes.Got serial) past wire t = Is (target_by (notes.Got serial) past wire t)
   IfApart (notes.TimedOut serial) past wire t = Is (target_by (notes.TimedOut serial) past wire t)
   IfApart (notes.Managed i functions.Login subject status login) past wire t = Is (target_by (notes.Managed i functions.Login subject status login) past wire t)
+  IfApart (notes.Sent serial generation from to bytes) past wire t = May serial
   IfApart note past wire t = Unit {0}
 
   managed_note : (i subject status : ℕ) (word : FunctionWord) (login : Option ℕ) (past : List Moment) (wire : Terms) (t : Target) → Is t
@@ -109,7 +110,7 @@ module _ (P : ℕ → Agent → Type 0) (kept : AreKept P) where
   note_kept (notes.Got serial) past wire t h g = g
   note_kept (notes.TimedOut serial) past wire t h g = g
   note_kept (notes.Ignored serial cause) past wire t h g = so P (over t) (over_still P kept.lasting t h)
-  note_kept (notes.Sent serial generation from to bytes) past wire t h g = so P _ (leaves_kept serial generation from to bytes past wire t h)
+  note_kept (notes.Sent serial generation from to bytes) past wire t h g = so P _ (leaves_kept serial generation from to bytes past wire t g h)
   note_kept (notes.Ran i n k unit cdb bytes check) past wire t h g =
       let own = is_own_run t.reply i wire t in
       let note = notes.Ran i n k unit cdb bytes check in stand P _ (ran_on own note t) refl refl (running own note t h)

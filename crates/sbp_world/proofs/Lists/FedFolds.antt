@@ -11,7 +11,7 @@ use Rattle.rbc_disk.specs.Runs.{Told}
 use Rattle.rbc_disk.specs.Units.{PlainDisk}
 use Rattle.sbp_laws.specs.Targets.{Agent, Reply, Target, ahead_lost, is_nothing, main_lost, moved, over, sends_of, wants}
 use Rattle.sbp_world.proofs.Lists.AgentFolds as agents
-use Rattle.sbp_world.proofs.Lists.AgentFolds.{AreKept}
+use Rattle.sbp_world.proofs.Lists.AgentFolds.{AreKept, Every}
 
 -- it is kept by each step
 pub record IsKept (P : ℕ → Machine → Type 0) : Type 0 where
@@ -67,11 +67,11 @@ module _ (P : ℕ → Machine → Type 0) (kept : IsKept P) where
       by true x e = h
       by false x e = subst (P q) (sym e) (kept.lost q a.machine Ahead h)
 
-  pub are_kept : AreKept (Of P)
+  pub are_kept : AreKept (Of P) Every
   are_kept = record {
     lasting = record {
       untells = λ q a b h. h;
-      sends = λ q a is_write serial h. subst (P q) (sym (sends_machine is_write serial a)) h;
+      sends = λ q a is_write serial may h. subst (P q) (sym (sends_machine is_write serial a)) h;
       loses = main_kept;
       ends = λ q a h. ahead_kept q (main_lost a) (main_kept q a h);
       stays = λ q which answer plain told b h. kept.new q;

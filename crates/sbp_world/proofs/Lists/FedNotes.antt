@@ -21,7 +21,7 @@ use Rattle.sbp_journal.specs.declared.operation.FunctionWord.{FunctionWord}
 use Rattle.sbp_journal.specs.declared.operation.FunctionWord.TheVariants as functions
 use Rattle.sbp_laws.specs.Packets.{sender_in}
 use Rattle.sbp_laws.specs.Targets.{Agent, Decided, Purpose, Reply, Target, agent_at, enters_in, entered_by, for_agent, for_manager, for_nobody, is_serial, managed_by, manager_step, new_agent, over, pointed_by, points, purpose_of, register_got, replied, replied_to, request_got, rings, start_got, started_by, target_by, with_agent}
-use Rattle.sbp_world.proofs.Lists.AgentFolds.{AreKept, cut_still, set_so, set_still, stand, stand_still}
+use Rattle.sbp_world.proofs.Lists.AgentFolds.{AreKept, Every, cut_still, set_so, set_still, stand, stand_still}
 use Rattle.sbp_world.proofs.Lists.AgentNotes as agents
 use Rattle.sbp_world.proofs.Lists.AgentNotes.{IfApart, pick}
 use Rattle.sbp_world.proofs.Lists.FedFolds.{AreSo, AreStill, IsKept, Of, Pends, are_kept, over_still, so}
@@ -33,7 +33,7 @@ module _ (P : ℕ → Machine → Type 0) (kept : IsKept P) where
   abbrev Settled : Target → Type 0
   Settled t = AreStill P t
 
-  as_kept : AreKept (Of P)
+  as_kept : AreKept (Of P) Every
   as_kept = are_kept P kept
 
   pick_is : (b : Bool) (x y : Target) → Is x → Is y → Is (cond b x y)
