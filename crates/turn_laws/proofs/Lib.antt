@@ -142,4 +142,10 @@ pub mod TargetAnswers
 pub mod AnswerRuns
 pub mod BehindTurns
 pub mod TargetWaits
+pub mod ActNotes
+pub mod ActRows
+pub mod ActBodies
+pub mod ActTies
+pub mod Actions
+pub mod ActRequests
 pub mod Together

@@ -23,4 +23,6 @@ pub mod Operations
 pub mod Judgement
 pub mod Answers
 pub mod UnderWay
+pub mod Actions
+pub mod ActRequests
 pub mod Together
