@@ -48,11 +48,26 @@ calls_nodes events.Settle = true
 calls_nodes events.Tick = true
 calls_nodes event = false
 
+-- the line is an action
+abbrev pub is_act : Event → Bool
+is_act (events.Act i action) = true
+is_act event = false
+
+-- the refusal of a line that is none
+pub record Refusal (event : Event) : Type 0 where
+  pub number : ℕ
+  pub no_act : is_act event ≡ false
+
+-- an action of an initiator is refused
+pub record IsRefused (s : Scene) (i : ℕ) (action : Action) (number : ℕ) : Type 0 where
+  pub inside : i < length s.world.initiators
+  pub is : (act_step action empty_outbox (initiator_at s.world i)).0 ≡ Some number
+
 -- the notes of a line itself, but of an action that is done: none where it calls nodes
 pub data Brings (line : ℕ) (s : Scene) : Event → List Note → Type 0 where
   calls : (event : Event) → calls_nodes event ≡ true → Brings line s event []
-  refuses : (event : Event) (number : ℕ) → Brings line s event (notes.Refused line number ∷ [])
-  refuses_action : (i : ℕ) (action : Action) (number : ℕ) → (act_step action empty_outbox (initiator_at s.world i)).0 ≡ Some number → Brings line s (events.Act i action) (notes.Refused line number ∷ [])
+  refuses : (event : Event) (refusal : Refusal event) → Brings line s event (notes.Refused line refusal.number ∷ [])
+  refuses_action : (i : ℕ) (action : Action) (number : ℕ) → IsRefused s i action number → Brings line s (events.Act i action) (notes.Refused line number ∷ [])
   resets : (physical : List ℕ) (generation : ℕ) → generation ≡ (reset_step physical s.world.generations).latest.generation → Brings line s (events.Reset physical) (notes.Reset generation ∷ [])
   loses : (serial : ℕ) → Brings line s (events.Lose serial) (notes.Lost serial ∷ [])
   sets_key : (unit : ℕ) (key : List ℕ) → Brings line s (events.Key unit key) (notes.Key unit ∷ [])

@@ -148,6 +148,12 @@ pub mod TargetAnswers
 pub mod AnswerRuns
 pub mod BehindTurns
 pub mod TargetWaits
+pub mod ActNotes
+pub mod ActRows
+pub mod ActBodies
+pub mod ActTies
+pub mod Actions
+pub mod ActRequests
 pub mod Together
 pub mod RunPlans
 pub mod RunEnds

@@ -45,6 +45,7 @@ use Rattle.sbp_world.specs.Sending.{posted}
 use Rattle.sbp_world.specs.Settling.{MayAll, MayAt, MayNext, after_all, delivered_at, delivered_next, is_settled, lowest, settled_from}
 use Rattle.sbp_world.specs.Wire.Lines.{AreLines, IsLine}
 use Rattle.sbp_world.specs.Worlds.{Scene, WorldState, begun, initiator_at, scene, with_initiator, with_note, with_target, without_notes}
+use Rattle.sbp_world.proofs.Common.{untrue}
 use Rattle.sbp_world.proofs.Agents.Management.Begins.{first_holds, first_past}
 use Rattle.sbp_world.proofs.Agents.Management.Holding.{Holding}
 use Rattle.sbp_world.proofs.InitiatorForms as own
@@ -59,10 +60,15 @@ use Rattle.sbp_world.proofs.Wire.Comes.{own_inside, own_outside, received_is, to
 use Rattle.sbp_world.proofs.Wire.Starts.{laws_of}
 use Rattle.sbp_world.proofs.Wire.ToldBytes.{happened_fits}
 use Rattle.turn_laws.specs.Runs.{OfEveryRun}
-use Rattle.turn_laws.proofs.Calls.{Brings, CarriedCases, Cases, Stays, calls, calls_nodes, in_scene, injects, loses, refuses, refuses_action, resets, sets_key}
+use Rattle.turn_laws.proofs.Calls.{Brings, CarriedCases, Cases, Stays, calls, calls_nodes, in_scene, is_act, injects, loses, refuses, refuses_action, resets, sets_key}
 use Rattle.turn_laws.proofs.Handed.{AllInner, AreInner, handed, handed_fresh, handed_inner, onto, others_inner, own_inner}
 use Rattle.turn_laws.proofs.Places.{Place, begun_place, between_place, ended_place}
 use Rattle.turn_laws.proofs.Turns.{Turns, by_line, by_note, judged_before}
+
+-- a line that calls nodes is no action
+pub call_no_act : (event : Event) → calls_nodes event ≡ true → is_act event ≡ false
+call_no_act (events.Act i action) e = untrue e
+call_no_act _ e = refl
 
 module _ (units ready : ℕ) (start : List Disk) (K : List Moment → Scene → Type 0) (L : Turn → Type 0) (cases : CarriedCases units ready start K L) where
   abbrev At : List Moment → Scene → Type 0
@@ -279,11 +285,11 @@ module _ (units ready : ℕ) (start : List Disk) (K : List Moment → Scene → 
           let r = cases.lines past s line event rest t brings fresh here there stays before.1 in
           (subst (λ ns. Each (map said ns ++ now)) (sym fresh) (by_line L line event rest (hist past s.world) inner r.0 before.0), r.1)
 
-      refuses_in : (number : ℕ) (v : WorldState) → v.fresh ≡ [] → Stays s.world v → Goes (in_scene (refused line number v) s)
-      refuses_in number v none stays = plain (notes.Refused line number ∷ []) (in_scene (refused line number v) s) (refuses event number) (ap (λ ns. notes.Refused line number ∷ ns) none) (tt, tt) stays
+      refuses_in : is_act event ≡ false → (number : ℕ) (v : WorldState) → v.fresh ≡ [] → Stays s.world v → Goes (in_scene (refused line number v) s)
+      refuses_in other number v none stays = plain (notes.Refused line number ∷ []) (in_scene (refused line number v) s) (refuses event (record { number = number; no_act = other })) (ap (λ ns. notes.Refused line number ∷ ns) none) (tt, tt) stays
 
-      refuses_line : (number : ℕ) → Goes (in_scene (refused line number first) s)
-      refuses_line number = refuses_in number first refl (refl, (refl, refl))
+      refuses_line : is_act event ≡ false → (number : ℕ) → Goes (in_scene (refused line number first) s)
+      refuses_line other number = refuses_in other number first refl (refl, (refl, refl))
 
       -- a node is called: the line has no notes of its own
       module _ (is_call : calls_nodes event ≡ true) (opened : At now (begun s)) where
@@ -294,13 +300,13 @@ module _ (units ready : ℕ) (start : List Disk) (K : List Moment → Scene → 
         one_comes serial again true [] may = absurd may
         one_comes serial again true (one ∷ []) may = comes now (begun s) opened begins_now serial again one may
         one_comes serial again true (one ∷ other ∷ more) may = absurd may
-        one_comes serial again false run may = refuses_line no_packet
+        one_comes serial again false run may = refuses_line (call_no_act event is_call) no_packet
 
     -- an initiator acts
     module _ (i : ℕ) (action : Action) (inside : i < length s.world.initiators) where
       acts_by : (x : Option ℕ × Called) → act_step action empty_outbox (initiator_at s.world i) ≡ x → Goes (events.Act i action) (in_scene (acted_by x line i action first) s)
       acts_by (Some number, (outbox, state)) e =
-          plain (events.Act i action) (notes.Refused line number ∷ []) (in_scene (refused line number (with_initiator i state first)) s) (refuses_action i action number (ap (λ (z : Option ℕ × Called). z.0) e)) refl (tt, tt) (refl, (refl, length-set first.initiators i state))
+          plain (events.Act i action) (notes.Refused line number ∷ []) (in_scene (refused line number (with_initiator i state first)) s) (refuses_action i action number (record { inside = inside; is = ap (λ (z : Option ℕ × Called). z.0) e })) refl (tt, tt) (refl, (refl, length-set first.initiators i state))
       acts_by (None, (outbox, state)) e =
           let v = with_initiator i state first in
           let rest = handed (i + 1) (weight_in action) outbox v in
@@ -328,11 +334,11 @@ module _ (units ready : ℕ) (start : List Disk) (K : List Moment → Scene → 
       where
         by : (b : Bool) → Goes (events.Lose serial) (in_scene (cond b (lost serial first) (refused line no_packet first)) s)
         by true = plain (events.Lose serial) (notes.Lost serial ∷ []) (in_scene (lost serial first) s) (loses serial) refl (tt, tt) (refl, (refl, refl))
-        by false = refuses_line (events.Lose serial) no_packet
+        by false = refuses_line (events.Lose serial) refl no_packet
 
     injects_to : (i : ℕ) (bytes : List ℕ) (to : Option ℕ) → Goes (events.Inject i bytes) (in_scene (injected to line (i + 1) bytes first) s)
     unfolding posted
-    injects_to i bytes None = refuses_line (events.Inject i bytes) no_node
+    injects_to i bytes None = refuses_line (events.Inject i bytes) refl no_node
     injects_to i bytes (Some to) =
         let n = first.store.last + 1 in
         let g = (topology_at first.generations (i + 1)).generation in
@@ -348,7 +354,7 @@ module _ (units ready : ℕ) (start : List Disk) (K : List Moment → Scene → 
       where
         by : (b : Bool) → Goes (events.Key unit key) (in_scene (cond b (with_note (notes.Key unit) (with_target (with_key unit key first.target) first)) (refused line no_unit first)) s)
         by true = plain (events.Key unit key) (notes.Key unit ∷ []) (in_scene (with_note (notes.Key unit) (with_target (with_key unit key first.target) first)) s) (sets_key unit key) refl (tt, tt) (refl, (refl, refl))
-        by false = refuses_line (events.Key unit key) no_unit
+        by false = refuses_line (events.Key unit key) refl no_unit
 
     -- deliveries one after the other
     module _ (most : Option ℕ) (is_call : calls_nodes (more_deliveries most) ≡ true) (between : (told : List (Option Told)) → MayAll told (begun s) → At (now (more_deliveries most)) (after_all told (begun s))) where
@@ -373,7 +379,7 @@ module _ (units ready : ℕ) (start : List Disk) (K : List Moment → Scene → 
       goes (events.Lose serial) told q may = loses_packet serial
       goes (events.Timeout serial) told q may =
           let e = events.Timeout serial in
-          late (now e) (begun s) (opened e refl) (begins_now e refl (opened e refl)) line serial (λ v none stays. refuses_in e no_packet v none stays)
+          late (now e) (begun s) (opened e refl) (begins_now e refl (opened e refl)) line serial (λ v none stays. refuses_in e refl no_packet v none stays)
       goes (events.Step count) told q may = λ there. all_come (Some count) refl (between (Some count)) told may.may
       goes events.Settle told q may =
           let t = after_all told (begun s) in

@@ -70,6 +70,8 @@ pub record HasPairs (past : List Moment) (i : ℕ) (s : InitiatorState) : Type 0
 -- What is known at a place: its history goes on from `past` by the notes of the world.
 pub record Place (units ready : ℕ) (start : List Disk) (past : List Moment) (s : Scene) : Type 0 where
   pub lines : ℕ
+  -- that are few
+  pub short : lines + 1 < 2 ^ 32
   -- a medium for each unit
   pub size : length start ≡ units
   -- the wire, the nodes, and the management of the target
@@ -144,6 +146,7 @@ module _ (line : ℕ) (run : Run) (few : run.initiators ≤ 4) (has : 0 < run.un
     pub ended_place : PlaceOf past here
     ended_place = record {
       lines = length entries;
+      short = omega (arith, short);
       size = size;
       holds = h;
       calls = λ i b. calls_of i (initiator_at here.world i) (of_runs Owned (own_carried run.ready) line front (λ before few short every fit j c. tt) (λ j c. own_first run.ready j) is_run i (inside i b));
@@ -197,6 +200,7 @@ module _ (line : ℕ) (run : Run) (few : run.initiators ≤ 4) (has : 0 < run.un
             let f = lines_same run entries entries fit in
             record {
               lines = length entries + 1;
+              short = omega (arith, short);
               size = size;
               holds = between_holds told m;
               calls = λ i b. calls_of i (initiator_at w i) (between_runs Owned (own_carried run.ready) line front (λ before few short every fit j c. tt) (λ j c. own_first run.ready j) is_run next most told m i (inside_there i b));
@@ -231,6 +235,7 @@ module _ (line : ℕ) (run : Run) (few : run.initiators ≤ 4) (has : 0 < run.un
           let p = ended_place in
           record {
             lines = length entries + 1;
+            short = omega (arith, short);
             size = size;
             holds = begins;
             calls = λ i b. p.calls i b;

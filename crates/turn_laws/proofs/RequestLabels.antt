@@ -1,6 +1,7 @@
 -- A request of a node finds a label exactly where the history says so: at any wire that stands and owes no answer, so also between two moves of a turn, and for any layer of the node whatever
 -- its transactions are for.
 use Rattle.std.proofs.Common.{arith, ◌≡◌, refl, sym, ◌∙◌, ap, subst, ℕ, ◌≤◌, ◌<◌, is_some, List, Option, Some, None, length}
+use Rattle.std.proofs.lemmas.Option.{same_Some}
 use Rattle.async_packet.specs.Canon.{IsValid, canon}
 use Rattle.label_table.specs.Laws.{relabelled}
 use Rattle.async_packet.proofs.RoundTrip.{canon_spells}
@@ -18,18 +19,18 @@ use Rattle.bus_transactions.proofs.Steps.{AskedAs, asks}
 use Rattle.label_table.specs.declared.judgement.Asked.{Asked}
 use Rattle.label_table.specs.Bodies.{Body, block_read, block_write, header_to, quadlet_read, quadlet_write, request_with}
 use Rattle.label_table.specs.Layer.{Layer, asking_step, unlabelled}
-use Rattle.label_table.specs.Requests.{with_label}
+use Rattle.label_table.specs.Requests.{label_of, with_label}
 use Rattle.label_table.proofs.Requests.{least_spelled}
 use Rattle.label_table.proofs.Rewritten.{writes_labels}
 use Rattle.sbp_journal.specs.Addresses.{Access, access_of}
 use Rattle.sbp_journal.specs.Run.{Moment}
 use Rattle.sbp_journal.specs.Wire.{Terms, terms}
-use Rattle.sbp_laws.specs.Packets.{access_in, access_in_bytes, finds_label, label_for, request_bytes, serves, spelled_by}
+use Rattle.sbp_laws.specs.Packets.{access_in, access_in_bytes, finds_label, label_for, request_bytes, serves, spelled_by, id_of}
+use Rattle.sbp_laws.specs.Packets as packets
 use Rattle.sbp_world.specs.Hosts.Labels.{label_in}
 use Rattle.sbp_world.specs.Wire.Wires.{StandsAt}
 use Rattle.sbp_world.specs.Worlds.{WorldState}
 use Rattle.sbp_world.proofs.Agents.Management.Still.{hist}
-use Rattle.sbp_world.proofs.Common.{none_is}
 use Rattle.sbp_world.proofs.Hosts.Labels.{first_found, serves_same, none_found, found_by, some_label}
 use Rattle.sbp_world.proofs.Wire.Bus.{holds}
 
@@ -42,6 +43,19 @@ label_access number from to (quadlet_write offset value) = refl
 label_access number from to (block_write offset payload) = refl
 label_access number from to (quadlet_read offset) = refl
 label_access number from to (block_read offset asked) = refl
+
+-- a request with another label
+with_other : (from to n : ℕ) (body : Body) → relabelled n (request_with (header_to from to 0) body) ≡ request_with (header_to from to n) body
+with_other from to n (quadlet_write offset value) = refl
+with_other from to n (block_write offset payload) = refl
+with_other from to n (quadlet_read offset) = refl
+with_other from to n (block_read offset wanted) = refl
+
+-- a request that found a label is canonical under it, and that is the lowest that serves
+pub record IsSpelled (t : Terms) (node peer : ℕ) (body : Body) (asked : Asked) : Type 0 where
+  pub label : label_for t node peer (request_bytes t node peer body) ≡ Some asked.label.number
+  pub number : label_of asked.bytes ≡ asked.label.number
+  pub spelled : asked.bytes ≡ canon (request_with (header_to (id_of t node) (packets.id_for t node peer) asked.label.number) body)
 
 module _ {P : Type 0} {past : List Moment} {layers : ℕ → Node} (w : WorldState) (stands : StandsAt past layers None w) (node peer : ℕ) (node_there : node ≤ length w.initiators) (peer_there : peer ≤ length w.initiators) (layer : Layer P) (own_is : layers node ≡ bare layer) (id : ℕ) (id_is : id_for stands.wire node peer ≡ id) (body : Body) (valid : IsValid (request_with (header_to layer.node id 0) body)) where
   abbrev wire : Wire
@@ -130,19 +144,36 @@ module _ {P : Type 0} {past : List Moment} {layers : ℕ → Node} (w : WorldSta
       sym (some_label (asking_step layer id body purpose).0)
       ∙ (ap (λ o. is_some o) (label_at purpose) ∙ sym (found_by t node peer body (label_for t node peer (request_bytes t node peer body)) refl))
 
-  -- and its packet asks for this
-  number_in : (r : Option Asked × Node) → AskedAs (wire.layer node) (id_for wire node peer) (unlabelled (wire.layer node) (id_for wire node peer) body) r → (asked : Asked) → r.0 ≡ Some asked
+  -- ---- its bytes
+  named_by : (asked : Asked) (r : Option Asked × Node) → AskedAs (wire.layer node) (id_for wire node peer) (unlabelled (wire.layer node) (id_for wire node peer) body) r → r.0 ≡ Some asked
       → (asked.label.number < 64) × (asked.bytes ≡ with_label asked.label.number (unlabelled (wire.layer node) (id_for wire node peer) body))
-  number_in (None, new) a asked e = none_is asked e
-  number_in (Some other, new) a asked e =
-      let same : other ≡ asked = cc in
-      subst (λ (o : Asked). (o.label.number < 64) × (o.bytes ≡ with_label o.label.number (unlabelled (wire.layer node) (id_for wire node peer) body))) same (a.small, a.labelled)
+  named_by asked (None, new) a e = absurd (let no : None ≡ Some asked = e in cc)
+  named_by asked (Some other, new) a e =
+      subst (λ (x : Asked). (x.label.number < 64) × (x.bytes ≡ with_label x.label.number (unlabelled (wire.layer node) (id_for wire node peer) body))) (same_Some other asked e) (a.small, a.labelled)
 
+  pub spelled_at : (purpose : P) (asked : Asked) → (asking_step layer id body purpose).0 ≡ Some asked → IsSpelled (terms (hist past w)) node peer body asked
+  spelled_at purpose asked e =
+      let n = asked.label.number in
+      let a = named_by asked (asking_step (wire.layer node) (id_for wire node peer) body tt) (asks (wire.layer node) (id_for wire node peer) body (wire_holds.nodes node).places) (sym (asks_same purpose) ∙ e) in
+      let known = wire_holds.nodes node in
+      let old = request_with (header_to (wire.layer node).node (id_for wire node peer) 0) body in
+      record {
+        label = sym (label_at purpose) ∙ ap label_in e;
+        number = (asked_bytes (wire.layer node).node (id_for wire node peer) n body asked.bytes may.valid a.0 a.1).label;
+        spelled =
+            a.1 ∙ writes_labels.canonical old n may.valid a.0
+            ∙ ap canon (with_other (wire.layer node).node (id_for wire node peer) n body)
+            ∙ ap (λ x. canon (request_with (header_to x (id_for wire node peer) n) body)) known.id
+            ∙ ap (λ g. canon (request_with (header_to (T.ids (T.generation node) node) (T.ids g peer) n) body)) known.generation
+            ∙ ap (λ ms. let t = terms ms in canon (request_with (header_to (t.ids (t.generation node) node) (t.ids (t.generation node) peer) n) body)) stands.is.past_is;
+      }
+
+  -- and what it asks for
   pub access_at : (purpose : P) (asked : Asked) → (asking_step layer id body purpose).0 ≡ Some asked → access_in_bytes asked.bytes ≡ body_access body
   access_at purpose asked e =
       let own_layer = wire.layer node in
       let to = id_for wire node peer in
-      let n = number_in (asking_step own_layer to body tt) (asks own_layer to body (wire_holds.nodes node).places) asked (sym (asks_same purpose) ∙ e) in
+      let n = named_by asked (asking_step own_layer to body tt) (asks own_layer to body (wire_holds.nodes node).places) (sym (asks_same purpose) ∙ e) in
       let number = asked.label.number in
       let p = request_with (header_to own_layer.node to 0) body in
       let q = relabelled number p in

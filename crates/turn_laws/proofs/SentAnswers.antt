@@ -49,7 +49,7 @@ use Rattle.turn_laws.proofs.Handed.{handed, note_of, notes_sent, notes_told}
 use Rattle.turn_laws.proofs.Verdicts.{Acts}
 
 -- ---- what a node tells is no packet
-abbrev AllUnsent : List Note → Type 0
+abbrev pub AllUnsent : List Note → Type 0
 AllUnsent ns = AllByRecursion (λ note. is_sent note ≡ false) ns
 
 abbrev IsUnsent : Side → Type 0
@@ -95,7 +95,7 @@ pub all_own_unsent : (later : List Side) → AreOwn later → AreUnsent later
 all_own_unsent [] h = tt
 all_own_unsent (side ∷ later) h = (own_unsent side h.0, all_own_unsent later h.1)
 
-sends_behind : (a b : List Note) → AllUnsent a → sends_of (a ++ b) ≡ sends_of b
+pub sends_behind : (a b : List Note) → AllUnsent a → sends_of (a ++ b) ≡ sends_of b
 sends_behind [] b h = refl
 sends_behind (note ∷ a) b h = ap (λ x. cond x (note ∷ sends_of (a ++ b)) (sends_of (a ++ b))) h.0 ∙ sends_behind a b h.1
 

@@ -24,5 +24,7 @@ pub mod Operations
 pub mod Judgement
 pub mod Answers
 pub mod UnderWay
+pub mod Actions
+pub mod ActRequests
 pub mod Together
 pub mod RunsEnd

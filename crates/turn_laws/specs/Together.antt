@@ -12,6 +12,8 @@ use Rattle.sbp_laws.specs.SentAnswers.{AnswersLaw}
 use Rattle.sbp_laws.specs.SentPackets.{SentAt}
 use Rattle.sbp_laws.specs.SentWrites.{StatusesAreSent}
 use Rattle.sbp_laws.specs.Turns.{EachMoment, EachTurn}
+use Rattle.turn_laws.specs.ActRequests.{ActsByRequests}
+use Rattle.turn_laws.specs.Actions.{ActsByRows}
 use Rattle.turn_laws.specs.Alone.{PushesAlone}
 use Rattle.turn_laws.specs.Announced.{AnnouncesWhereDue}
 use Rattle.turn_laws.specs.Cleared.{ClearsWhereDue}
@@ -30,6 +32,8 @@ use Rattle.turn_laws.specs.Unserved.{UnservedWhereTold}
 pub record LawfulInTurns (start : List Disk) (past : List Moment) : Type 0 where
   pub judgement : JudgementLaw start past
   pub login : LoginLaw start past
+  pub actions : EachTurn ActsByRows past
+  pub act_requests : EachTurn (ActsByRequests start) past
   pub ordered : EachTurn Ordered past
   pub cuts : EachTurn (CutsWhereDue start) past
   pub cleared : EachTurn (ClearsWhereDue start) past

@@ -1,5 +1,7 @@
 //! The laws of turns, each of every run of the machine of up to four initiators with one to four units.
 ghost use Rattle.turn_laws.specs.Aborts.{AbortsLaw};
+ghost use Rattle.turn_laws.specs.ActRequests.{ActRequestsLaw};
+ghost use Rattle.turn_laws.specs.Actions.{ActionsLaw};
 ghost use Rattle.turn_laws.specs.Alone.{AloneLaw};
 ghost use Rattle.turn_laws.specs.Announced.{AnnouncedLaw};
 ghost use Rattle.turn_laws.specs.Answers.{AnsweredLaw};
@@ -221,4 +223,23 @@ pub fn what_is_active_waits_for_a_request()
 #[tactic(auto, using(crate::proofs::RunEnds::runs_end_law))]
 pub fn commands_end_as_read()
     ensures { RunsEndLaw }
+{}
+
+/// In each turn of every run that begins with an action of an initiator, whatever anybody injected, the action is
+/// refused and nothing else, or brings its notes, and behind them what it sends. One that has no management ORB is
+/// refused exactly where a row of the run terms holds, with the least number of those that hold; of one that prepares
+/// an ORB or rings this is said but for the row that the list is marked dead: so much of `brings` of the action law.
+#[tactic(auto, using(crate::proofs::Actions::actions_law))]
+pub fn actions_are_done_or_refused()
+    ensures { ActionsLaw }
+{}
+
+/// In each turn of every run that begins with an action of an initiator that has no management ORB, whatever anybody
+/// injected, exactly the request is sent that the action asks for, if it is done and asks for one: a read of the ROM
+/// or of AGENT_STATE, a write of AGENT_RESET, of UNSOLICITED_STATUS_ENABLE, of ORB_POINTER with the address of the
+/// first ORB of the list, or of DOORBELL with the running number, with the lowest label that serves it. So much of
+/// `requests` of the sent law.
+#[tactic(auto, using(crate::proofs::ActRequests::act_requests_law))]
+pub fn actions_send_their_requests()
+    ensures { ActRequestsLaw }
 {}

@@ -1,0 +1,299 @@
+-- The requests of the actions of every run.
+use Rattle.std.proofs.Common.{arith, ◌≡◌, ◌∙◌, refl, sym, ap, subst, ℕ, zero, suc, ◌+◌, ◌<◌, ◌≤◌, not, Bool, true, false, List, [], ◌∷◌, ◌++◌, length, Option, Some, None, inl, inr}
+use Rattle.async_packet.specs.Canon.{IsValid, canon}
+use Rattle.bus_transactions.specs.Wire.{id_for}
+use Rattle.bus_transactions.proofs.Fits.{request_fits}
+use Rattle.bus_transactions.proofs.Follows.{last_is}
+use Rattle.label_table.specs.Bodies.{Body, header_to, request_with}
+use Rattle.label_table.specs.Layer.{Layer}
+use Rattle.label_table.specs.declared.judgement.Asked.{Asked}
+use Rattle.packet_store.specs.Stored.{Stored}
+use Rattle.rbc_disk.specs.Disk.{Disk}
+use Rattle.sbp_bus.specs.Generations.{GenerationsState, node_of, topology_at}
+use Rattle.sbp_initiator.proofs.FirstRow.{refusal_law}
+use Rattle.sbp_initiator.specs.Acting.{act_step, asked_as, asked_for, demand_of, demanded_as, facts_with, judged_as}
+use Rattle.sbp_initiator.specs.Effects.{Turn as Called}
+use Rattle.sbp_initiator.specs.Histories.Ends.{own}
+use Rattle.sbp_initiator.specs.Refusals.{refusal, rows_of}
+use Rattle.sbp_initiator.specs.Refusing.{finds_label}
+use Rattle.sbp_initiator.specs.States.{wanted_body}
+use Rattle.sbp_initiator.specs.declared.purpose.Demand.{Demand}
+use Rattle.sbp_initiator.specs.declared.purpose.Purpose.{Purpose}
+use Rattle.sbp_initiator.specs.declared.state.InitiatorState.{InitiatorState}
+use Rattle.sbp_journal.specs.Outgoings.{OutboxState, empty_outbox}
+use Rattle.sbp_journal.specs.Run.{Moment, asked}
+use Rattle.sbp_journal.specs.Wire.{Terms, terms}
+use Rattle.sbp_journal.specs.declared.event.Action.{Action}
+use Rattle.sbp_journal.specs.declared.event.Action.TheVariants as actions
+use Rattle.sbp_journal.specs.declared.event.Cmd.{Cmd}
+use Rattle.sbp_journal.specs.declared.event.Event.{Event}
+use Rattle.sbp_journal.specs.declared.event.Event.TheVariants as events
+use Rattle.sbp_journal.specs.declared.note.Note.{Note}
+use Rattle.sbp_journal.specs.declared.outbox.Outgoing.{Outgoing}
+use Rattle.sbp_laws.specs.Actions.{action_body, action_notes, append_notes, new_list, new_number, refusal_at}
+use Rattle.sbp_laws.specs.Agents.{Request, requests_to}
+use Rattle.sbp_laws.specs.Deliveries.{once_told}
+use Rattle.sbp_laws.specs.Hosts.{host_at, operation_of}
+use Rattle.sbp_laws.specs.LineLaw.{refused}
+use Rattle.sbp_laws.specs.Packets.{label_for}
+use Rattle.sbp_laws.specs.SentRequests.{ArePackets, IsRequest, RequestsLaw, before_requests, behind_answer, unless_refused}
+use Rattle.sbp_laws.specs.Turns.{Turn, Where, effects_of, sends_of, turn}
+use Rattle.sbp_world.specs.Lines.{weight_in}
+use Rattle.sbp_world.specs.Pointers.Moments.{manages}
+use Rattle.sbp_world.specs.Telling.{told_all}
+use Rattle.sbp_world.specs.Worlds.{Scene, WorldState, initiator_at, with_initiator, without_notes}
+use Rattle.sbp_world.proofs.Agents.Management.Holding.{past_terms}
+use Rattle.sbp_world.proofs.Agents.Management.Still.{hist}
+use Rattle.sbp_world.proofs.Common.{some_none, untrue}
+use Rattle.sbp_world.proofs.Hosts.Acts.{NoRow, no_row}
+use Rattle.sbp_world.proofs.Hosts.Knows.{target_there}
+use Rattle.sbp_world.proofs.Hosts.Requested.{all_told_bus, done_sends}
+use Rattle.sbp_world.proofs.Wire.Bus.{holds}
+use Rattle.sbp_world.proofs.Wire.Holding.{target_small, to_target}
+use Rattle.turn_laws.specs.ActRequests.{ActRequestsLaw, ActsByRequests, AsksOr}
+use Rattle.turn_laws.specs.Actions.{asks_more}
+use Rattle.turn_laws.proofs.ActBodies.{body_in}
+use Rattle.turn_laws.proofs.ActNotes.{effects_are, sends_are}
+use Rattle.turn_laws.proofs.ActTies.{asked_bodies, fits}
+use Rattle.turn_laws.proofs.Actions.{none_asked, number_is, sides_are}
+use Rattle.turn_laws.proofs.Calls.{Brings, Cases, calls, injects, is_act, loses, refuses, refuses_action, resets, sets_key}
+use Rattle.turn_laws.proofs.Handed.{handed, notes_sent, packet_note}
+use Rattle.turn_laws.proofs.Pass.{call_no_act, of_every_run}
+use Rattle.turn_laws.proofs.Places.{Place}
+use Rattle.turn_laws.proofs.RequestLabels.{IsSpelled, spelled_at}
+
+-- ---- what an action sends: the request that it asks for, where it asks for one
+module _ (action : Action) (s : InitiatorState) where
+  record MadeBy (demand : Demand) (packets : List Outgoing) : Type 0 where
+    asked : Asked
+    found : (asked_for demand s).0 ≡ Some asked
+    are : packets ≡ record { to = s.target; label = Some asked.label; bytes = asked.bytes } ∷ []
+
+  abbrev Made : Option Demand → List Outgoing → Type 0
+  Made None packets = packets ≡ []
+  Made (Some demand) packets = MadeBy demand packets
+
+  asked_made : (demand : Demand) (r : Option Asked × Layer Purpose) → asked_for demand s ≡ r → (asked_as r action empty_outbox s).0 ≡ None → MadeBy demand (asked_as r action empty_outbox s).1.0.packets
+  asked_made demand (None, layer) f e = some_none 10 e
+  asked_made demand (Some one, layer) f e = record {
+    asked = one;
+    found = ap (λ (x : Option Asked × Layer Purpose). x.0) f;
+    are = ap (λ (ps : List Outgoing). ps ++ record { to = s.target; label = Some one.label; bytes = one.bytes } ∷ []) (done_sends action empty_outbox (record s { layer = layer }));
+  }
+
+  demanded_made : (demand : Option Demand) → (demanded_as demand action empty_outbox s).0 ≡ None → Made demand (demanded_as demand action empty_outbox s).1.0.packets
+  demanded_made None e = done_sends action empty_outbox s
+  demanded_made (Some demand) e = asked_made demand (asked_for demand s) refl e
+
+  judged_made : (number : Option ℕ) → (judged_as number action empty_outbox s).0 ≡ None → Made (demand_of action s) (judged_as number action empty_outbox s).1.0.packets
+  judged_made (Some number) e = some_none number e
+  judged_made None e = demanded_made (demand_of action s) e
+
+  act_made : (act_step action empty_outbox s).0 ≡ None → Made (demand_of action s) (act_step action empty_outbox s).1.0.packets
+  unfolding act_step
+  act_made e = judged_made (refusal action (facts_with true s action)) e
+
+  goes_through : (act_step action empty_outbox s).0 ≡ None → NoRow (rows_of action (facts_with (finds_label action s) s action))
+  unfolding refusal
+  goes_through e = no_row (rows_of action (facts_with (finds_label action s) s action)) (sym (refusal_law.first action empty_outbox s) ∙ e)
+
+-- what an action tells leaves the wire
+append_wire : (i n k : ℕ) (cmd : Cmd) (past : List Moment) → terms (once_told past (append_notes i n k cmd ++ [])) ≡ terms past
+append_wire i n zero cmd past = refl
+append_wire i n (suc k) cmd past = refl
+
+told_wire : (action : Action) (ms : List Moment) (i : ℕ) (past : List Moment) → terms (once_told past (action_notes action ms i ++ [])) ≡ terms past
+told_wire (actions.Put cmd) ms i past = refl
+told_wire (actions.Append cmd) ms i past = append_wire i (new_list ms i) (new_number ms i) cmd past
+told_wire actions.Low ms i past = refl
+told_wire actions.Link ms i past = refl
+told_wire actions.Ring ms i past = refl
+told_wire (actions.Dummy k) ms i past = refl
+told_wire _ ms i past = refl
+
+module _ (units ready : ℕ) (start : List Disk) where
+  module _ (past : List Moment) (s : Scene) (here : Place units ready start past s) (i : ℕ) (inside : i < length s.world.initiators) (action : Action) (line : ℕ) where
+    abbrev w : WorldState
+    w = s.world
+
+    abbrev ms : List Moment
+    ms = hist past w
+
+    abbrev old : InitiatorState
+    old = initiator_at w i
+
+    abbrev asks : List Moment
+    asks = asked line (events.Act i action) ∷ ms
+
+    known : suc i ≤ length w.initiators
+    known = omega (arith, inside)
+
+    low : 0 ≤ length w.initiators
+    low = omega arith
+
+    target_is : id_for here.holds.sound.stands.wire (suc i) 0 ≡ old.target
+    target_is =
+        let stands = here.holds.sound.stands in
+        ap (λ g. (terms stands.wire.past).ids g 0) (stands.is.sights (suc i) known) ∙ stands.is.known_ids (suc i) 0 known low
+        ∙ to_target w.generations.seen i old.target (here.holds.sound.nodes.own.holds i inside).fits.target_known
+
+    count_is : w.store.last ≡ (terms ms).count
+    count_is =
+        let stands = here.holds.sound.stands in
+        ap (λ (st : Stored). st.last) (sym stands.is.store_is) ∙ last_is (holds stands.wire stands.reached).follows ∙ ap (λ (t : Terms). t.count) (past_terms w stands)
+
+    generation_is : (topology_at w.generations (suc i)).generation ≡ (terms ms).generation (suc i)
+    generation_is =
+        let stands = here.holds.sound.stands in
+        sym (stands.is.sights (suc i) known) ∙ ((holds stands.wire stands.reached).nodes (suc i)).generation ∙ ap (λ (t : Terms). t.generation (suc i)) (past_terms w stands)
+
+    -- the request of a demand
+    module _ (demand : Demand) (is : demand_of action old ≡ Some demand) where
+      abbrev body : Body
+      body = wanted_body demand.wanted
+
+      valid : IsValid (request_with (header_to old.layer.node old.target 0) body)
+      valid =
+          let h = here.holds.sound.nodes.own.holds i inside in
+          request_fits old.layer.node old.target body h.layer.small (target_small w.generations.seen i old.target h.fits.target_known) (fits units ready start past s here i inside action demand is)
+
+      spelled : (one : Asked) → (asked_for demand old).0 ≡ Some one → IsSpelled (terms ms) (suc i) 0 body one
+      spelled one e = spelled_at w here.holds.sound.stands (suc i) 0 known low old.layer refl old.target target_is body valid demand.purpose one e
+
+      is_request : (one : Asked) → (asked_for demand old).0 ≡ Some one → (serial generation from : ℕ) → serial ≡ (terms ms).count + 1 → generation ≡ (terms ms).generation (suc i) → from ≡ suc i
+          → IsRequest (terms asks) (suc i) (record { to = 0; body = body; is_untold = false }) body serial generation from 0 one.bytes
+      unfolding label_for
+      is_request one e serial generation from number now sender =
+          let x = spelled one e in
+          record {
+            number = number;
+            in_generation = now;
+            sender = sender;
+            receiver = refl;
+            label = x.label ∙ ap Some (sym x.number);
+            spelled = x.spelled ∙ ap (λ n. canon (request_with (header_to ((terms ms).ids ((terms ms).generation (suc i)) (suc i)) ((terms ms).ids ((terms ms).generation (suc i)) 0) n) body)) (sym x.number);
+          }
+
+    -- all that is sent
+    module _ (weight : ℕ) (outbox : OutboxState) (state : InitiatorState) (e : act_step action empty_outbox old ≡ (None, (outbox, state))) where
+      abbrev v : WorldState
+      v = with_initiator i state (without_notes w)
+
+      abbrev after_told : WorldState
+      after_told = told_all weight outbox.sides v
+
+      done : (act_step action empty_outbox old).0 ≡ None
+      done = ap (λ (x : Option ℕ × Called). x.0) e
+
+      made : Made action old (demand_of action old) outbox.packets
+      made = subst (λ (x : Option ℕ × Called). Made action old (demand_of action old) x.1.0.packets) e (act_made action old done)
+
+      module _ (now : List Moment) (before : terms now ≡ terms asks) where
+        abbrev Sent : List Note → Option Body → Type 0
+        Sent ns found = ArePackets now (suc i) ns (requests_to 0 found)
+
+        sent_by : (d : Option Demand) → demand_of action old ≡ d → Made action old d outbox.packets → Sent (notes_sent (i + 1) outbox.packets after_told) (body_in d)
+        sent_by None f m = subst (λ ps. Sent (notes_sent (i + 1) ps after_told) None) (sym m) tt
+        sent_by (Some demand) f m =
+            let same = all_told_bus weight outbox.sides v in
+            let packet : Outgoing = record { to = old.target; label = Some m.asked.label; bytes = m.asked.bytes } in
+            let there : node_of after_told.generations (i + 1) old.target ≡ Some 0 =
+            ap (λ (g : GenerationsState). node_of g (i + 1) old.target) same.generations
+            ∙ ap (λ n. node_of w.generations n old.target) (let z : i + 1 ≡ suc i = omega arith in z) ∙ target_there w here.holds.sound.stands i inside here.holds.sound.nodes in
+            let serial : after_told.store.last + 1 ≡ (terms ms).count + 1 = ap (λ (st : Stored). st.last + 1) same.store ∙ ap (λ n. n + 1) count_is in
+            let generation : (topology_at after_told.generations (i + 1)).generation ≡ (terms ms).generation (suc i) =
+            ap (λ (g : GenerationsState). (topology_at g (i + 1)).generation) same.generations
+            ∙ ap (λ n. (topology_at w.generations n).generation) (let z : i + 1 ≡ suc i = omega arith in z) ∙ generation_is in
+            let from : i + 1 ≡ suc i = omega arith in
+            let want : Request = record { to = 0; body = wanted_body demand.wanted; is_untold = false } in
+            let number = after_told.store.last + 1 in
+            let gen = (topology_at after_told.generations (i + 1)).generation in
+            subst (λ ps. Sent (notes_sent (i + 1) ps after_told) (body_in (Some demand))) (sym m.are)
+            (subst (λ to. Sent (packet_note to (i + 1) packet after_told ++ []) (body_in (Some demand))) (sym there) (
+              subst (λ (t : Terms). IsRequest t (suc i) want (wanted_body demand.wanted) number gen (i + 1) 0 m.asked.bytes) (sym before)
+                  (is_request demand f m.asked m.found number gen (i + 1) serial generation from),
+              tt,
+            ))
+
+      abbrev pub asking : Turn
+      asking = turn ms (asked line (events.Act i action)) (handed (i + 1) weight outbox v)
+
+      pub packets_are : manages (operation_of action) ≡ false → ArePackets (before_requests start asking) (suc i) (behind_answer start asking) (requests_to 0 (action_body action ms i (host_at ms i)))
+      packets_are unmanaged =
+          let sides = sides_are units ready start past s here i inside action outbox state e in
+          let rest = handed (i + 1) weight outbox v in
+          let now = once_told asks (effects_of rest ++ []) in
+          let before : terms now ≡ terms asks =
+          ap (λ ns. terms (once_told asks (ns ++ []))) (effects_are ms i (i + 1) weight action outbox v sides) ∙ told_wire action ms i asks in
+          let bodies = asked_bodies units ready start past s here i inside action (λ f. untrue (sym unmanaged ∙ f)) (goes_through action old done) in
+          subst (λ found. ArePackets now (suc i) (sends_of rest) (requests_to 0 found)) (sym bodies)
+          (subst (λ ns. ArePackets now (suc i) ns (requests_to 0 (body_in (demand_of action old)))) (sym (sends_are ms i (i + 1) weight action outbox v sides))
+          (sent_by now before (demand_of action old) refl made))
+
+      requests_are : asks_more action ≡ false → RequestsLaw start asking
+      requests_are more not_silent =
+          let none : refusal_at ms i action ≡ None = number_is units ready start past s here i inside action more ∙ done in
+          subst (λ number. ArePackets (before_requests start asking) (suc i) (behind_answer start asking) (unless_refused number (requests_to 0 (action_body action ms i (host_at ms i))))) (sym none)
+          (packets_are (none_asked action more).1.0)
+
+    -- a refused action sends nothing
+    refused_requests : (number : ℕ) → (act_step action empty_outbox old).0 ≡ Some number → asks_more action ≡ false → RequestsLaw start (turn ms (asked line (events.Act i action)) (refused line number))
+    refused_requests number e more not_silent =
+        let is : refusal_at ms i action ≡ Some number = number_is units ready start past s here i inside action more ∙ e in
+        subst (λ x. ArePackets (once_told asks (refused line number ++ [])) (suc i) [] (unless_refused x (requests_to 0 (action_body action ms i (host_at ms i))))) (sym is) tt
+
+    where_known : (t : Turn) → (asks_more action ≡ false → RequestsLaw start t) → Where (not (asks_more action)) (RequestsLaw start t)
+    where_known t f = by (asks_more action) refl
+      where
+        by : (b : Bool) → asks_more action ≡ b → Where (not b) (RequestsLaw start t)
+        by true e = tt
+        by false e = f e
+
+    where_unmanaged : (t : Turn) → (manages (operation_of action) ≡ false → AsksOr start line i action t) → Where (not (manages (operation_of action))) (AsksOr start line i action t)
+    where_unmanaged t f = by (manages (operation_of action)) refl
+      where
+        by : (b : Bool) → manages (operation_of action) ≡ b → Where (not b) (AsksOr start line i action t)
+        by true e = tt
+        by false e = f e
+
+    pub does_ask : (outbox : OutboxState) (state : InitiatorState) → act_step action empty_outbox old ≡ (None, (outbox, state))
+        → ActsByRequests start (turn ms (asked line (events.Act i action)) (handed (i + 1) (weight_in action) outbox (with_initiator i state (without_notes w))))
+    does_ask outbox state e =
+        let weight = weight_in action in
+        let t = asking weight outbox state e in
+        (where_unmanaged t (λ f. inr (packets_are weight outbox state e f)), where_known t (requests_are weight outbox state e))
+
+    pub refuses_all : (number : ℕ) → (act_step action empty_outbox old).0 ≡ Some number → ActsByRequests start (turn ms (asked line (events.Act i action)) (refused line number))
+    refuses_all number e =
+        let t = turn ms (asked line (events.Act i action)) (refused line number) in (where_unmanaged t (λ f. inl (number, refl)), where_known t (refused_requests number e))
+
+  no_action : (past : List Moment) (line : ℕ) (event : Event) (rest : List Note) → is_act event ≡ false → ActsByRequests start (turn past (asked line event) rest)
+  no_action past line (events.Act i action) rest e = untrue (sym e)
+  no_action past line _ rest e = tt
+
+  line_asks : (past : List Moment) (s : Scene) (line : ℕ) (event : Event) (rest : List Note) → Place units ready start past s → Brings line s event rest → ActsByRequests start (turn (hist past s.world) (asked line event) rest)
+  line_asks past s line event rest here (calls is_event c) = no_action (hist past s.world) line event rest (call_no_act event c)
+  line_asks past s line event rest here (refuses is_event r) = no_action (hist past s.world) line event rest r.no_act
+  line_asks past s line event rest here (refuses_action i action number e) = refuses_all past s here i e.inside action line number e.is
+  line_asks past s line event rest here (resets physical generation e) = tt
+  line_asks past s line event rest here (loses serial) = tt
+  line_asks past s line event rest here (sets_key unit key) = tt
+  line_asks past s line event rest here (injects i bytes serial generation from to) = tt
+
+  request_cases : Cases units ready start (ActsByRequests start)
+  request_cases = record {
+    heard = λ past s serial again run one found zero_to may others here behind judged. tt;
+    heard_own = λ past s serial again one i found to_is inside own here behind judged. tt;
+    late = λ past s serial request done t found node_is e others here behind judged. tt;
+    late_own = λ past s serial request i outbox state found node_is inside e own here behind judged. tt;
+    sees = λ past s others here behind judged. tt;
+    sees_own = λ past s i inside own here behind judged. tt;
+    ticks = λ past s others here behind judged. tt;
+    ends = λ past s done here behind. tt;
+    acts = λ past s line i action outbox state inside e own here behind. does_ask past s here i inside action line outbox state e;
+    lines = λ past s line event rest behind brings fresh here there. line_asks past s line event rest here brings;
+    begins = λ line initiators is_ready. tt;
+  }
+
+pub act_requests_law : ActRequestsLaw
+act_requests_law = of_every_run (λ start. ActsByRequests start) (λ units ready start has. request_cases units ready start)
