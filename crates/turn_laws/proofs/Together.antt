@@ -15,6 +15,7 @@ use Rattle.turn_laws.proofs.Ends.{ends_law}
 use Rattle.turn_laws.proofs.Faults.{faults_law}
 use Rattle.turn_laws.proofs.Judgements.{judgement_run_law}
 use Rattle.turn_laws.proofs.LoginRuns.{login_run_law}
+use Rattle.turn_laws.proofs.Pushes.{pushes_law}
 use Rattle.turn_laws.proofs.Once.{once_law}
 use Rattle.turn_laws.proofs.OrderRuns.{ordered_law}
 use Rattle.turn_laws.proofs.SentPackets.{packets_run_law}
@@ -44,6 +45,7 @@ turns_law = record {
     failing = failing_law.after_lines line run is some most size;
     announced = announced_law.after_lines line run is some most size;
     alone = alone_law.after_lines line run is some most size;
+    pushes = pushes_law.after_lines line run is some most size;
   };
   between = λ line run is some most size next deliveries told may. record {
     judgement = judgement_run_law.between line run is some most size next deliveries told may;
@@ -66,5 +68,6 @@ turns_law = record {
     failing = failing_law.between line run is some most size next deliveries told may;
     announced = announced_law.between line run is some most size next deliveries told may;
     alone = alone_law.between line run is some most size next deliveries told may;
+    pushes = pushes_law.between line run is some most size next deliveries told may;
   };
 }

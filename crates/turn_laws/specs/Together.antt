@@ -21,6 +21,7 @@ use Rattle.turn_laws.specs.Failures.{FailsWhereDue}
 use Rattle.turn_laws.specs.Ends.{EndsWhereDue}
 use Rattle.turn_laws.specs.Faults.{DiesBeforeFaults}
 use Rattle.turn_laws.specs.Once.{DiesOnce}
+use Rattle.turn_laws.specs.Pushes.{PushesWhereDue}
 use Rattle.turn_laws.specs.Runs.{OfEveryRun}
 use Rattle.turn_laws.specs.Silent.{EndsHeard}
 use Rattle.turn_laws.specs.Unserved.{UnservedWhereTold}
@@ -46,6 +47,7 @@ pub record LawfulInTurns (start : List Disk) (past : List Moment) : Type 0 where
   pub failing : EachTurn (FailsByRows start) past
   pub announced : EachTurn (AnnouncesWhereDue start) past
   pub alone : EachTurn (PushesAlone start) past
+  pub pushes : EachTurn (PushesWhereDue start) past
 
 abbrev pub TurnsLaw : Type 0
 TurnsLaw = OfEveryRun LawfulInTurns
