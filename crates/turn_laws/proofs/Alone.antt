@@ -103,7 +103,7 @@ any_first f x xs h rest = by (f x) refl
     by true e = absurd (h e)
     by false e = ap (λ b. b || list_any f xs) e ∙ rest
 
-any_none : (f : ℕ → Bool) (xs : List ℕ) → ((r : ℕ) → Has xs r → f r ≡ true → ⊥) → list_any f xs ≡ false
+pub any_none : (f : ℕ → Bool) (xs : List ℕ) → ((r : ℕ) → Has xs r → f r ≡ true → ⊥) → list_any f xs ≡ false
 any_none f [] h = refl
 any_none f (x ∷ xs) h = any_first f x xs (λ e. h x (inl refl) e) (any_none f xs (λ r k. h r (inr k)))
 
@@ -295,7 +295,7 @@ module _ (units ready : ℕ) (has : 0 < units) (start : List Disk) where
   ends_alone past true = tt
   ends_alone past false = tt
 
-  alone_cases : CarriedCases units ready start (Kept start) (PushesAlone start)
+  pub alone_cases : CarriedCases units ready start (Kept start) (PushesAlone start)
   alone_cases = record {
     heard = λ past s serial again run one found zero_to may others here behind judged k.
         let x = received run one.generation one.bytes (whole_of s.world.target s.media) in
@@ -357,9 +357,9 @@ module _ (units ready : ℕ) (has : 0 < units) (start : List Disk) where
     begins = λ line initiators is_ready. tt;
   }
 
-first_kept_here : Begins Kept
+pub first_kept_here : Begins Kept
 unfolding new_world
-first_kept_here line run has there = begun_kept run.units (ready_logins run.initiators run.ready) has run.start.disks (first_past line run.initiators run.ready) (beginning run) there (record { none = refl; free_all = λ v. refl })
+first_kept_here line run has there = begun_kept run.units (ready_logins run.initiators run.ready) has run.start.disks (first_past line run.initiators run.ready) (beginning run) there (record { none = refl; free_all = λ v. refl; idle = refl })
 
 pub alone_law : AloneLaw
 alone_law = of_every_carried Kept PushesAlone first_kept_here (λ units ready start has. alone_cases units ready has start)

@@ -100,7 +100,7 @@ use Rattle.turn_laws.proofs.PushSides.{ArePushes, AreSilent, NoPushes, announced
 use Rattle.sbp_world.proofs.Wire.Kept.{and_false}
 use Rattle.sbp_laws.proofs.Going.{from_same}
 use Rattle.turn_laws.proofs.Cuts.{marked_holder}
-use Rattle.sbp_world.proofs.Common.{and_first, and_second}
+use Rattle.sbp_world.proofs.Common.{and_first, and_second, untrue}
 
 -- ---- kinds of notes that the target tells
 pub push_kind : IsToldKind is_push_note
@@ -145,7 +145,7 @@ got_as_ids (request label kind) serial packet t = judged_ids (asked_by packet) N
 got_as_ids (response label kind) serial packet t = let v = between packet packet.to packet.from label in closed_ids (t.held v) v kind (rcode_of packet.bytes) t
 got_as_ids no_packet serial packet t = (refl, refl)
 
-got_ids : (so : Option Sending) (serial : ℕ) (t : Terms) → SameIds t (gets so serial t)
+pub got_ids : (so : Option Sending) (serial : ℕ) (t : Terms) → SameIds t (gets so serial t)
 got_ids None serial t = (refl, refl)
 got_ids (Some packet) serial t = got_as_ids (part_of packet.bytes) serial packet (is_served serial (is_news serial (arrives serial t)))
 
@@ -235,7 +235,7 @@ module _ (units ready : ℕ) (has : 0 < units) (start : List Disk) (past : List 
   table_is = sym over_same.0 ∙ agreed.table
 
   -- who has a place with a live login
-  hearer_is : (p : ℕ) (login : Login) → login_at node p ≡ Some login → is_live login ≡ true → (H p).initiator ≡ initiator_with wire login.node
+  pub hearer_is : (p : ℕ) (login : Login) → login_at node p ≡ Some login → is_live login ≡ true → (H p).initiator ≡ initiator_with wire login.node
   hearer_is p login e live =
       let k = here.held.held p login e in
       ap (λ o. (or_nobody o).initiator) k.there
@@ -272,6 +272,13 @@ module _ (units ready : ℕ) (has : 0 < units) (start : List Disk) (past : List 
     abbrev Told_names : Announced → List ℕ
     Told_names a = map hearer (pushes_in H a.0)
 
+    pub told_same : (at : ℕ) → at < 8 → (login : Login) → login_at node at ≡ Some login → is_told load T.enabled login ≡ hears unit from at (desk_at node at) login
+    told_same at below login e =
+        let own : login.place ≡ at = (good.table.sound.numbered at login e).own in
+        ap (λ p. is_live login && (login.unit == unit) && not (p == from) && slice_index_or T.enabled p false) own
+        ∙ (ap (λ b. is_live login && (login.unit == unit) && not (at == from) && b) (ap (λ bs. slice_index_or bs at false) over_same.1.1 ∙ here.enabled.each at below)
+        ∙ shuffled (is_live login) (login.unit == unit) (not (at == from)) (desk_at node at).is_enabled)
+
     abbrev told_beside : List Login → Option Login → List Login
     told_beside rest None = rest
     told_beside rest (Some login) = cond (is_told load T.enabled login) (login ∷ rest) rest
@@ -292,16 +299,9 @@ module _ (units ready : ℕ) (has : 0 < units) (start : List Disk) (past : List 
         to_names : Told_names (announced_to at login layer pending more) ≡ names (login ∷ rest)
         to_names = by_pending (is_pending login.node pending) (asking_step layer login.node (block_write login.fifo block) purposes.Unsolicited)
 
-      told_same : (login : Login) → login_at node at ≡ Some login → is_told load T.enabled login ≡ hears unit from at (desk_at node at) login
-      told_same login e =
-          let own : login.place ≡ at = (good.table.sound.numbered at login e).own in
-          ap (λ p. is_live login && (login.unit == unit) && not (p == from) && slice_index_or T.enabled p false) own
-          ∙ (ap (λ b. is_live login && (login.unit == unit) && not (at == from) && b) (ap (λ bs. slice_index_or bs at false) over_same.1.1 ∙ here.enabled.each at below)
-          ∙ shuffled (is_live login) (login.unit == unit) (not (at == from)) (desk_at node at).is_enabled)
-
       one_place : (login : Option Login) (layer : Layer Purpose) (pending : List ℕ) → login_at node at ≡ login → Told_names (announced_at unit from at (desk_at node at) login layer pending more) ≡ names (told_beside rest login)
       one_place None layer pending e = rest_is layer pending
-      one_place (Some login) layer pending e = by (hears unit from at (desk_at node at) login) refl ∙ sym (ap (λ b. names (cond b (login ∷ rest) rest)) (told_same login e))
+      one_place (Some login) layer pending e = by (hears unit from at (desk_at node at) login) refl ∙ sym (ap (λ b. names (cond b (login ∷ rest) rest)) (told_same at below login e))
         where
           by : (b : Bool) → hears unit from at (desk_at node at) login ≡ b → Told_names (cond b (announced_to at login layer pending more) (more layer pending)) ≡ names (cond b (login ∷ rest) rest)
           by true f =
@@ -443,15 +443,18 @@ module _ (units ready : ℕ) (has : 0 < units) (start : List Disk) (past : List 
           runs_are : loaded ≡ load_in T wire (of_kind is_ran_note (notes_told 0 outbox.sides v))
           runs_are = load_same T wire (rest outbox) ∙ ap (load_in T wire) (kind_handed is_ran_note ran_kind 0 0 outbox v)
 
-          load_none : NoneRan node one run s.media → AreRunless outbox.sides → loaded ≡ load_if is_new login.unit place
-          load_none n r =
+          -- none came where nothing ran
+          still_none : NoneRan node one run s.media → is_new ≡ false
+          still_none n =
               let which = which_in (desk_at node place) (header_in p).source label in
               let none : ran_for node run disks place p (Some login) which ≡ None =
               sym (ap (λ (x : Option Login). ran_for node run disks place p x which) served) ∙ (sym (ap (λ (g : Finding Purpose × Layer Purpose). ran_as node run disks g.0) e) ∙ n.ran) in
-              let still : is_new ≡ false =
               ap (λ left. came (disk_at disks login.unit) (disk_at left login.unit)) (replied_left p label place layer (Some login) which served refl)
-              ∙ still_came p label place layer login which served refl none in
-              runs_are ∙ (ap (load_in T wire) (runs_none 0 outbox.sides v r) ∙ sym (ap (λ b. load_if b login.unit place) still))
+              ∙ still_came p label place layer login which served refl none
+
+          load_none : NoneRan node one run s.media → AreRunless outbox.sides → loaded ≡ load_if is_new login.unit place
+          load_none n r =
+              runs_are ∙ (ap (load_in T wire) (runs_none 0 outbox.sides v r) ∙ sym (ap (λ b. load_if b login.unit place) (still_none n)))
 
           abbrev place_of : Finding Purpose → ℕ
           place_of (of_response q own (Some (purposes.Agent k))) = k
@@ -486,7 +489,22 @@ module _ (units ready : ℕ) (has : 0 < units) (start : List Disk) (past : List 
               pair_is : (x : Finding Purpose × Layer Purpose) (g : Finding Purpose) → x.0 ≡ g → x ≡ (g, x.1)
               pair_is (h, layer) g e = ap (λ y. (y, layer)) e
 
-          load_of : Runs outbox.sides → loaded ≡ load_if is_new login.unit place
+          -- who brought a disc is live
+          live_ran : (k orb : ℕ) (cdb payload : List ℕ) (outcome : Outcome) → RanBy node one run s.media k orb cdb payload outcome → is_live login ≡ true
+          live_ran k orb cdb payload outcome ran =
+              let here_place : k ≡ place = ap place_of (sym ran.found ∙ ap (λ (g : Finding Purpose × Layer Purpose). g.0) e) in
+              let there = served_there node k ran.login ran.served in
+              let small : k < 8 = (let l = within node.logins.places k ran.login there in let c = good.table.sound.size in omega (arith, l, c)) in
+              let seat = live_login node good k small (plain_in node.units disks ran.login.unit) run ran.which (answer_in ran.packet) outcome ran.ran in
+              let mine : Some seat.login ≡ Some login = sym seat.is ∙ (there ∙ (sym ran.served ∙ (ap (served_login node) here_place ∙ served))) in
+              let same : seat.login ≡ login = cc in
+              subst (λ (l : Login). is_live l ≡ true) same seat.live
+
+          pub loader_live : Runs outbox.sides → is_new ≡ true → is_live login ≡ true
+          loader_live (of_none n r) f = untrue (sym (still_none n) ∙ f)
+          loader_live (of_run k orb cdb payload outcome more ran r is) f = live_ran k orb cdb payload outcome ran
+
+          pub load_of : Runs outbox.sides → loaded ≡ load_if is_new login.unit place
           load_of (of_none n r) = load_none n r
           load_of (of_run k orb cdb payload outcome more ran r is) = load_ran k orb cdb payload outcome more ran r is
 
@@ -523,7 +541,7 @@ module _ (units ready : ℕ) (has : 0 < units) (start : List Disk) (past : List 
           let changed = with_manager node (x.1.0, x.1.1) in
           silent_due judgements.Got outbox o (first_none (decision_changes x.0.decided x.0.effect changed) outbox.sides (decision_silent x.0.decided x.0.effect changed) tells) r
 
-      agent_quiet : (p : Packet) (label : LabelParts) (place : ℕ) (layer : Layer Purpose) (lives : Lives) → From lives layer → AreQuiet (Given (of_response p label (Some (purposes.Agent place))) layer).1.outbox.sides
+      pub agent_quiet : (p : Packet) (label : LabelParts) (place : ℕ) (layer : Layer Purpose) (lives : Lives) → From lives layer → AreQuiet (Given (of_response p label (Some (purposes.Agent place))) layer).1.outbox.sides
       unfolding concluded
       agent_quiet p label place layer lives from =
           (calm.replies lives (record node { layer = layer }) run place (header_in p).source label (answer_in p) (with_layer layer all) (begins node good layer lives from)).quiet
@@ -584,7 +602,7 @@ module _ (units ready : ℕ) (has : 0 < units) (start : List Disk) where
   silent_call : (past : List Moment) (first : Moment) (outbox : OutboxState) (w : WorldState) → AreOthers outbox.sides → AreSilent outbox.sides → AnnouncesWhereDue start (turn past first (handed 0 0 outbox w))
   silent_call past first outbox w o h = still_due past first outbox w o (silent_none outbox.sides h) (silent_runless outbox.sides h)
 
-  announced_cases : Cases units ready start (AnnouncesWhereDue start)
+  pub announced_cases : Cases units ready start (AnnouncesWhereDue start)
   announced_cases = record {
     heard = λ past s serial again run one found zero_to may others here behind judged.
         let x = received run one.generation one.bytes (whole_of s.world.target s.media) in

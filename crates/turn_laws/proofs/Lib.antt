@@ -123,6 +123,13 @@ pub mod PushSerials
 pub mod PendingEnds
 pub mod PendingTerms
 pub mod Announcing
+pub mod StatusKinds
+pub mod PushOwners
+pub mod OtherLabels
+pub mod FollowLayers
+pub mod AnnouncedLayers
+pub mod PushNotes
+pub mod Pushes
 pub mod EveryPlace
 pub mod OwnEnds
 pub mod OwnStates

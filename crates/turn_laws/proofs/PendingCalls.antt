@@ -1,15 +1,20 @@
 -- What is carried of the target's unsolicited statuses is kept by each call of the target: each packet that it hands out has its row, and a row that is new is to a node that had none pending.
 use Rattle.std.proofs.Common.{◌≡◌, ◌∙◌, refl, sym, ap, subst, ℕ, ◌<◌, ◌≤◌, List, [], ◌∷◌, length, Some}
+use Rattle.bus_transactions.specs.Rows.{awaits, kind_as, shape, shape_of}
 use Rattle.bus_transactions.specs.Wire.{transaction}
 use Rattle.bus_transactions.proofs.Facts.{AskedBy, asked_is, begun_asked}
+use Rattle.bus_transactions.proofs.Reaches.{goes_on}
 use Rattle.label_table.specs.Layer.{Layer}
+use Rattle.label_table.specs.Peers.{state_for}
+use Rattle.label_table.specs.declared.reply.ReplyKind.{ReplyKind}
+use Rattle.label_table.specs.declared.reply.ReplyKind.TheVariants as kinds
 use Rattle.command_agent.specs.declared.step.Which.{Which}
 use Rattle.rbc_disk.specs.Disk.{Disk}
 use Rattle.rbc_disk.specs.Held.{Held as Media}
 use Rattle.sbp_bus.specs.Generations.{GenerationsState, id_of, topology_at}
 use Rattle.sbp_journal.specs.Outgoings.{OutboxState}
 use Rattle.sbp_journal.specs.Run.{Moment, said}
-use Rattle.sbp_journal.specs.Transactions.{Kind, Transaction, part_of, request}
+use Rattle.sbp_journal.specs.Transactions.{Kind, Transaction, locking, part_of, reading_block, reading_quadlet, request, writing}
 use Rattle.sbp_journal.specs.Wire.{Terms, terms, waits}
 use Rattle.sbp_journal.specs.declared.note.Note.{Note}
 use Rattle.sbp_journal.specs.declared.outbox.Outgoing.{Outgoing}
@@ -27,16 +32,20 @@ use Rattle.sbp_world.specs.Worlds.{Scene, WorldState}
 use Rattle.sbp_world.proofs.Agents.Handed.{are_handed}
 use Rattle.sbp_world.proofs.Agents.Management.Holding.{known_id, past_terms}
 use Rattle.sbp_world.proofs.Agents.Management.Still.{hist}
+use Rattle.sbp_world.specs.Wire.Wires.{Stands}
+use Rattle.sbp_world.proofs.Agents.Purposes.{labels}
+use Rattle.sbp_world.proofs.Hosts.SentMoments.{sent_below}
 use Rattle.sbp_world.proofs.Lists.SentOwned.{AllOwned, owned_here}
 use Rattle.sbp_world.proofs.Wire.Bus.{node_has}
 use Rattle.sbp_world.proofs.Wire.Nodes.{handed_alike}
 use Rattle.sbp_world.proofs.Wire.Starts.{laws_of}
 use Rattle.turn_laws.proofs.Handed.{handed}
 use Rattle.turn_laws.proofs.LaterNotes.{AllLeave, ArePlain, others_handed}
-use Rattle.turn_laws.proofs.LaterTerms.{Clean, New, Own, Pushes}
-use Rattle.turn_laws.proofs.PendingKept.{Id, Pending, Rows}
+use Rattle.turn_laws.proofs.LaterTerms.{Clean, Later, New, Own, Pushes}
+use Rattle.turn_laws.proofs.PendingKept.{AreSent, Id, Pending, Rows, Ties}
 use Rattle.turn_laws.proofs.PendingTurns.{Kept, turn_kept, turn_later}
 use Rattle.turn_laws.proofs.Places.{Place}
+use Rattle.turn_laws.proofs.PushOwners.{IsWrite, access_writes, nobodys_pushed, turn_before}
 use Rattle.turn_laws.proofs.PushSerials.{Has, pushes_are_nobodys}
 use Rattle.turn_laws.proofs.StatusRows.{Row}
 
@@ -46,6 +55,15 @@ agent_not place which e = absurd (let x : for_agent place which ≡ for_nobody =
 
 manager_not : {A : Type 0} → for_manager ≡ for_nobody → A
 manager_not e = absurd (let x : for_manager ≡ for_nobody = e in cc)
+
+same_awaits : (a b : ReplyKind) → awaits a ≡ awaits b → a ≡ b
+same_awaits a b e = cc
+
+writing_is : (kind : Kind) → kinds.Write ≡ kind_as kind → kind ≡ writing
+writing_is writing e = refl
+writing_is reading_quadlet e = cc
+writing_is reading_block e = cc
+writing_is locking e = cc
 
 -- any FIFO
 abbrev pub Any : ℕ → ℕ → Type 0
@@ -139,10 +157,46 @@ module _ (units ready : ℕ) (has : 0 < units) (start : List Disk) (past : List 
       new_row : Row behind.target.layer (Id (terms now) x.packet.to) x.label
       new_row = row_by its.0 under
 
-    pub target_kept : length v.initiators ≡ nodes → (layer : Layer Purpose) (pending : List ℕ) → Pending nodes (terms base) (Pushes start base) layer pending → Rows layer v.target.layer pending v.target.pending → Kept start now (record { world = behind; media = media })
-    target_kept count layer pending k rows =
+    -- what waits under a new row of one is an unsolicited status of the terms
+    module _ (layer : Layer Purpose) (count_there : length behind.initiators ≡ nodes) where
+      later : Later start 0 Q base now
+      later = turn_later units ready has start past (note ∷ w.fresh) 0 0 outbox v media fresh_is there Q plain clean
+
+      abbrev stands : Stands past behind
+      stands = there.holds.sound.stands
+
+      all_sent : AreSent nodes start base now layer behind.target.layer
+      all_sent n number kind r l row fresh writes young e =
+          let t = terms now in
+          let id_same : Id t n ≡ Id (terms base) n = ap (λ g. t.ids g n) (later.generation 0) ∙ later.ids ((terms base).generation 0) n in
+          let own_same : Own t n number ≡ Own (terms base) n number = ap (λ g. transaction g 0 n number) (later.generation 0) in
+          let u = Own t n number in
+          let waiting : t.held u ≡ waits kind r = ap t.held own_same ∙ e in
+          let row_now = subst (λ i. Row behind.target.layer i number) (sym id_same) row in
+          let a = there.agents in
+          let nobodys = ((are_handed units ready has start behind there.holds).all a.requests n number kind r (Some purposes.Unsolicited) a.are a.known waiting row_now).unsolicited refl in
+          let x = goes_on.awaited stands.wire u kind r stands.reached (ap (λ (y : Terms). y.held u) (past_terms behind stands) ∙ waiting) in
+          let asks = asked_is x.packet u (begun_asked x.packet u x.begun).1 in
+          let inside : n ≤ length behind.initiators = subst (λ m. n ≤ m) (sym count_there) l in
+          let tied = labels units ready has start behind there.holds n number in
+          let kind_is : kinds.Write ≡ kind_as kind = same_awaits kinds.Write (kind_as kind) (ap awaits (sym writes) ∙ (sym (ap shape row.waits) ∙ (ap (λ i. shape (state_for behind.target.layer.peers i number)) (sym id_same) ∙ (tied ∙ ap shape_of waiting)))) in
+          let sent : t.sent r ≡ Some x.packet = ap (λ (y : Terms). y.sent r) (sym (past_terms behind stands)) ∙ x.sent in
+          let write : IsWrite (t.sent r) = record {
+            packet = x.packet;
+            is = sent;
+            from = ap (λ (y : Transaction). y.requester) (sym asks.is);
+            label = number;
+            kind = kind;
+            part = x.part;
+            writes = access_writes x.packet.bytes number (x.part ∙ ap (λ k. request number k) (writing_is kind kind_is));
+          } in
+          nobodys_pushed start now (laws_of past behind stands).serials r (turn_before past 0 0 outbox v (note ∷ w.fresh) fresh_is others r young) (sent_below now r x.packet (laws_of past behind stands).serials sent) write nobodys
+
+    pub target_kept : length v.initiators ≡ nodes → (layer : Layer Purpose) (pending : List ℕ) → Pending nodes (terms base) (Pushes start base) layer pending → Ties nodes (terms base) layer → Rows layer v.target.layer pending v.target.pending → Kept start now (record { world = behind; media = media })
+    target_kept count layer pending k ties rows =
         let alike = handed_alike 0 0 outbox v in
         let count_there : length behind.initiators ≡ nodes = ap (λ xs. length xs) alike.initiators ∙ count in
-        turn_kept units ready has start past (note ∷ w.fresh) 0 0 outbox v media fresh_is there Q plain clean nodes count_there layer pending k
+        turn_kept units ready has start past (note ∷ w.fresh) 0 0 outbox v media fresh_is there Q plain clean nodes count_there layer pending k ties
         (subst (λ (x : NodeState). Rows layer x.layer pending x.pending) (sym alike.target) rows)
         (λ z r h x. (subst (λ n. x.packet.to ≤ n) count_there (to_there r h x), new_row r h x))
+        (all_sent layer count_there)

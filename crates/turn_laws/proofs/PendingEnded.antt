@@ -13,14 +13,11 @@ use Rattle.sbp_target.specs.declared.purpose.Purpose.{Purpose}
 use Rattle.sbp_target.specs.declared.purpose.Purpose.TheVariants as purposes
 use Rattle.sbp_target.proofs.Histories.Primitives.{Known}
 use Rattle.sbp_target.proofs.Histories.Seats.{Lives, same_self}
-use Rattle.sbp_world.proofs.Agents.CrewSeats.{state_of}
 use Rattle.sbp_world.proofs.Common.{untrue}
 use Rattle.turn_laws.proofs.PendingKept.{Rows}
 use Rattle.turn_laws.proofs.StatusAnnounces.{Announced}
 use Rattle.turn_laws.proofs.StatusCalls.{ended_if}
-use Rattle.turn_laws.proofs.StatusRows.{Row, life_of, row_of, rows_last, rows_new, rows_one}
-use Rattle.sbp_world.proofs.Pointers.Finds.{same_serial}
-use Rattle.sbp_world.proofs.Wire.Asks.{label_is}
+use Rattle.turn_laws.proofs.StatusRows.{LiveAt, Lived, Row, life_of, live_at, one_name, row_of, rows_fresh, rows_from, rows_last, rows_new, rows_one}
 
 -- the rows behind a call
 pub announced_rows : (old : Lives) (first : List ℕ) (layer : Layer Purpose) (known : Known layer old) (later : NodeState) → Announced old first later → Rows layer later.layer first later.pending
@@ -29,6 +26,9 @@ announced_rows old first layer known later a = record {
   new = λ p number r. rows_new old first layer known later a p number r;
   one = λ p x y r q. rows_one old first layer known later a p x y r q;
   grows = λ p e. a.grows p e;
+  fresh = λ p number r. rows_fresh old first layer known later a p number r;
+  from = λ p e. rows_from old first layer known later a p e;
+  once = a.once;
 }
 
 -- what is under way has not ended
@@ -43,23 +43,11 @@ under_if true life kind q e = absurd (over life e)
 
 module _ (lives now : Lives) (peer : ℕ) (label : LabelParts) (now_is : (p : ℕ) (l : LabelParts) → now p l ≡ cond (is_same peer label p l) (ended (lives p l)) (lives p l)) (layer left : Layer Purpose) (known : Known layer lives) (behind : Known left now) where
   -- a transaction that is under way behind it
-  record Under (p number : ℕ) (kind : ReplyKind) (call : ℕ) : Type 0 where
-    its : LabelParts
-    numbered : its.number ≡ number
-    serial : its.serial ≡ call
-    life : now p its ≡ under_way kind (purpose_for left.peers p number)
+  abbrev Under : (p number : ℕ) → ReplyKind → (call : ℕ) → Type 0
+  Under p number kind call = LiveAt left now p number kind call
 
   under : (p number : ℕ) (kind : ReplyKind) (call : ℕ) → state_for left.peers p number ≡ states.UnderWay kind call → Under p number kind call
-  under p number kind call e =
-      let a = (after_kept 0xffc0 behind.steps).agree in
-      let its : LabelParts = record { number = number; generation = (wire.after 0xffc0 behind.steps).generation; serial = call } in
-      let w = ap (λ (x : Layer Purpose). state_for x.peers p number) behind.layer_is ∙ e in
-      record {
-        its = its;
-        numbered = refl;
-        serial = refl;
-        life = behind.lives_are p its ∙ (a.waits p its kind refl w ∙ ap (λ (x : Layer Purpose). under_way kind (purpose_for x.peers p number)) behind.layer_is);
-      }
+  under p number kind call e = live_at left now p number kind call behind e
 
   abbrev Was : (p number : ℕ) (kind : ReplyKind) → LabelParts → Type 0
   Was p number kind l = (is_same peer label p l ≡ false) × (lives p l ≡ under_way kind (purpose_for left.peers p number))
@@ -82,17 +70,20 @@ module _ (lives now : Lives) (peer : ℕ) (label : LabelParts) (now_is : (p : �
       let own : purpose_for left.peers p number ≡ Some purposes.Unsolicited = sym its_purpose ∙ (ap (λ n. purpose_for layer.peers p n) u.numbered ∙ r.is_for) in
       record { kind = kind; serial = call; waits = e; is_for = own }
 
+  -- a row that is not its own stays
+  pub row_stays : (p number : ℕ) → ((l : LabelParts) → is_same peer label p l ≡ true → (k : ReplyKind) → lives p l ≡ under_way k (Some purposes.Unsolicited) → ⊥) → Row layer p number → Row left p number
+  row_stays p number other r =
+      let l = life_of layer lives p number known r in
+      row_of left now p number behind (record { label = l.label; kind = l.kind; numbered = l.numbered; life = by l (is_same peer label p l.label) refl })
+    where
+      by : (l : Lived lives p number) (b : Bool) → is_same peer label p l.label ≡ b → now p l.label ≡ under_way l.kind (Some purposes.Unsolicited)
+      by l true e = absurd (other l.label e l.kind l.life)
+      by l false e = now_is p l.label ∙ (ap (λ b. cond b (ended (lives p l.label)) (lives p l.label)) e ∙ l.life)
+
   -- its own label
   pub gone : (kind : ReplyKind) (purpose : Option Purpose) → lives peer label ≡ under_way kind purpose → (k : ReplyKind) (call : ℕ) → state_for left.peers peer label.number ≡ states.UnderWay k call → ⊥
   gone kind purpose life k call e =
       let u = under peer label.number k call e in
       let b = was peer label.number k call u in
-      let a = (after_kept 0xffc0 known.steps).agree in
-      let one = state_of layer lives peer label kind purpose known life in
-      let two = state_of layer lives peer u.its k (purpose_for left.peers peer label.number) known b.1 in
-      let serial_is : u.its.serial ≡ label.serial =
-      same_serial k kind u.its.serial label.serial (sym two ∙ (ap (λ n. state_for layer.peers peer n) u.numbered ∙ one)) in
-      let generation_is : u.its.generation ≡ label.generation =
-      a.now peer u.its k (purpose_for left.peers peer label.number) (sym (known.lives_are peer u.its) ∙ b.1) ∙ sym (a.now peer label kind purpose (sym (known.lives_are peer label) ∙ life)) in
-      let same : u.its ≡ label = label_is label u.its.number u.its.generation u.its.serial u.numbered generation_is serial_is in
+      let same : u.its ≡ label = one_name layer lives peer u.its label k kind (purpose_for left.peers peer label.number) purpose known b.1 life u.numbered in
       untrue (sym (subst (λ (l : LabelParts). is_same peer label peer l ≡ false) same b.0) ∙ same_self peer label)

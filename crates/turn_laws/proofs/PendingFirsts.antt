@@ -1,30 +1,33 @@
 -- The first note of a turn: one of another node leaves the transactions of the target as they are; a packet that the target got may close one, and a time-out ends one, whose label rests.
-use Rattle.std.proofs.Common.{arith, ◌≡◌, ◌∙◌, refl, sym, ap, subst, inl, inr, ◌⊎◌, ℕ, suc, Bool, true, false, List, Option, Some, None}
+use Rattle.std.proofs.Common.{arith, ◌≡◌, ◌∙◌, refl, sym, ap, subst, inl, inr, ◌⊎◌, ℕ, suc, ◌&&◌, ◌||◌, Bool, true, false, List, Option, Some, None}
 use Rattle.std.proofs.lemmas.Option.{same_Some}
 use Rattle.bus_transactions.specs.Bare.{bare}
 use Rattle.bus_transactions.specs.Rows.{shape, shape_of}
-use Rattle.bus_transactions.specs.Wire.{Due, Node}
+use Rattle.bus_transactions.specs.Wire.{Due, Node, transaction}
+use Rattle.bus_transactions.proofs.Facts.{asked_is, begun_asked}
 use Rattle.label_table.specs.Layer.{Layer}
 use Rattle.label_table.specs.Peers.{state_for}
 use Rattle.async_packet.specs.Fields.{rcode_of}
 use Rattle.sbp_journal.specs.Run.{Moment}
-use Rattle.sbp_journal.specs.Transactions.{Kind, Part, Sending, Transaction, asked_by, at, between, is_same, is_same_kind, no_packet, part_of, request, response}
+use Rattle.sbp_journal.specs.Transactions.{Kind, Part, Sending, Transaction, asked_by, at, begun_by, between, is_same, is_same_kind, no_packet, part_of, request, response}
 use Rattle.sbp_journal.specs.Wire.{Held, Terms, arrives, closes, closes_if, free, gets, gets_as, is_news, is_served, judges, noted, rests, terms, times_out, waits}
 use Rattle.sbp_journal.specs.declared.note.Note.TheVariants as notes
 use Rattle.sbp_laws.specs.MediaLaw.{is_pending}
-use Rattle.sbp_laws.specs.Packets.{begun_in}
+use Rattle.sbp_laws.specs.Packets.{begun_in, receiver_in, rests_for, waits_for}
+use Rattle.sbp_laws.specs.Targets.{is_serial}
 use Rattle.sbp_target.specs.declared.purpose.Purpose.{Purpose}
 use Rattle.sbp_world.specs.Wire.Wires.{StandsAt}
 use Rattle.sbp_world.specs.Worlds.{WorldState}
 use Rattle.sbp_world.proofs.Agents.Management.Still.{hist}
 use Rattle.sbp_world.proofs.Agents.Purposes.{state_bare}
-use Rattle.sbp_world.proofs.Common.{none_is, untrue}
+use Rattle.sbp_world.proofs.Common.{and_first, and_second, equal, none_is, untrue}
 use Rattle.sbp_world.proofs.Wire.Bus.{holds}
+use Rattle.sbp_world.proofs.Wire.Kept.{and_false}
 use Rattle.turn_laws.proofs.LaterNotes.{FromTarget}
 use Rattle.turn_laws.proofs.LaterTerms.{Own, free_waits, rests_waits}
 use Rattle.turn_laws.proofs.PendingEnds.{lapses}
 use Rattle.turn_laws.proofs.PendingKept.{AreTied, Id, Less}
-use Rattle.turn_laws.proofs.PendingTerms.{Same, at_it, beside, judges_same, pending_alike, pending_not, same_is}
+use Rattle.turn_laws.proofs.PendingTerms.{Lasts, Same, at_it, beside, judges_same, lasts_so, pending_alike, pending_not, same_is}
 use Rattle.turn_laws.proofs.PushSerials.{Has}
 use Rattle.sbp_world.proofs.Hosts.Held.{begun_from}
 
@@ -124,20 +127,20 @@ module _ (s : ℕ) (q : Sending) (t : Terms) where
     sent : now.sent ≡ t.sent
     current : now.current ≡ t.current
     injected : now.injected ≡ t.injected
-    held : (w : Transaction) → (now.held w ≡ t.held w) ⊎ (now.held w ≡ free)
+    held : (w : Transaction) → (now.held w ≡ t.held w) ⊎ ((now.held w ≡ free) × (t.held w ≡ rests → ⊥))
 
-  frees_if : (b : Bool) (v : Transaction) (own rcode : ℕ) → Frees (closes_if b own v rcode base)
-  frees_if false v own rcode = record { generation = refl; ids = refl; sent = refl; current = refl; injected = refl; held = λ w. inl refl }
-  frees_if true v own rcode = record { generation = refl; ids = refl; sent = refl; current = refl; injected = refl; held = λ w. by w (is_same w v) refl }
+  frees_if : (b : Bool) (v : Transaction) (own rcode : ℕ) → (b ≡ true → t.held v ≡ rests → ⊥) → Frees (closes_if b own v rcode base)
+  frees_if false v own rcode n = record { generation = refl; ids = refl; sent = refl; current = refl; injected = refl; held = λ w. inl refl }
+  frees_if true v own rcode n = record { generation = refl; ids = refl; sent = refl; current = refl; injected = refl; held = λ w. by w (is_same w v) refl }
     where
-      by : (w : Transaction) (b : Bool) → is_same w v ≡ b → (at t.held v free w ≡ t.held w) ⊎ (at t.held v free w ≡ free)
-      by w true e = inr (at_it t.held w v free e)
+      by : (w : Transaction) (b : Bool) → is_same w v ≡ b → (at t.held v free w ≡ t.held w) ⊎ ((at t.held v free w ≡ free) × (t.held w ≡ rests → ⊥))
+      by w true e = inr (at_it t.held w v free e, λ f. n refl (ap t.held (same_is v w e) ∙ f))
       by w false e = inl (beside t.held w v free e)
 
-  frees_closes : (h : Held) (v : Transaction) (kind : Kind) (rcode : ℕ) → Frees (closes h v kind rcode base)
-  frees_closes free v kind rcode = frees_if false v 0 rcode
-  frees_closes rests v kind rcode = frees_if false v 0 rcode
-  frees_closes (waits other own) v kind rcode = frees_if (is_same_kind other kind) v own rcode
+  frees_closes : (h : Held) (v : Transaction) (kind : Kind) (rcode : ℕ) → t.held v ≡ h → Frees (closes h v kind rcode base)
+  frees_closes free v kind rcode e = frees_if false v 0 rcode (λ b f. untrue b)
+  frees_closes rests v kind rcode e = frees_if false v 0 rcode (λ b f. untrue b)
+  frees_closes (waits other own) v kind rcode e = frees_if (is_same_kind other kind) v own rcode (λ b f. rests_waits (t.held v) other own f e)
 
   frees_request : (o : Option Transaction) → Frees (judges o None s q base)
   frees_request None = record { generation = refl; ids = refl; sent = refl; current = refl; injected = refl; held = λ w. inl refl }
@@ -145,14 +148,29 @@ module _ (s : ℕ) (q : Sending) (t : Terms) where
 
   frees_part : (part : Part) → Frees (gets_as part s q base)
   frees_part (request label kind) = frees_request (asked_by q)
-  frees_part (response label kind) = frees_closes (base.held (its label)) (its label) kind (rcode_of q.bytes)
-  frees_part no_packet = frees_if false (its 0) 0 0
+  frees_part (response label kind) = frees_closes (base.held (its label)) (its label) kind (rcode_of q.bytes) refl
+  frees_part no_packet = frees_if false (its 0) 0 0 (λ b f. untrue b)
 
   pub got_injected : t.sent s ≡ Some q → (noted (notes.Got s) t).injected ≡ t.injected
   got_injected e = ap (λ o. (gets o s t).injected) e ∙ (frees_part (part_of q.bytes)).injected
 
-  pub got_frees : t.sent s ≡ Some q → (w : Transaction) → ((noted (notes.Got s) t).held w ≡ t.held w) ⊎ ((noted (notes.Got s) t).held w ≡ free)
-  got_frees e w = subst (λ o. ((gets o s t).held w ≡ t.held w) ⊎ ((gets o s t).held w ≡ free)) (sym e) ((frees_part (part_of q.bytes)).held w)
+  pub got_frees : t.sent s ≡ Some q → (w : Transaction) → ((noted (notes.Got s) t).held w ≡ t.held w) ⊎ (((noted (notes.Got s) t).held w ≡ free) × (t.held w ≡ rests → ⊥))
+  got_frees e w = subst (λ o. ((gets o s t).held w ≡ t.held w) ⊎ (((gets o s t).held w ≡ free) × (t.held w ≡ rests → ⊥))) (sym e) ((frees_part (part_of q.bytes)).held w)
+
+  -- whose label stays is pending as it was
+  frees_alike : (now : Terms) → Frees now → (n r : ℕ) → ((u : Transaction) → begun_in (t.sent r) ≡ Some u → now.held u ≡ t.held u) → is_pending now n r ≡ is_pending t n r
+  frees_alike now f n r h =
+      pending_alike n r t now (record {
+        sent = ap (λ g. g r) f.sent;
+        generation = λ u b. ap (λ g. g u.requester) f.generation;
+        held = h;
+        current = λ u b. ap (λ g. g u) f.current;
+      })
+
+  pub got_alike : t.sent s ≡ Some q → (n r : ℕ) → ((u : Transaction) → begun_in (t.sent r) ≡ Some u → (noted (notes.Got s) t).held u ≡ t.held u) → is_pending (noted (notes.Got s) t) n r ≡ is_pending t n r
+  got_alike e n r =
+      subst (λ o. ((u : Transaction) → begun_in (t.sent r) ≡ Some u → (gets o s t).held u ≡ t.held u) → is_pending (gets o s t) n r ≡ is_pending t n r) (sym e)
+      (frees_alike (gets_as (part_of q.bytes) s q base) (frees_part (part_of q.bytes)) n r)
 
   pub got_sent : t.sent s ≡ Some q → (noted (notes.Got s) t).sent ≡ t.sent
   got_sent e = ap (λ o. (gets o s t).sent) e ∙ (frees_part (part_of q.bytes)).sent
@@ -168,29 +186,23 @@ module _ (s : ℕ) (q : Sending) (t : Terms) where
         pends = λ n r h k. pends n r (begun_in (t.sent r)) refl k;
       }
         where
-          away : {h : Held} {old : Held} → (h ≡ old) ⊎ (h ≡ free) → (h ≡ old) ⊎ ((kind : Kind) (r : ℕ) → h ≡ waits kind r → ⊥)
+          away : {h : Held} {old : Held} → (h ≡ old) ⊎ ((h ≡ free) × (old ≡ rests → ⊥)) → (h ≡ old) ⊎ ((kind : Kind) (r : ℕ) → h ≡ waits kind r → ⊥)
           away (inl g) = inl g
-          away {h} (inr g) = inr (λ kind r k. free_waits h kind r g k)
+          away {h} (inr g) = inr (λ kind r k. free_waits h kind r g.0 k)
 
           sent_same : (r : ℕ) → now.sent r ≡ t.sent r
           sent_same r = ap (λ g. g r) f.sent
 
           alike : (n r : ℕ) → ((u : Transaction) → begun_in (t.sent r) ≡ Some u → now.held u ≡ t.held u) → is_pending now n r ≡ true → is_pending t n r ≡ true
-          alike n r h k =
-              sym (pending_alike n r t now (record {
-                sent = sent_same r;
-                generation = λ u b. ap (λ g. g u.requester) f.generation;
-                held = h;
-                current = λ u b. ap (λ g. g u) f.current;
-              })) ∙ k
+          alike n r h k = sym (frees_alike now f n r h) ∙ k
 
           pends : (n r : ℕ) (o : Option Transaction) → begun_in (t.sent r) ≡ o → is_pending now n r ≡ true → is_pending t n r ≡ true
           pends n r None b k = alike n r (λ u c. none_is u (sym b ∙ c)) k
           pends n r (Some v) b k = by (f.held v)
             where
-              by : (now.held v ≡ t.held v) ⊎ (now.held v ≡ free) → is_pending t n r ≡ true
+              by : (now.held v ≡ t.held v) ⊎ ((now.held v ≡ free) × (t.held v ≡ rests → ⊥)) → is_pending t n r ≡ true
               by (inl g) = alike n r (λ u c. subst (λ (x : Transaction). now.held x ≡ t.held x) (same_Some v u (sym b ∙ c)) g) k
-              by (inr g) = untrue (sym (pending_not n r t now v (sent_same r) b g) ∙ k)
+              by (inr g) = untrue (sym (pending_not n r t now v (sent_same r) b g.0) ∙ k)
 
 -- ---- a time-out
 pub late_injected : (o : Option Transaction) (t : Terms) → (times_out o t).injected ≡ t.injected
@@ -223,6 +235,46 @@ module _ (s : ℕ) (t : Terms) (v : Transaction) (begun : begun_in (t.sent s) �
       by : (w : Transaction) (b : Bool) → is_same w v ≡ b → (late.held w ≡ t.held w) ⊎ ((k : Kind) (r : ℕ) → late.held w ≡ waits k r → ⊥)
       by w true e = inr (λ k r f. rests_waits (late.held w) k r (at_it t.held w v rests e) f)
       by w false e = inl (beside t.held w v rests e)
+
+  pub late_alike : (kind : Kind) → t.held v ≡ waits kind s → t.current v ≡ s → (n r : ℕ) → is_pending (noted (notes.TimedOut s) t) n r ≡ is_pending t n r
+  late_alike kind was current n r =
+      subst (λ o. is_pending (times_out o t) n r ≡ is_pending t n r) (sym begun) (lapses v t late kind s was n r (record { sent = refl; generation = refl; current = refl; held_is = refl }) current)
+
+-- ---- what is pending to a node is under a label of the target's to it
+pub record IsUnder (t : Terms) (n r : ℕ) : Type 0 where
+  pub number : ℕ
+  pub begun : begun_in (t.sent r) ≡ Some (Own t n number)
+  pub held : (t.held (Own t n number) ≡ rests) ⊎ ((kind : Kind) × (t.held (Own t n number) ≡ waits kind r))
+
+pub none_pending : (n r : ℕ) (t : Terms) → begun_in (t.sent r) ≡ None → is_pending t n r ≡ false
+none_pending n r t e = ap (λ o. is_serial (receiver_in (t.sent r)) n && (waits_for t o r || rests_for t o r)) e ∙ and_false (is_serial (receiver_in (t.sent r)) n)
+
+pub is_under : (t : Terms) (n r : ℕ) → FromTarget (t.sent r) → is_pending t n r ≡ true → IsUnder t n r
+is_under t n r f e = by (begun_by f.packet) refl
+  where
+    q : Sending
+    q = f.packet
+
+    by : (o : Option Transaction) → begun_by q ≡ o → IsUnder t n r
+    by None b = untrue (sym (none_pending n r t (ap begun_in f.is ∙ b)) ∙ e)
+    by (Some u) b =
+        let begun : begun_in (t.sent r) ≡ Some u = ap begun_in f.is ∙ b in
+        let asks = asked_is q u (begun_asked q u b).1 in
+        let to_is : q.to ≡ n = equal q.to n (ap (λ so. is_serial (receiver_in so) n) (sym f.is) ∙ and_first (is_serial (receiver_in (t.sent r)) n) (waits_for t (begun_in (t.sent r)) r || rests_for t (begun_in (t.sent r)) r) e) in
+        let lasts : Lasts (t.generation u.requester) (t.held u) (t.current u) u r ≡ true =
+        ap (λ o. waits_for t o r || rests_for t o r) (sym begun) ∙ and_second (is_serial (receiver_in (t.sent r)) n) (waits_for t (begun_in (t.sent r)) r || rests_for t (begun_in (t.sent r)) r) e in
+        let now = lasts_so (t.generation u.requester) (t.held u) (t.current u) u r lasts in
+        let requester : u.requester ≡ 0 = begun_from q u b ∙ f.from in
+        let generation : q.generation ≡ t.generation 0 = ap (λ (x : Transaction). x.generation) (sym asks.is) ∙ (sym now.0 ∙ ap t.generation requester) in
+        let own : u ≡ Own t n asks.label =
+        asks.is
+        ∙ (ap (λ g. transaction g q.from q.to asks.label) generation
+        ∙ (ap (λ i. transaction (t.generation 0) i q.to asks.label) f.from ∙ ap (λ i. transaction (t.generation 0) 0 i asks.label) to_is)) in
+        record {
+          number = asks.label;
+          begun = begun ∙ ap (λ x. Some x) own;
+          held = subst (λ (x : Transaction). (t.held x ≡ rests) ⊎ ((kind : Kind) × (t.held x ≡ waits kind r))) own now.1;
+        }
 
 -- ---- a world that stands for a wire
 pub tied_at : {past : List Moment} {layers : ℕ → Node} {due : Option Due} (w : WorldState) (stands : StandsAt past layers due w) (layer : Layer Purpose) → layers 0 ≡ bare layer → (nodes : ℕ) → AreTied nodes (terms (hist past w)) layer

@@ -1,14 +1,15 @@
 -- What is carried of the target's unsolicited statuses through a packet that comes to the target, a time-out of one of its transactions, a sight and a second.
-use Rattle.std.proofs.Common.{◌≡◌, ◌∙◌, refl, sym, ap, subst, inl, inr, ◌⊎◌, ℕ, ◌<◌, ◌≤◌, ◌||◌, not, nat_eq, Bool, true, false, cond, List, ◌∷◌, length, position, Option, Some, None, Result, Ok, Err}
+use Rattle.std.proofs.Common.{arith, ◌≡◌, ◌∙◌, refl, sym, ap, subst, inl, inr, ◌⊎◌, ℕ, ◌<◌, ◌≤◌, ◌||◌, not, nat_eq, Bool, true, false, cond, List, ◌∷◌, length, position, Option, Some, None, Result, Ok, Err}
+use Rattle.std.proofs.lemmas.Bool.Decides.{nat_tests}
 use Rattle.async_packet.specs.Labels.{LabelParts}
 use Rattle.async_packet.specs.Packet.{Packet, header_in}
 use Rattle.bus_transactions.specs.Bare.{bare}
 use Rattle.bus_transactions.specs.Rows.{shape, shape_of}
 use Rattle.bus_transactions.specs.Wire.{as_sending, transaction}
 use Rattle.bus_transactions.proofs.Reaches.{goes_on}
+use Rattle.label_table.specs.History.{is_same, under_way}
 use Rattle.label_table.specs.Layer.{Finding, Layer, expiring_step, judging_step, of_again, of_generation, of_grammar, of_label, of_request, of_response}
 use Rattle.label_table.specs.Peers.{state_for}
-use Rattle.label_table.specs.declared.place.LabelState.{LabelState}
 use Rattle.label_table.specs.declared.place.LabelState.TheVariants as states
 use Rattle.label_table.specs.declared.reply.ReplyKind.{ReplyKind}
 use Rattle.label_table.specs.declared.reply.Stale.{Stale}
@@ -25,7 +26,7 @@ use Rattle.sbp_bus.specs.declared.requests.Request.{Request}
 use Rattle.sbp_journal.specs.Outgoings.{empty_outbox}
 use Rattle.sbp_journal.specs.Run.{Moment, asked, said}
 use Rattle.sbp_journal.specs.Transactions.{Kind, Transaction, request}
-use Rattle.sbp_journal.specs.Wire.{Terms, free, noted, terms, waits}
+use Rattle.sbp_journal.specs.Wire.{Terms, free, noted, rests, terms, waits}
 use Rattle.sbp_journal.specs.declared.cause.Cause.{Cause}
 use Rattle.sbp_journal.specs.declared.cause.Cause.TheVariants as causes
 use Rattle.sbp_journal.specs.declared.cause.Judged.{Judged}
@@ -44,7 +45,7 @@ use Rattle.sbp_target.specs.declared.purpose.Purpose.{Purpose}
 use Rattle.sbp_target.specs.declared.purpose.Purpose.TheVariants as purposes
 use Rattle.sbp_target.proofs.Histories.Calling.{Good}
 use Rattle.sbp_target.proofs.Histories.Found.{IsFound, found as found_as}
-use Rattle.sbp_target.proofs.Histories.Seats.{Lives}
+use Rattle.sbp_target.proofs.Histories.Seats.{Lives, same_is}
 use Rattle.sbp_world.specs.Delivering.{marked, whole_of}
 use Rattle.sbp_world.specs.Handing.{handed_out}
 use Rattle.sbp_world.specs.Hosts.Handing.{AreOthers}
@@ -57,22 +58,22 @@ use Rattle.sbp_world.proofs.Common.{equal_numbers, untrue}
 use Rattle.sbp_world.proofs.Lists.SentOwned.{AllOwned}
 use Rattle.sbp_world.proofs.Wire.Asks.{upd_own}
 use Rattle.turn_laws.proofs.FoundLabels.{SameLabels, gets_same}
-use Rattle.turn_laws.proofs.LaterTerms.{Clean, Own, Pushes}
+use Rattle.turn_laws.proofs.LaterTerms.{Clean, Own, Pushes, free_waits}
 use Rattle.turn_laws.proofs.PendingCalls.{Any, all_owned, target_kept}
-use Rattle.turn_laws.proofs.PendingEnded.{announced_rows, gone, row_back, row_kept}
-use Rattle.turn_laws.proofs.PendingFirsts.{late_injected, Beside, got_frees, got_injected, got_sent, leaves_same, less_got, less_late, tied_at}
-use Rattle.turn_laws.proofs.PendingKept.{Backs, Keeps, Lists, Needs, AreTied, Id, Less, Pending, Rows, WaitsFor, first_kept, rows_same}
+use Rattle.turn_laws.proofs.PendingEnded.{announced_rows, gone, row_back, row_kept, row_stays}
+use Rattle.turn_laws.proofs.PendingFirsts.{late_alike, late_injected, Beside, IsUnder, got_alike, got_frees, got_injected, got_sent, is_under, leaves_same, less_got, less_late, tied_at, tied_beside}
+use Rattle.turn_laws.proofs.PendingKept.{Backs, Keeps, Lists, Needs, AreTied, Id, Less, Pending, Pends, Remain, Rows, WaitsFor, first_kept, row_waits, rows_same, ties_of, under_state}
 use Rattle.turn_laws.proofs.PendingTerms.{ignored_same, pending_not}
-use Rattle.turn_laws.proofs.PendingTurns.{Kept, beside_here, beside_kept, note_clean, note_pushes, tied_here}
+use Rattle.turn_laws.proofs.PendingTurns.{Kept, beside_here, beside_kept, from_target, note_clean, note_pushes, tied_here}
 use Rattle.turn_laws.proofs.Places.{Place}
 use Rattle.turn_laws.proofs.PushSerials.{Has}
 use Rattle.turn_laws.proofs.SerialsStay.{IsNoSent}
 use Rattle.turn_laws.proofs.StatusAnnounces.{Announced, still_announced}
 use Rattle.turn_laws.proofs.StatusCalls.{Closed, Got, Hears, hears}
 use Rattle.turn_laws.proofs.StatusLates.{Lapsed, Lapses, lapses}
-use Rattle.turn_laws.proofs.StatusOnce.{out_others}
+use Rattle.turn_laws.proofs.StatusOnce.{Distinct, distinct_out, out_none, out_others}
 use Rattle.turn_laws.proofs.StatusRows.{Row, row_of}
-use Rattle.turn_laws.proofs.StatusStays.{Still}
+use Rattle.turn_laws.proofs.StatusStays.{Still, same_life}
 use Rattle.turn_laws.proofs.TurnWires.{Judges, judged_stands, late_stands, repeated}
 
 -- a tie hangs on labels alone
@@ -91,16 +92,8 @@ marked_same serial again v = by (again || not (is_flying serial v.store.kept))
     by true = (refl, (refl, refl))
     by false = (refl, (refl, refl))
 
--- what waits is under way
-record UnderState (state : LabelState) : Type 0 where
-  kind : ReplyKind
-  call : ℕ
-  is : state ≡ states.UnderWay kind call
-
-under_state : (state : LabelState) (kind : Kind) (r : ℕ) → shape state ≡ shape_of (waits kind r) → UnderState state
-under_state states.Free kind r e = cc
-under_state states.Resting kind r e = cc
-under_state (states.UnderWay own call) kind r e = record { kind = own; call = call; is = refl }
+same_purpose : (kind other : ReplyKind) (one two : Option Purpose) → under_way kind one ≡ under_way other two → one ≡ two
+same_purpose kind other one two e = cc
 
 module _ (units ready : ℕ) (has : 0 < units) (start : List Disk) (past : List Moment) (s : Scene) (here : Place units ready start past s) (k : Kept start (hist past s.world) s) where
   abbrev w : WorldState
@@ -118,7 +111,7 @@ module _ (units ready : ℕ) (has : 0 < units) (start : List Disk) (past : List 
   abbrev nodes : ℕ
   nodes = length w.initiators
 
-  good : Good node
+  pub good : Good node
   good = good_of units ready here.holds.calls node has here.holds.made
 
   tied : AreTied nodes t node.layer
@@ -136,10 +129,10 @@ module _ (units ready : ℕ) (has : 0 < units) (start : List Disk) (past : List 
     abbrev ListsStill : Layer Purpose → List ℕ → Type 0
     ListsStill left later = Lists nodes t Noted (Pushes start ms) left node.pending later
 
-    ends_base : (left : Layer Purpose) (later : List ℕ) → Less t Noted (Pushes start ms) → AreTied nodes Noted left → Backs t node.layer left → Keeps t node.layer left → ListsStill left later → Pending nodes Noted (Pushes start (said note ∷ ms)) left later
-    ends_base left later l tied_then back kept lists =
+    ends_base : (left : Layer Purpose) (later : List ℕ) → Less t Noted (Pushes start ms) → AreTied nodes Noted left → Backs t node.layer left → Keeps t node.layer left → ListsStill left later → Remain nodes t Noted (Pushes start ms) later → Distinct later → Pending nodes Noted (Pushes start (said note ∷ ms)) left later
+    ends_base left later l tied_then back kept lists remain once =
         subst (λ xs. Pending nodes Noted xs left later) (sym (note_pushes start note ms i))
-        (first_kept nodes t Noted (Pushes start ms) node.layer left node.pending later k l tied_then back kept lists)
+        (first_kept nodes t Noted (Pushes start ms) node.layer left node.pending later k l tied_then back kept lists remain once)
 
   -- ---- a packet comes
   module _ (serial : ℕ) (again : Bool) (run : Option Told) (one : Sent) (found : found_sent serial w.store.kept ≡ Some one) (zero_to : one.to ≡ 0) where
@@ -165,18 +158,55 @@ module _ (units ready : ℕ) (has : 0 < units) (start : List Disk) (past : List 
       abbrev First : Judged → List Moment
       First judged = said (judged_note serial judged) ∷ ms
 
-      behind_it : (judged : Judged) (layer : Layer Purpose) (pending : List ℕ) → Clean (terms (First judged)) → Pending nodes (terms (First judged)) (Pushes start (First judged)) layer pending → Rows layer X.1.node.layer pending X.1.node.pending → Goal judged
-      behind_it judged layer pending clean base rows place =
+      behind_it : (judged : Judged) (layer : Layer Purpose) (pending : List ℕ) → Clean (terms (First judged)) → Pending nodes (terms (First judged)) (Pushes start (First judged)) layer pending → AreTied nodes (terms (First judged)) layer → Rows layer X.1.node.layer pending X.1.node.pending → Goal judged
+      behind_it judged layer pending clean base tied_first rows place =
           let m = marked_same serial again (with_target X.1.node w) in
           target_kept units ready has start past s here (judged_note serial judged) X.1.outbox (V judged) media (ap (λ ns. judged_note serial judged ∷ ns) m.1.1) place others
           (subst (λ (n : NodeState). AllOwned Any n.layer X.1.outbox.packets) (sym m.0) (all_owned units ready has start past s here (receives run s.media.disks one.generation one.bytes))) clean
-          (ap (λ xs. length xs) m.1.0) layer pending base (subst (λ (n : NodeState). Rows layer n.layer pending n.pending) (sym m.0) rows)
+          (ap (λ xs. length xs) m.1.0) layer pending base (ties_of nodes (terms (First judged)) layer tied_first) (subst (λ (n : NodeState). Rows layer n.layer pending n.pending) (sym m.0) rows)
 
       got_clean : Clean (terms (said (notes.Got serial) ∷ ms))
       got_clean = note_clean units ready has start past s here (notes.Got serial) tt (got_injected serial (as_sending one) t was)
 
       got_less : Less t (noted (notes.Got serial) t) (Pushes start ms)
       got_less = less_got serial (as_sending one) t (Pushes start ms) was
+
+      -- who has one pending has it still where the rows to him stay
+      module _ (layer : Layer Purpose) (tied_now : AreTied nodes (noted (notes.Got serial) t) layer) (n : ℕ) (l : n ≤ nodes) (rows : (number : ℕ) → Row node.layer (Id t n) number → Row layer (Id t n) number) (r : ℕ) (h : Has (Pushes start ms) r) (f : is_pending t n r ≡ true) where
+        abbrev y : Terms
+        y = noted (notes.Got serial) t
+
+        u : IsUnder t n r
+        u = is_under t n r (from_target units ready has start past s here r h) f
+
+        abbrev own : Transaction
+        own = Own t n u.number
+
+        -- its label waits
+        not_over : y.held own ≡ free → (t.held own ≡ rests → ⊥) → (t.held own ≡ rests) ⊎ ((kind : Kind) × (t.held own ≡ waits kind r)) → ⊥
+        not_over e none (inl g) = none g
+        not_over e none (inr g) =
+            let there = rows u.number (k.push n u.number g.0 r l g.1 h) in
+            let id_same : Id y n ≡ Id t n = ap (λ a. y.ids a n) got_less.generation ∙ got_less.ids n in
+            let own_same : Own y n u.number ≡ own = ap (λ a. transaction a 0 n u.number) got_less.generation in
+            let w = row_waits nodes y layer tied_now n u.number l (subst (λ i. Row layer i u.number) (sym id_same) there) in
+            free_waits (y.held own) w.kind w.serial e (ap y.held (sym own_same) ∙ w.is)
+
+        held_same : y.held own ≡ t.held own
+        held_same = by (got_frees serial (as_sending one) t was own)
+          where
+            by : (y.held own ≡ t.held own) ⊎ ((y.held own ≡ free) × (t.held own ≡ rests → ⊥)) → y.held own ≡ t.held own
+            by (inl e) = e
+            by (inr e) = absurd (not_over e.0 e.1 u.held)
+
+        same_own : (a b : Transaction) → Some a ≡ Some b → a ≡ b
+        same_own a b e = cc
+
+        remains_so : is_pending y n r ≡ true
+        remains_so = got_alike serial (as_sending one) t was n r (λ v b. subst (λ (x : Transaction). y.held x ≡ t.held x) (same_own own v (sym u.begun ∙ b)) held_same) ∙ f
+
+      remains : (layer : Layer Purpose) → AreTied nodes (noted (notes.Got serial) t) layer → (n : ℕ) → n ≤ nodes → ((number : ℕ) → Row node.layer (Id t n) number → Row layer (Id t n) number) → is_listed (Id t n) node.pending ≡ true → Pends (noted (notes.Got serial) t) (Pushes start ms) n
+      remains layer tied_now n l rows e = let x = k.same n l e in (x.0, (x.1.0, remains_so layer tied_now n l rows x.0 x.1.0 x.1.1))
 
       -- the layer behind the judgement is tied to the terms behind its note
       abbrev Stood : Finding Purpose × Layer Purpose → Type 0
@@ -203,13 +233,14 @@ module _ (units ready : ℕ) (has : 0 < units) (start : List Disk) (past : List 
           let note = notes.Ignored serial cause in
           let same = ignored_same (t.sent serial) cause serial t in
           let b = beside_here units ready has start past s here (noted note t) (leaves_same t (noted note t) same) in
-          behind_it (judgements.Ignored cause) node.layer node.pending (note_clean units ready has start past s here note tt same.1.1.1.1.0) (beside_base note tt b) (still_rows h)
+          behind_it (judgements.Ignored cause) node.layer node.pending (note_clean units ready has start past s here note tt same.1.1.1.1.0) (beside_base note tt b) (tied_beside nodes t (noted note t) (Pushes start ms) node.layer b tied) (still_rows h)
 
       got_request : (p : Packet) (layer : Layer Purpose) → F ≡ (of_request p, layer) → layer ≡ node.layer → Still good.lives node.pending X.1.node → Goal judgements.Got
       got_request p layer e same h =
           let tied_then = subst (AreTied nodes (terms (said (notes.Got serial) ∷ ms))) same (got_tied (of_request p) layer e (λ l z. tied_at _ z l (own_layer l) nodes)) in
           behind_it judgements.Got node.layer node.pending got_clean
-          (ends_base (notes.Got serial) tt node.layer node.pending got_less tied_then (λ n number r. r) (λ n number kind call r f. r) (λ n l why f. f)) (still_rows h)
+          (ends_base (notes.Got serial) tt node.layer node.pending got_less tied_then (λ n number r. r) (λ n number kind call r f. r) (λ n l why f. f)
+          (λ n l f. remains node.layer tied_then n l (λ number r. r) f) k.once) tied_then (still_rows h)
 
       by_request : (b : Judged) → X.0 ≡ b → (p : Packet) (layer : Layer Purpose) → F ≡ (of_request p, layer) → layer ≡ node.layer → Still good.lives node.pending X.1.node → Goal b
       by_request judgements.Got f p layer e same h = got_request p layer e same h
@@ -235,17 +266,26 @@ module _ (units ready : ℕ) (has : 0 < units) (start : List Disk) (past : List 
         over_now : (kind : ReplyKind) (call : ℕ) → state_for layer.peers source label.number ≡ states.UnderWay kind call → ⊥
         over_now kind call f = gone good.lives lives source label (λ q l. refl) node.layer layer good.mid.known g.known g.kind purpose g.life kind call f
 
-        base : Pending nodes (noted (notes.Got serial) t) (Pushes start (said (notes.Got serial) ∷ ms)) layer node.pending
-        base = ends_base (notes.Got serial) tt layer node.pending got_less tied_then back stays (λ n l why f. f)
+        -- a row to another node, or where it is none, stays
+        row_on : (n number : ℕ) → ((l : LabelParts) → is_same source label (Id t n) l ≡ true → (kind : ReplyKind) → good.lives (Id t n) l ≡ under_way kind (Some purposes.Unsolicited) → ⊥) → Row node.layer (Id t n) number → Row layer (Id t n) number
+        row_on n number other r = row_stays good.lives lives source label (λ q l. refl) node.layer layer good.mid.known g.known (Id t n) number other r
+
+        not_own : (purpose ≡ Some purposes.Unsolicited → ⊥) → (p : ℕ) (l : LabelParts) → is_same source label p l ≡ true → (kind : ReplyKind) → good.lives p l ≡ under_way kind (Some purposes.Unsolicited) → ⊥
+        not_own other p l same kind f = other (same_purpose g.kind kind purpose (Some purposes.Unsolicited) (sym g.life ∙ (same_life good.lives source label p l same ∙ f)))
+
+        pub base : (purpose ≡ Some purposes.Unsolicited → ⊥) → Pending nodes (noted (notes.Got serial) t) (Pushes start (said (notes.Got serial) ∷ ms)) layer node.pending
+        base other =
+            ends_base (notes.Got serial) tt layer node.pending got_less tied_then back stays (λ n l why f. f)
+            (λ n l f. remains layer tied_then n l (λ number r. row_on n number (not_own other (Id t n)) r) f) k.once
 
         rows_of : Announced lives node.pending X.1.node → Rows layer X.1.node.layer node.pending X.1.node.pending
         rows_of a = announced_rows lives node.pending layer g.known X.1.node a
 
-        announced : Announced lives node.pending X.1.node → Goal judgements.Got
-        announced a = behind_it judgements.Got layer node.pending got_clean base (rows_of a)
+        announced : (purpose ≡ Some purposes.Unsolicited → ⊥) → Announced lives node.pending X.1.node → Goal judgements.Got
+        announced other a = behind_it judgements.Got layer node.pending got_clean (base other) tied_then (rows_of a)
 
-        unsaid : Still lives node.pending X.1.node → Goal judgements.Got
-        unsaid h = announced (still_announced lives node.pending X.1.node h)
+        unsaid : (purpose ≡ Some purposes.Unsolicited → ⊥) → Still lives node.pending X.1.node → Goal judgements.Got
+        unsaid other h = announced other (still_announced lives node.pending X.1.node h)
 
       -- the response to an unsolicited status
       module _ (p : Packet) (label : LabelParts) (layer : Layer Purpose) (e : F ≡ (of_response p label (Some purposes.Unsolicited), layer)) (g : Got node good p label (Some purposes.Unsolicited) layer X.1.node) where
@@ -284,8 +324,8 @@ module _ (units ready : ℕ) (has : 0 < units) (start : List Disk) (past : List 
           is_over : (r : ℕ) → WaitsFor (t.held v) r → x.held v ≡ free
           is_over r c = by (got_frees serial (as_sending one) t was v)
             where
-              by : (x.held v ≡ t.held v) ⊎ (x.held v ≡ free) → x.held v ≡ free
-              by (inr f) = f
+              by : (x.held v ≡ t.held v) ⊎ ((x.held v ≡ free) × (t.held v ≡ rests → ⊥)) → x.held v ≡ free
+              by (inr f) = f.0
               by (inl f) =
                   let u = under_state (state_for layer.peers (Id x n) label.number) c.kind r
                   (tied_left n label.number l ∙ ap shape_of (ap x.held own_is ∙ (f ∙ c.is))) in
@@ -315,18 +355,38 @@ module _ (units ready : ℕ) (has : 0 < units) (start : List Disk) (past : List 
             by false z = out_others from_node (Id t n) node.pending z ∙ f
             by true z = absurd (here_none (equal_numbers (Id t n) from_node z) why)
 
+        -- who stands among them still is another node
+        remain_left : Remain nodes t (noted (notes.Got serial) t) (Pushes start ms) others_left
+        remain_left n l f = by (nat_eq (Id t n) from_node) refl
+          where
+            by : (b : Bool) → nat_eq (Id t n) from_node ≡ b → Pends (noted (notes.Got serial) t) (Pushes start ms) n
+            by true z = untrue (sym (out_none from_node node.pending k.once) ∙ (ap (λ i. is_listed i others_left) (sym (equal_numbers (Id t n) from_node z)) ∙ f))
+            by false z =
+                remains layer tied_left n l
+                (λ number r. row_on p label (Some purposes.Unsolicited) layer e g n number (λ m same kind life. let o = (same_is from_node label (Id t n) m same).peer in absurd (untrue (sym z ∙ (let w : nat_eq (Id t n) from_node ≡ true = grind (arith, nat_tests) in w)))) r)
+                (sym (out_others from_node (Id t n) node.pending z) ∙ f)
+
         settles : Goal judgements.Got
         settles =
-            let base_then = ends_base (notes.Got serial) tt layer others_left got_less tied_left (back p label (Some purposes.Unsolicited) layer e g) (stays p label (Some purposes.Unsolicited) layer e g) left_listed in
-            behind_it judgements.Got layer others_left got_clean base_then
+            let base_then = ends_base (notes.Got serial) tt layer others_left got_less tied_left (back p label (Some purposes.Unsolicited) layer e g) (stays p label (Some purposes.Unsolicited) layer e g) left_listed remain_left (distinct_out from_node node.pending k.once) in
+            behind_it judgements.Got layer others_left got_clean base_then tied_left
             (subst (λ (n : NodeState). Rows layer n.layer others_left n.pending) (sym g.concludes) (rows_same layer others_left))
 
       -- ---- whatever it is found to be
+      none_not : None ≡ Some purposes.Unsolicited → ⊥
+      none_not e = cc
+
+      manager_not : Some purposes.Management ≡ Some purposes.Unsolicited → ⊥
+      manager_not e = cc
+
+      agent_not : (place : ℕ) → Some (purposes.Agent place) ≡ Some purposes.Unsolicited → ⊥
+      agent_not place e = cc
+
       by_purpose : (p : Packet) (label : LabelParts) (purpose : Option Purpose) (layer : Layer Purpose) → F ≡ (of_response p label purpose, layer) → Got node good p label purpose layer X.1.node → Goal judgements.Got
-      by_purpose p label None layer e g = unsaid p label None layer e g g.concludes
+      by_purpose p label None layer e g = unsaid p label None layer e g none_not g.concludes
       by_purpose p label (Some purposes.Unsolicited) layer e g = settles p label layer e g
-      by_purpose p label (Some purposes.Management) layer e g = unsaid p label (Some purposes.Management) layer e g g.concludes
-      by_purpose p label (Some (purposes.Agent place)) layer e g = announced p label (Some (purposes.Agent place)) layer e g g.concludes
+      by_purpose p label (Some purposes.Management) layer e g = unsaid p label (Some purposes.Management) layer e g manager_not g.concludes
+      by_purpose p label (Some (purposes.Agent place)) layer e g = announced p label (Some (purposes.Agent place)) layer e g (agent_not place) g.concludes
 
       judged_by : (f : Finding Purpose) (layer : Layer Purpose) → F ≡ (f, layer) → X.0 ≡ (received_as run one.bytes f (with_layer layer (whole_of node s.media))).0
       unfolding received
@@ -352,12 +412,24 @@ module _ (units ready : ℕ) (has : 0 < units) (start : List Disk) (past : List 
       abbrev Late_goal : Type 0
       Late_goal = Kept start (hist past (handed_out 0 0 x.outbox lapsed)) (record { world = handed_out 0 0 x.outbox lapsed; media = s.media })
 
-      late_less : (u : Transaction) (kind : Kind) → t.held u ≡ waits kind serial → Less t (noted (notes.TimedOut serial) t) (Pushes start ms)
-      late_less u kind f =
-          let stands = here.holds.sound.stands in
-          let a = goes_on.awaited stands.wire u kind serial stands.reached (ap (λ (y : Terms). y.held u) (past_terms w stands) ∙ f) in
-          let begun : begun_in (t.sent serial) ≡ Some u = ap begun_in (ap (λ (y : Terms). y.sent serial) (sym (past_terms w stands)) ∙ a.sent) ∙ a.begun in
-          less_late serial t u begun (Pushes start ms) kind f (ap (λ (y : Terms). y.current u) (sym (past_terms w stands)) ∙ sym a.current)
+      module _ (u : Transaction) (kind : Kind) (f : t.held u ≡ waits kind serial) where
+        late_begun : begun_in (t.sent serial) ≡ Some u
+        late_begun =
+            let stands = here.holds.sound.stands in
+            let a = goes_on.awaited stands.wire u kind serial stands.reached (ap (λ (y : Terms). y.held u) (past_terms w stands) ∙ f) in
+            ap begun_in (ap (λ (y : Terms). y.sent serial) (sym (past_terms w stands)) ∙ a.sent) ∙ a.begun
+
+        late_current : t.current u ≡ serial
+        late_current =
+            let stands = here.holds.sound.stands in
+            let a = goes_on.awaited stands.wire u kind serial stands.reached (ap (λ (y : Terms). y.held u) (past_terms w stands) ∙ f) in
+            ap (λ (y : Terms). y.current u) (sym (past_terms w stands)) ∙ sym a.current
+
+        late_less : Less t (noted (notes.TimedOut serial) t) (Pushes start ms)
+        late_less = less_late serial t u late_begun (Pushes start ms) kind f late_current
+
+        late_remain : Remain nodes t (noted (notes.TimedOut serial) t) (Pushes start ms) node.pending
+        late_remain n l e = let x = k.same n l e in (x.0, (x.1.0, late_alike serial t u late_begun kind f late_current n x.0 ∙ x.1.1))
 
       expired_is : (stale : Stale) (layer : Layer Purpose) → expiring_step node.layer request.peer request.label ≡ (Err stale, layer) → (expired request.peer request.label (target.scene node empty_outbox)).0 ≡ Err stale
       unfolding expired
@@ -372,10 +444,11 @@ module _ (units ready : ℕ) (has : 0 < units) (start : List Disk) (past : List 
           let asked = lapse_asked units ready has start w here.holds serial request found zero_is purpose layer f in
           let base = ends_base (notes.TimedOut serial) tt layer node.pending (late_less _ _ asked.waits_there) tied_late
           (λ n number r. row_back good.lives lives request.peer request.label (λ q l. refl) node.layer layer good.mid.known h.known (Id t n) number r)
-          (λ n number kind call r z. row_kept good.lives lives request.peer request.label (λ q l. refl) node.layer layer good.mid.known h.known (Id t n) number kind call r z) (λ n l why z. z) in
+          (λ n number kind call r z. row_kept good.lives lives request.peer request.label (λ q l. refl) node.layer layer good.mid.known h.known (Id t n) number kind call r z) (λ n l why z. z)
+          (late_remain _ _ asked.waits_there) k.once in
           target_kept units ready has start past s here (notes.TimedOut serial) x.outbox lapsed s.media refl there others
           (subst (λ (y : target.Scene). AllOwned Any y.node.layer y.outbox.packets) (ap (λ (z : Result (Unit {0}) Stale × target.Scene). z.1) e) (all_owned units ready has start past s here (lets_expire request.peer request.label)))
-          (note_clean units ready has start past s here (notes.TimedOut serial) tt (late_injected (begun_in (t.sent serial)) t)) refl layer node.pending base
+          (note_clean units ready has start past s here (notes.TimedOut serial) tt (late_injected (begun_in (t.sent serial)) t)) refl layer node.pending base (ties_of nodes (noted (notes.TimedOut serial) t) layer tied_late)
           (announced_rows lives node.pending layer h.known x.node (still_announced lives node.pending x.node h.still))
       by_expiring (Err stale, layer) f h = absurd (stale_not stale done (sym (expired_is stale layer f) ∙ ap (λ (z : Result (Unit {0}) Stale × target.Scene). z.0) e))
         where

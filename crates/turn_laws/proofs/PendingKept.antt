@@ -1,10 +1,11 @@
 -- What holds from place to place of the target's unsolicited statuses: to whom one of the terms is under way, or its label rests, he is among the nodes to which the target has one
 -- pending. It is kept by the first note of a turn, and by what stands behind it.
-use Rattle.std.proofs.Common.{arith, ◌≡◌, ◌∙◌, refl, sym, ap, subst, inl, inr, ◌⊎◌, ℕ, ◌≤◌, ◌||◌, true, false, List}
+use Rattle.std.proofs.Common.{arith, ◌≡◌, ◌∙◌, refl, sym, ap, subst, inl, inr, ◌⊎◌, ℕ, ◌<◌, ◌≤◌, ◌||◌, true, false, List}
 use Rattle.bus_transactions.specs.Rows.{shape, shape_of}
 use Rattle.label_table.specs.declared.place.LabelState.{LabelState}
 use Rattle.label_table.specs.declared.place.LabelState.TheVariants as states
 use Rattle.label_table.specs.declared.reply.ReplyKind.{ReplyKind}
+use Rattle.label_table.specs.declared.reply.ReplyKind.TheVariants as kinds
 use Rattle.label_table.specs.Layer.{Layer}
 use Rattle.label_table.specs.Peers.{state_for}
 use Rattle.rbc_disk.specs.Disk.{Disk}
@@ -20,7 +21,8 @@ use Rattle.sbp_world.proofs.Agents.Purposes.{Waits, held_waits}
 use Rattle.sbp_world.proofs.Common.{and_first, equal, untrue}
 use Rattle.turn_laws.proofs.LaterTerms.{Later, New, Own, Pushes, rests_waits, same_waits}
 use Rattle.turn_laws.proofs.PushSerials.{Has}
-use Rattle.turn_laws.proofs.StatusRows.{Row}
+use Rattle.turn_laws.proofs.StatusOnce.{Distinct}
+use Rattle.turn_laws.proofs.StatusRows.{IsFresh, Row}
 
 -- the ID of a node as the target knows it
 abbrev pub Id : Terms → ℕ → ℕ
@@ -35,6 +37,21 @@ pub record WaitsFor (held : Held) (s : ℕ) : Type 0 where
 abbrev pub AreTied : ℕ → Terms → Layer Purpose → Type 0
 AreTied nodes t layer = (n number : ℕ) → n ≤ nodes → shape (state_for layer.peers (Id t n) number) ≡ shape_of (t.held (Own t n number))
 
+-- an unsolicited status of the terms is pending to a node
+abbrev pub Pends : Terms → List ℕ → ℕ → Type 0
+Pends t pushes n = (s : ℕ) × (Has pushes s × (is_pending t n s ≡ true))
+
+-- what waits is under way
+pub record UnderState (state : LabelState) : Type 0 where
+  pub kind : ReplyKind
+  pub call : ℕ
+  pub is : state ≡ states.UnderWay kind call
+
+pub under_state : (state : LabelState) (kind : Kind) (s : ℕ) → shape state ≡ shape_of (waits kind s) → UnderState state
+under_state states.Free kind s e = cc
+under_state states.Resting kind s e = cc
+under_state (states.UnderWay own call) kind s e = record { kind = own; call = call; is = refl }
+
 pub record Pending (nodes : ℕ) (t : Terms) (pushes : List ℕ) (layer : Layer Purpose) (pending : List ℕ) : Type 0 where
   pub pends : (n s : ℕ) → n ≤ nodes → Has pushes s → is_pending t n s ≡ true → is_listed (Id t n) pending ≡ true
   -- an unsolicited status of the terms that is under way is one at the target
@@ -43,10 +60,25 @@ pub record Pending (nodes : ℕ) (t : Terms) (pushes : List ℕ) (layer : Layer 
   pub full : (n number : ℕ) → n ≤ nodes → Row layer (Id t n) number → is_listed (Id t n) pending ≡ true
   pub one : (n a b : ℕ) → n ≤ nodes → Row layer (Id t n) a → Row layer (Id t n) b → a ≡ b
   pub calm : (n number s : ℕ) → n ≤ nodes → Row layer (Id t n) number → Has pushes s → is_pending t n s ≡ true → WaitsFor (t.held (Own t n number)) s
+  -- one at the target is one of the terms; and who stands among the nodes has one that is pending, and stands there once
+  pub row : (n number : ℕ) (kind : Kind) (s : ℕ) → n ≤ nodes → Row layer (Id t n) number → t.held (Own t n number) ≡ waits kind s → Has pushes s
+  pub same : (n : ℕ) → n ≤ nodes → is_listed (Id t n) pending ≡ true → Pends t pushes n
+  pub once : Distinct pending
 
 -- a row waits
 pub row_waits : (nodes : ℕ) (t : Terms) (layer : Layer Purpose) → AreTied nodes t layer → (n number : ℕ) → n ≤ nodes → Row layer (Id t n) number → Waits (t.held (Own t n number))
 row_waits nodes t layer tied n number l r = held_waits (t.held (Own t n number)) r.kind (sym (ap shape r.waits) ∙ tied n number l)
+
+-- a row waits, and what waits is under way
+pub record Ties (nodes : ℕ) (t : Terms) (layer : Layer Purpose) : Type 0 where
+  pub waiting : (n number : ℕ) → n ≤ nodes → Row layer (Id t n) number → Waits (t.held (Own t n number))
+  pub under : (n number : ℕ) (kind : Kind) (s : ℕ) → n ≤ nodes → t.held (Own t n number) ≡ waits kind s → UnderState (state_for layer.peers (Id t n) number)
+
+pub ties_of : (nodes : ℕ) (t : Terms) (layer : Layer Purpose) → AreTied nodes t layer → Ties nodes t layer
+ties_of nodes t layer tied = record {
+  waiting = λ n number l r. row_waits nodes t layer tied n number l r;
+  under = λ n number kind s l e. under_state (state_for layer.peers (Id t n) number) kind s (tied n number l ∙ ap shape_of e);
+}
 
 -- ---- the first note of a turn
 -- what it leaves of the terms: a transaction of the target goes on, or is over
@@ -65,10 +97,14 @@ Keeps t layer left = (n number : ℕ) (kind : ReplyKind) (call : ℕ) → Row la
 
 -- and who has one, or one pending by the terms, stands among the nodes still
 abbrev pub Needs : (t now : Terms) → (pushes : List ℕ) → Layer Purpose → ℕ → Type 0
-Needs t now pushes left n = ((s : ℕ) × (Has pushes s × (is_pending now n s ≡ true))) ⊎ ((number : ℕ) × Row left (Id t n) number)
+Needs t now pushes left n = Pends now pushes n ⊎ ((number : ℕ) × Row left (Id t n) number)
 
 abbrev pub Lists : ℕ → (t now : Terms) → (pushes : List ℕ) → Layer Purpose → (pending later : List ℕ) → Type 0
 Lists nodes t now pushes left pending later = (n : ℕ) → n ≤ nodes → Needs t now pushes left n → is_listed (Id t n) pending ≡ true → is_listed (Id t n) later ≡ true
+
+-- who stands among them still has one pending still
+abbrev pub Remain : ℕ → (t now : Terms) → (pushes later : List ℕ) → Type 0
+Remain nodes t now pushes later = (n : ℕ) → n ≤ nodes → is_listed (Id t n) later ≡ true → Pends now pushes n
 
 module _ (nodes : ℕ) (t now : Terms) (pushes : List ℕ) (layer left : Layer Purpose) (pending later : List ℕ) (k : Pending nodes t pushes layer pending) (l : Less t now pushes) (tied : AreTied nodes now left) where
   id_same : (n : ℕ) → Id now n ≡ Id t n
@@ -77,7 +113,7 @@ module _ (nodes : ℕ) (t now : Terms) (pushes : List ℕ) (layer left : Layer P
   own_same : (n number : ℕ) → Own now n number ≡ Own t n number
   own_same n number = ap (λ g. record { generation = g; requester = 0; responder = n; label = number }) l.generation
 
-  module _ (back : Backs t layer left) (kept : Keeps t layer left) (lists : Lists nodes t now pushes left pending later) where
+  module _ (back : Backs t layer left) (kept : Keeps t layer left) (lists : Lists nodes t now pushes left pending later) (remain : Remain nodes t now pushes later) (once_later : Distinct later) where
     was : (n number : ℕ) → Row left (Id now n) number → Row layer (Id t n) number
     was n number r = back n number (subst (λ p. Row left p number) (id_same n) r)
 
@@ -95,18 +131,8 @@ module _ (nodes : ℕ) (t now : Terms) (pushes : List ℕ) (layer left : Layer P
         by (inr f) = absurd (f kind s there)
 
     -- a label that waits is under way at the target
-    record UnderWay (n number : ℕ) : Type 0 where
-      kind : ReplyKind
-      call : ℕ
-      is : state_for left.peers (Id now n) number ≡ states.UnderWay kind call
-
-    state_by : (n number : ℕ) (state : LabelState) (kind : Kind) (s : ℕ) → state_for left.peers (Id now n) number ≡ state → shape state ≡ shape_of (waits kind s) → UnderWay n number
-    state_by n number states.Free kind s e f = cc
-    state_by n number states.Resting kind s e f = cc
-    state_by n number (states.UnderWay own call) kind s e f = record { kind = own; call = call; is = e }
-
-    state_waits : (n number : ℕ) → n ≤ nodes → (kind : Kind) (s : ℕ) → now.held (Own now n number) ≡ waits kind s → UnderWay n number
-    state_waits n number b kind s e = state_by n number (state_for left.peers (Id now n) number) kind s refl (tied n number b ∙ ap shape_of e)
+    state_waits : (n number : ℕ) → n ≤ nodes → (kind : Kind) (s : ℕ) → now.held (Own now n number) ≡ waits kind s → UnderState (state_for left.peers (Id now n) number)
+    state_waits n number b kind s e = under_state (state_for left.peers (Id now n) number) kind s (tied n number b ∙ ap shape_of e)
 
     pub first_kept : Pending nodes now pushes left later
     first_kept = record {
@@ -122,6 +148,9 @@ module _ (nodes : ℕ) (t now : Terms) (pushes : List ℕ) (layer left : Layer P
           let w = row_waits nodes now left tied n number b r in
           let same : w.serial ≡ s = same_waits (t.held (Own t n number)) w.kind c.kind w.serial s (goes_on n number w.kind w.serial w.is) c.is in
           record { kind = w.kind; is = w.is ∙ ap (waits w.kind) same };
+      row = λ n number kind s b r e. k.row n number kind s b (was n number r) (goes_on n number kind s e);
+      same = λ n b e. remain n b (ap (λ p. is_listed p later) (sym (id_same n)) ∙ e);
+      once = once_later;
     }
 
 -- ---- behind it
@@ -131,21 +160,33 @@ pub record Rows (layer left : Layer Purpose) (pending later : List ℕ) : Type 0
   pub new : (p number : ℕ) → Row left p number → Row layer p number ⊎ ((is_listed p pending ≡ false) × (is_listed p later ≡ true))
   pub one : (p a b : ℕ) → Row left p a → Row left p b → Row layer p a ⊎ (Row layer p b ⊎ (a ≡ b))
   pub grows : (p : ℕ) → is_listed p pending ≡ true → is_listed p later ≡ true
+  pub fresh : (p number : ℕ) (r : Row left p number) → Row layer p number ⊎ (IsFresh layer p number × (r.kind ≡ kinds.Write))
+  pub from : (p : ℕ) → is_listed p later ≡ true → (is_listed p pending ≡ true) ⊎ ((number : ℕ) × Row left p number)
+  pub once : Distinct pending → Distinct later
 
 -- of a call of another node
 pub rows_same : (layer : Layer Purpose) (pending : List ℕ) → Rows layer layer pending pending
-rows_same layer pending = record { stay = λ p number r. r; new = λ p number r. inl r; one = λ p a b r q. inl r; grows = λ p e. e }
+rows_same layer pending = record { stay = λ p number r. r; new = λ p number r. inl r; one = λ p a b r q. inl r; grows = λ p e. e; fresh = λ p number r. inl r; from = λ p e. inl e; once = λ d. d }
 
 -- each new unsolicited status of the terms has its row
 abbrev pub HaveRows : (nodes : ℕ) → List Disk → (from : ℕ) → (ℕ → List ℕ → Type 0) → (ms now : List Moment) → Layer Purpose → Type 0
 HaveRows nodes start from Q ms now left =
     from ≡ 0 → (s : ℕ) → Has (Pushes start now) s → (x : New Q (terms ms) (terms now) s) → (x.packet.to ≤ nodes) × Row left (Id (terms now) x.packet.to) x.label
 
+-- what waits under a label of a row that is new is an unsolicited status of the terms
+abbrev pub AreSent : (nodes : ℕ) → List Disk → (ms now : List Moment) → (layer left : Layer Purpose) → Type 0
+AreSent nodes start ms now layer left =
+    (n number : ℕ) (kind : Kind) (s : ℕ) → n ≤ nodes → (r : Row left (Id (terms ms) n) number) → IsFresh layer (Id (terms ms) n) number → r.kind ≡ kinds.Write → (terms ms).count < s → (terms now).held (Own (terms ms) n number) ≡ waits kind s → Has (Pushes start now) s
+
+-- a request that waits is pending
+abbrev pub ArePending : ℕ → Terms → Type 0
+ArePending nodes u = (n number : ℕ) (kind : Kind) (s : ℕ) → n ≤ nodes → u.held (Own u n number) ≡ waits kind s → is_pending u n s ≡ true
+
 -- and a serial that is waited for is of one transaction
 abbrev pub IsOnce : Terms → Type 0
 IsOnce t = (s : ℕ) (v w : Transaction) (kind other : Kind) → t.held v ≡ waits kind s → t.held w ≡ waits other s → v ≡ w
 
-module _ (nodes : ℕ) (start : List Disk) (from : ℕ) (Q : ℕ → List ℕ → Type 0) (ms now : List Moment) (m : Later start from Q ms now) (layer left : Layer Purpose) (pending later : List ℕ) (k : Pending nodes (terms ms) (Pushes start ms) layer pending) (small : (s : ℕ) → Has (Pushes start ms) s → s ≤ (terms ms).count) (rows : Rows layer left pending later) (there : HaveRows nodes start from Q ms now left) (once : IsOnce (terms now)) where
+module _ (nodes : ℕ) (start : List Disk) (from : ℕ) (Q : ℕ → List ℕ → Type 0) (ms now : List Moment) (m : Later start from Q ms now) (layer left : Layer Purpose) (pending later : List ℕ) (k : Pending nodes (terms ms) (Pushes start ms) layer pending) (small : (s : ℕ) → Has (Pushes start ms) s → s ≤ (terms ms).count) (rows : Rows layer left pending later) (there : HaveRows nodes start from Q ms now left) (once : IsOnce (terms now)) (ties : Ties nodes (terms ms) layer) (tied_then : AreTied nodes (terms now) left) (sent : AreSent nodes start ms now layer left) (waiting : ArePending nodes (terms now)) where
   abbrev t : Terms
   t = terms ms
 
@@ -249,5 +290,35 @@ module _ (nodes : ℕ) (start : List Disk) (from : ℕ) (Q : ℕ → List ℕ �
       by (inl o) = lists n (rows.grows (Id t n) (k.pends n s b o (sym (m.pends n s o) ∙ e)))
       by (inr x) = full_there n x.1.label b (new_row n s x.0 h x.1 e)
 
+  row_there : (n number : ℕ) (kind : Kind) (s : ℕ) → n ≤ nodes → Row left (Id u n) number → u.held (Own u n number) ≡ waits kind s → Has (Pushes start now) s
+  row_there n number kind s b r e = by (rows.fresh (Id t n) number (at_old n number r))
+    where
+      own : u.held (Own t n number) ≡ waits kind s
+      own = ap u.held (sym (same_own n number)) ∙ e
+
+      by_held : IsFresh layer (Id t n) number × ((at_old n number r).kind ≡ kinds.Write) → (x : Held) → t.held (Own t n number) ≡ x → Has (Pushes start now) s
+      by_held f free g = sent n number kind s b (at_old n number r) f.0 f.1 (m.taken (Own t n number) kind s g own) own
+      by_held f rests g = rests_waits (u.held (Own t n number)) kind s (m.resting (Own t n number) g) own
+      by_held f (waits other q) g =
+          let x = ties.under n number other q b g in
+          absurd (f.0 x.kind x.call x.is)
+
+      by : Row layer (Id t n) number ⊎ (IsFresh layer (Id t n) number × ((at_old n number r).kind ≡ kinds.Write)) → Has (Pushes start now) s
+      by (inl o) =
+          let w = ties.waiting n number b o in
+          let same : w.serial ≡ s = same_waits (u.held (Own t n number)) w.kind kind w.serial s (m.waiting (Own t n number) w.kind w.serial w.is) own in
+          m.less s (subst (Has old) same (k.row n number w.kind w.serial b o w.is))
+      by (inr f) = by_held f (t.held (Own t n number)) refl
+
+  same_there : (n : ℕ) → n ≤ nodes → is_listed (Id u n) later ≡ true → Pends u (Pushes start now) n
+  same_there n b e = by (rows.from (Id t n) (ap (λ p. is_listed p later) (sym (same_id n)) ∙ e))
+    where
+      by : (is_listed (Id t n) pending ≡ true) ⊎ ((number : ℕ) × Row left (Id t n) number) → Pends u (Pushes start now) n
+      by (inl f) = let x = k.same n b f in (x.0, (m.less x.0 x.1.0, m.pends n x.0 x.1.0 ∙ x.1.1))
+      by (inr x) =
+          let r = at_new n x.0 x.1 in
+          let w = row_waits nodes u left tied_then n x.0 b r in
+          (w.serial, (row_there n x.0 w.kind w.serial b r w.is, waiting n x.0 w.kind w.serial b w.is))
+
   pub step_kept : Pending nodes u (Pushes start now) left later
-  step_kept = record { pends = pends_there; push = push_there; full = full_there; one = one_there; calm = calm_there }
+  step_kept = record { pends = pends_there; push = push_there; full = full_there; one = one_there; calm = calm_there; row = row_there; same = same_there; once = rows.once k.once }

@@ -1,5 +1,5 @@
 -- What is carried of the target's unsolicited statuses through a sight and a second at the target, through each call of an initiator, and through each other line.
-use Rattle.std.proofs.Common.{arith, ◌≡◌, ◌∙◌, refl, sym, ap, subst, inl, inr, ◌⊎◌, ℕ, suc, ◌+◌, ◌<◌, ◌≤◌, ◌==◌, ◌&&◌, ◌||◌, nat_eq, nat_lt, Bool, true, false, cond, List, [], ◌∷◌, ◌++◌, length, map, Option, Some, None}
+use Rattle.std.proofs.Common.{arith, ◌≡◌, ◌∙◌, refl, sym, ap, subst, inl, inr, ◌⊎◌, ℕ, suc, ◌+◌, ◌<◌, ◌≤◌, ◌==◌, nat_eq, nat_lt, Bool, true, false, cond, List, [], ◌∷◌, ◌++◌, length, map, Option, Some, None}
 use Rattle.std.proofs.Math.Nat.{suc-ne-zero}
 use Rattle.std.proofs.lemmas.Bool.Decides.{nat_tests}
 use Rattle.async_packet.specs.Labels.{LabelParts}
@@ -30,8 +30,7 @@ use Rattle.sbp_journal.specs.declared.note.Note.{Note}
 use Rattle.sbp_journal.specs.declared.note.Note.TheVariants as notes
 use Rattle.sbp_journal.specs.declared.outbox.Outgoing.{Outgoing}
 use Rattle.sbp_laws.specs.MediaLaw.{is_pending}
-use Rattle.sbp_laws.specs.Packets.{begun_in, receiver_in, rests_for, waits_for}
-use Rattle.sbp_laws.specs.Targets.{is_serial}
+use Rattle.sbp_laws.specs.Packets.{begun_in}
 use Rattle.sbp_target.specs.Calls.{alone, sees, ticks}
 use Rattle.sbp_target.specs.Nodes.{NodeState}
 use Rattle.sbp_target.specs.Nodes as target
@@ -65,8 +64,10 @@ use Rattle.turn_laws.proofs.LaterNotes.{AllLeave, owns_handed}
 use Rattle.turn_laws.proofs.LaterTerms.{Grows, Own, Pushes, grown}
 use Rattle.turn_laws.proofs.PendingCalls.{Any, all_owned, target_kept}
 use Rattle.turn_laws.proofs.PendingEnds.{forgets}
-use Rattle.turn_laws.proofs.PendingFirsts.{late_injected, Beside, LeavesOwn, got_injected, own_gets, own_lapses, leaves_same, tied_beside}
-use Rattle.turn_laws.proofs.PendingKept.{AreTied, Id, Pending, Rows, rows_same}
+use Rattle.turn_laws.proofs.PendingFirsts.{late_injected, Beside, none_pending, LeavesOwn, got_injected, own_gets, own_lapses, leaves_same, tied_beside}
+use Rattle.turn_laws.proofs.PendingKept.{AreTied, Id, Pending, Rows, Ties, rows_same, ties_of}
+use Rattle.turn_laws.proofs.StatusOnce.{Distinct}
+use Rattle.sbp_target.specs.Units.{is_pending as is_listed}
 use Rattle.turn_laws.proofs.PendingTerms.{Same, ignored_same, pending_sent, sends_terms, upd_other}
 use Rattle.turn_laws.proofs.PendingTurns.{Kept, beside_here, from_target, beside_kept, line_beside, line_clean, line_pushes, own_kept, note_clean, note_pushes, tied_here}
 use Rattle.turn_laws.proofs.Places.{Place}
@@ -75,7 +76,6 @@ use Rattle.turn_laws.proofs.SerialsStay.{IsNoSent}
 use Rattle.turn_laws.proofs.StatusLates.{seconds}
 use Rattle.turn_laws.proofs.StatusRows.{Row, life_of}
 use Rattle.turn_laws.proofs.StatusStays.{IsStatus, left_if}
-use Rattle.sbp_world.proofs.Wire.Kept.{and_false}
 use Rattle.sbp_world.proofs.Hosts.Held.{begun_from}
 
 -- ---- an initiator has no such packets to tell of
@@ -99,8 +99,6 @@ forgot_more layer packets peer label h = record {
 no_row : (layer : Layer Purpose) (packets : List Outgoing) → Forgot layer packets → (p number : ℕ) → Row layer p number → ⊥
 no_row layer packets f p number r = let l = life_of layer f.lives p number f.known r in f.none p l.label l.kind l.life
 
-none_pends : (n r : ℕ) (t : Terms) → begun_in (t.sent r) ≡ None → is_pending t n r ≡ false
-none_pends n r t e = ap (λ o. is_serial (receiver_in (t.sent r)) n && (waits_for t o r || rests_for t o r)) e ∙ and_false (is_serial (receiver_in (t.sent r)) n)
 
 module _ (units ready : ℕ) (has : 0 < units) (start : List Disk) (past : List Moment) (s : Scene) (here : Place units ready start past s) (k : Kept start (hist past s.world) s) where
   abbrev w : WorldState
@@ -184,6 +182,7 @@ module _ (units ready : ℕ) (has : 0 < units) (start : List Disk) (past : List 
         (subst (λ (y : target.Scene). AllOwned Any y.node.layer y.outbox.packets) (sym x_is) (all_owned units ready has start past s here ticks))
         (note_clean units ready has start past s here notes.Tick tt refl) refl node.layer node.pending
         (beside_kept nodes start ms (said notes.Tick ∷ ms) node.layer node.pending (tied_here units ready has start past s here) k b (note_pushes start notes.Tick ms tt))
+        (ties_of nodes (noted notes.Tick t) node.layer (tied_beside nodes t (noted notes.Tick t) (Pushes start ms) node.layer b (tied_here units ready has start past s here)))
         (subst (λ (y : target.Scene). Rows node.layer y.node.layer node.pending y.node.pending) (sym x_is) rows)
 
   -- ---- a sight at the target
@@ -221,9 +220,9 @@ module _ (units ready : ℕ) (has : 0 < units) (start : List Disk) (past : List 
     packets_owned : AllOwned Any x.node.layer x.outbox.packets
     packets_owned = subst (λ (y : target.Scene). AllOwned Any y.node.layer y.outbox.packets) (sym x_is) (all_owned units ready has start past s here (sees now own_id))
 
-    seen_kept : Place units ready start past Sighted → (layer : Layer Purpose) (pending : List ℕ) → Pending nodes z (Pushes start (said note ∷ ms)) layer pending → Rows layer x.node.layer pending x.node.pending → Kept start (hist past Sighted.world) Sighted
-    seen_kept there layer pending base rows =
-        target_kept units ready has start past s here note x.outbox v s.media refl there others packets_owned (note_clean units ready has start past s here note tt refl) refl layer pending base rows
+    seen_kept : Place units ready start past Sighted → (layer : Layer Purpose) (pending : List ℕ) → Pending nodes z (Pushes start (said note ∷ ms)) layer pending → Ties nodes z layer → Rows layer x.node.layer pending x.node.pending → Kept start (hist past Sighted.world) Sighted
+    seen_kept there layer pending base ties rows =
+        target_kept units ready has start past s here note x.outbox v s.media refl there others packets_owned (note_clean units ready has start past s here note tt refl) refl layer pending base ties rows
 
     -- of the same generation
     same_kept : Place units ready start past Sighted → nat_lt node.layer.generation now ≡ false → Kept start (hist past Sighted.world) Sighted
@@ -236,6 +235,7 @@ module _ (units ready : ℕ) (has : 0 < units) (start : List Disk) (past : List 
         let step : (alone (sees now own_id) node).node ≡ node = ap (λ c. (reset_by (cond c (true, seen_in_generation node.layer now own_id) (false, node.layer)) (target.scene node empty_outbox)).1.node) e in
         seen_kept there node.layer node.pending
         (beside_kept nodes start ms (said note ∷ ms) node.layer node.pending (tied_here units ready has start past s here) k b (note_pushes start note ms tt))
+        (ties_of nodes z node.layer (tied_beside nodes t z (Pushes start ms) node.layer b (tied_here units ready has start past s here)))
         (subst (λ (y : NodeState). Rows node.layer y.layer node.pending y.pending) (sym (ap (λ (y : target.Scene). y.node) x_is ∙ step)) (rows_same node.layer node.pending))
 
     -- of a later one: all is forgotten
@@ -245,6 +245,12 @@ module _ (units ready : ℕ) (has : 0 < units) (start : List Disk) (past : List 
         subst (λ (y : target.Scene). Forgot y.node.layer y.outbox.packets) (sym x_is)
         (sees_by Forgot (record { disowns = λ layer packets peer label h. forgot_more layer packets peer label h }) (seeing_step node.layer now own_id) (target.scene node empty_outbox)
         (record { lives = live_on forgotten good.lives; known = seeing_known node.layer good.lives now own_id good.mid.known e; none = λ p l kind f. forgotten_at good.lives p l purposes.Unsolicited kind f }))
+
+    none_listed : nat_lt node.layer.generation now ≡ true → x.node.pending ≡ []
+    unfolding seeing_step seen
+    none_listed e =
+        ap (λ (y : target.Scene). y.node.pending) x_is
+        ∙ ap (λ c. (reset_by (cond c (true, seen_in_generation node.layer now own_id) (false, node.layer)) (target.scene node empty_outbox)).1.node.pending) e
 
     later_kept : Place units ready start past Sighted → nat_lt node.layer.generation now ≡ true → Kept start (hist past Sighted.world) Sighted
     later_kept there e =
@@ -257,8 +263,23 @@ module _ (units ready : ℕ) (has : 0 < units) (start : List Disk) (past : List 
           full = λ n number l r. absurd (no_row x.node.layer x.outbox.packets f (Id z n) number r);
           one = λ n a c l r q. absurd (no_row x.node.layer x.outbox.packets f (Id z n) a r);
           calm = λ n number r l q h. absurd (no_row x.node.layer x.outbox.packets f (Id z n) number q);
+          row = λ n number kind r l q y. absurd (no_row x.node.layer x.outbox.packets f (Id z n) number q);
+          same = λ n l y. untrue y;
+          once = tt;
         })
-        (record { stay = λ p number r. r; new = λ p number r. inl r; one = λ p a c r q. inl r; grows = λ p y. untrue y })
+        (record {
+          waiting = λ n number l r. absurd (no_row x.node.layer x.outbox.packets f (Id z n) number r);
+          under = λ n number kind r l y. absurd (young later n number kind r y);
+        })
+        (record {
+          stay = λ p number r. r;
+          new = λ p number r. inl r;
+          one = λ p a c r q. inl r;
+          grows = λ p y. untrue y;
+          fresh = λ p number r. inl r;
+          from = λ p y. untrue (ap (is_listed p) (sym (none_listed e)) ∙ y);
+          once = λ d. subst Distinct (sym (none_listed e)) tt;
+        })
       where
         young : t.generation 0 < now → (n number : ℕ) (kind : Kind) (r : ℕ) → t.held (transaction now 0 n number) ≡ waits kind r → ⊥
         young later n number kind r y =
@@ -271,7 +292,7 @@ module _ (units ready : ℕ) (has : 0 < units) (start : List Disk) (past : List 
             omega (arith, generation, old, later)
 
         pends_by : t.generation 0 < now → (n r : ℕ) (q : Sending) → t.sent r ≡ Some q → q.from ≡ 0 → (o : Option Transaction) → begun_by q ≡ o → is_pending z n r ≡ true → ⊥
-        pends_by later n r q e f None b y = untrue (sym (none_pends n r z (ap begun_in e ∙ b)) ∙ y)
+        pends_by later n r q e f None b y = untrue (sym (none_pending n r z (ap begun_in e ∙ b)) ∙ y)
         pends_by later n r q e f (Some u) b y =
             let asks = asked_is q u (begun_asked q u b).1 in
             let generation : u.generation ≡ q.generation = ap (λ (c : Transaction). c.generation) asks.is in

@@ -1,6 +1,6 @@
 -- Whether an unsolicited status is pending to a node, by the terms of the wire: it is so from its sending on, while it is under way and where its label rests, until its response is got or a
 -- reset is seen. What else is said of the wire leaves it so.
-use Rattle.std.proofs.Common.{arith, ◌≡◌, ◌∙◌, refl, sym, ap, subst, ℕ, ◌==◌, ◌&&◌, ◌||◌, nat_eq, Bool, true, false, cond, Option, Some, None}
+use Rattle.std.proofs.Common.{arith, ◌≡◌, ◌∙◌, refl, sym, ap, subst, inl, inr, ◌⊎◌, ℕ, ◌==◌, ◌&&◌, ◌||◌, nat_eq, Bool, true, false, cond, Option, Some, None}
 use Rattle.std.proofs.lemmas.Bool.Decides.{nat_tests}
 use Rattle.sbp_base.specs.Update.{upd}
 use Rattle.sbp_journal.specs.Transactions.{Kind, Sending, Transaction, at, begun_by, is_same, part_of}
@@ -10,6 +10,7 @@ use Rattle.sbp_journal.specs.declared.cause.Cause.TheVariants as causes
 use Rattle.sbp_laws.specs.MediaLaw.{is_pending}
 use Rattle.sbp_laws.specs.Packets.{begun_in, is_resting, is_waiting_for, receiver_in, rests_for, waits_for}
 use Rattle.sbp_laws.specs.Targets.{is_serial}
+use Rattle.sbp_world.proofs.Common.{equal, untrue}
 use Rattle.sbp_world.proofs.Wire.Kept.{and_false}
 
 -- ---- one transaction
@@ -56,6 +57,23 @@ late_lasts now kind own u before s = by (now == u.generation) (own == s) (before
     by true true c = refl
     by true false c = refl
     by false x c = refl
+
+-- what is pending is of now, and its label waits for it or rests
+by_rests : (g x : Bool) → ((g && false) || ((g && true) && x)) ≡ true → g ≡ true
+by_rests true x e = refl
+by_rests false x e = untrue e
+
+by_waits : (g y x : Bool) → ((g && y) || ((g && false) && x)) ≡ true → (g ≡ true) × (y ≡ true)
+by_waits true true x e = (refl, refl)
+by_waits true false x e = untrue e
+by_waits false y x e = untrue e
+
+pub lasts_so : (now : ℕ) (h : Held) (current : ℕ) (u : Transaction) (s : ℕ) → Lasts now h current u s ≡ true → (now ≡ u.generation) × ((h ≡ rests) ⊎ ((kind : Kind) × (h ≡ waits kind s)))
+lasts_so now free current u s e = untrue (sym (none_lasts now current u s) ∙ e)
+lasts_so now rests current u s e = (equal now u.generation (by_rests (now == u.generation) (current == s) e), inl refl)
+lasts_so now (waits kind own) current u s e =
+    let b = by_waits (now == u.generation) (own == s) (current == s) e in
+    (equal now u.generation b.0, inr (kind, ap (waits kind) (equal own s b.1)))
 
 -- ---- its own label
 module _ (node s : ℕ) (t now : Terms) (u : Transaction) (sent : now.sent s ≡ t.sent s) (begun : begun_in (t.sent s) ≡ Some u) where

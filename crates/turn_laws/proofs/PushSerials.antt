@@ -17,7 +17,7 @@ use Rattle.sbp_journal.specs.declared.note.Note.{Note}
 use Rattle.sbp_journal.specs.declared.note.Note.TheVariants as notes
 use Rattle.sbp_laws.specs.Targets.{Agent, Target, for_agent, for_manager, for_nobody, is_serial, known_at, new_agent, over, purpose_among, purpose_of, target_at}
 use Rattle.sbp_world.specs.Agents.Crews.{agent_in}
-use Rattle.turn_laws.proofs.SerialsStay.{All, Goes, IsNoSent, Sends, ends_turn, note_goes, note_sends}
+use Rattle.turn_laws.proofs.SerialsStay.{All, Goes, Kept, IsNoSent, Sends, ends_turn, note_goes, note_sends}
 use Rattle.sbp_world.proofs.Hosts.Held.{sent_count}
 
 -- ---- how many packets were sent
@@ -113,7 +113,7 @@ goes_counted n m t now l goes c =
     let a = g.agents c.agents in
     let back : (s : ℕ) → Has now.pushes s → Has t.pushes s = λ s h. subst (λ xs. Has xs s) g.pushes h in
     record {
-      agents = λ p. (wider n m (agent_in now.agents p).main l (a p).0, wider n m (agent_in now.agents p).ahead l (a p).1);
+      agents = λ p. (wider n m (agent_in now.agents p).main l (a p).0, wider n m (agent_in now.agents p).ahead l (a p).1, (a p).2);
       manages = wider n m now.manages l (g.manages c.manages);
       pushes = λ s h. let k = c.pushes s (back s h) in omega (arith, k, l);
       free = λ s h. let f = c.free s (back s h) in let k = goes (Apart s) refl in (k.agents f.0, k.manages f.1);
@@ -125,7 +125,7 @@ sent_counted n serial t now e goes c =
     let own : Small (n + 1) (Some serial) = λ s f. let same : serial ≡ s = cc in omega (arith, same, e) in
     let g = goes (Small (n + 1)) (small_none (n + 1)) in
     record {
-      agents = g.agents own (λ p. (wider n (n + 1) (agent_in t.agents p).main up (c.agents p).0, wider n (n + 1) (agent_in t.agents p).ahead up (c.agents p).1));
+      agents = g.agents own (λ p. (wider n (n + 1) (agent_in t.agents p).main up (c.agents p).0, wider n (n + 1) (agent_in t.agents p).ahead up (c.agents p).1, (c.agents p).2));
       manages = g.manages own (wider n (n + 1) t.manages up c.manages);
       pushes = λ s h. among s (goes (Small (n + 1)) (small_none (n + 1))).pushed h;
       free = λ s h. frees s (goes (Apart s) refl) h;
@@ -155,13 +155,13 @@ sent_counted n serial t now e goes c =
             new (inr k) = earlier k
             new (inl same) =
                 let above : n < s = omega (arith, same, e) in
-                (f.1.0 (λ p. (apart_of n s (agent_in t.agents p).main above (c.agents p).0, apart_of n s (agent_in t.agents p).ahead above (c.agents p).1)), f.1.1 (apart_of n s t.manages above c.manages))
+                (f.1.0 (λ p. (apart_of n s (agent_in t.agents p).main above (c.agents p).0, apart_of n s (agent_in t.agents p).ahead above (c.agents p).1, (c.agents p).2)), f.1.1 (apart_of n s t.manages above c.manages))
 
 -- ---- a history
 module _ (start : List Disk) where
-  first_apart : (Q : Option ℕ → Type 0) (none : Q None) (n p : ℕ) → Q (agent_in (replicate n new_agent) p).main × Q (agent_in (replicate n new_agent) p).ahead
-  first_apart Q none zero p = (none, none)
-  first_apart Q none (suc n) zero = (none, none)
+  first_apart : (Q : Option ℕ → Type 0) (none : Q None) (n p : ℕ) → Kept Q none (agent_in (replicate n new_agent) p)
+  first_apart Q none zero p = (none, none, refl)
+  first_apart Q none (suc n) zero = (none, none, refl)
   first_apart Q none (suc n) (suc p) = first_apart Q none n p
 
   pub counted : (ms : List Moment) → SerialsCount ms → Counted (terms ms).count (target_at start ms)

@@ -2,6 +2,8 @@
 -- leaves the serials of unsolicited statuses as they are. A packet that is one of these is nobody else's.
 use Rattle.std.proofs.Common.{◌≡◌, ◌∙◌, refl, ap, inl, inr, ◌⊎◌, ◌==◌, ◌||◌, not, ℕ, zero, suc, ◌+◌, Bool, true, false, cond, List, [], ◌∷◌, map, Option, Some, None, Result, Ok, Err}
 use Rattle.std.specs.Prelude.{is_none, position, slice_set, unwrap_or}
+use Rattle.command_agent.specs.declared.phase.Phase.{Phase}
+use Rattle.command_agent.specs.declared.phase.Phase.TheVariants as phases
 use Rattle.command_agent.specs.declared.step.AgentStep.{AgentStep}
 use Rattle.command_agent.specs.declared.step.PointRefusal.{PointRefusal}
 use Rattle.command_agent.specs.declared.step.Which.{Which}
@@ -16,10 +18,12 @@ use Rattle.mgmt_agent.specs.Machine as manager
 use Rattle.login_table.specs.Table.{Table}
 use Rattle.orb_layout.specs.declared.ask.Ask.{Ask}
 use Rattle.orb_layout.specs.declared.ask.Ask.TheVariants.{Nothing}
+use Rattle.orb_layout.specs.declared.ask.FailCause.{FailCause}
 use Rattle.orb_layout.specs.declared.ask.FailCause.TheVariants as causes
 use Rattle.orb_layout.specs.Pointers.{offset_at, pointer_at}
-use Rattle.orb_layout.specs.Replies.{Answer, Expired}
+use Rattle.orb_layout.specs.Replies.{Answer, Done, Expired, NoLabel, Payload, Refused}
 use Rattle.rbc_disk.specs.Runs.{Told}
+use Rattle.rbc_disk.specs.Units.{PlainDisk}
 use Rattle.sbp_journal.specs.Addresses.{Access, Register, Start, agent_reset, agent_state, doorbell, management_agent, no_start, orb_pointer, register, rom_start, start_at, start_serves, unsolicited_enable}
 use Rattle.sbp_journal.specs.Run.{Moment}
 use Rattle.sbp_journal.specs.Transactions.{Part, no_packet, part_of, request, response}
@@ -33,16 +37,72 @@ use Rattle.sbp_laws.specs.Packets.{access_in_bytes, access_at, answer_in, answer
 use Rattle.sbp_laws.specs.Targets.{Agent, Decided, Purpose, Reply, Target, agent_at, agent_over, ahead_lost, closed, cut_agent, cut_where, decided_by, keep_decided, plain_for, reply_of, untold_by, effect_on, enters_in, for_agent, for_manager, for_nobody, going_on, got_by, is_nothing, is_serial, is_write_access, key_by, main_lost, managed_by, manager_step, moved, new_agent, on_unit, over, pointed_by, points, purpose_of, register_got, replied, replied_to, request_got, reset_seen, rings, sends_of, sent_as, sent_for, start_got, started_by, taken_on, target_by, told_in, wants, wants_it, with_untold, is_own_run, ran_on}
 use Rattle.sbp_laws.specs.Turns.{event_of}
 use Rattle.sbp_world.specs.Agents.Crews.{agent_in}
+use Rattle.sbp_world.proofs.Agents.Mild.{IsGiven, reply_mild}
 
 -- no packet is sent
 abbrev pub IsNoSent : Note → Type 0
 IsNoSent (notes.Sent serial generation from to bytes) = ⊥
 IsNoSent note = Unit {0}
 
+-- ---- a read ahead is a read
+abbrev pub Reads : Ask → Type 0
+Reads ask = wants ask true ≡ false
+
+given_reads : (m : Machine) (place : ℕ) (plain : PlainDisk) (told : Option Told) (answer : Answer) → IsGiven answer ⊎ (answer ≡ NoLabel) → (which : Which) → Reads (steps.reply_step m place plain told which answer).0.ahead
+unfolding steps.reply_step
+given_reads m place plain told answer (inl g) which = (reply_mild m place plain told which answer g).reads
+given_reads m place plain told answer (inr e) which = ap (λ a. wants (steps.reply_step m place plain told which a).0.ahead true) e ∙ by which
+  where
+    main : (phase : Phase) → Reads (steps.served place plain (steps.told_or told) (steps.advanced phase m NoLabel).0 (steps.advanced phase m NoLabel).1).0.ahead
+    main phases.Reset = refl
+    main phases.Fetching = refl
+    main phases.ReadingTable = refl
+    main (phases.ReadingData wanted) = refl
+    main phases.Answering = refl
+    main phases.WritingStatus = refl
+    main phases.ReadingNext = refl
+    main phases.WritingLastStatus = refl
+    main phases.Suspended = refl
+    main phases.Dead = refl
+
+    ahead : (b : Bool) → Reads (cond b (steps.ahead_step m NoLabel) (steps.quiet, m)).0.ahead
+    ahead true = refl
+    ahead false = refl
+
+    by : (w : Which) → Reads (steps.reply_step m place plain told w NoLabel).0.ahead
+    by Main = main m.phase
+    by Ahead = ahead (is_ahead m.ahead)
+
+is_given : (answer : Answer) → IsGiven answer ⊎ (answer ≡ NoLabel)
+is_given NoLabel = inr refl
+is_given (Payload bytes) = inl tt
+is_given Done = inl tt
+is_given (Refused rcode) = inl tt
+is_given Expired = inl tt
+
+reply_reads : (m : Machine) (place : ℕ) (plain : PlainDisk) (told : Option Told) (which : Which) (answer : Answer) → Reads (steps.reply_step m place plain told which answer).0.ahead
+reply_reads m place plain told which answer = given_reads m place plain told answer (is_given answer) which
+
+lost_reads : (m : Machine) (cause : FailCause) → Reads (steps.lost_step m Main cause).0.ahead
+unfolding steps.lost_step
+lost_reads m cause = by m.phase
+  where
+    by : (phase : Phase) → Reads (steps.main_lost phase m cause).0.ahead
+    by phases.Reset = refl
+    by phases.Fetching = refl
+    by phases.ReadingTable = refl
+    by (phases.ReadingData wanted) = refl
+    by phases.Answering = refl
+    by phases.WritingStatus = refl
+    by phases.ReadingNext = refl
+    by phases.WritingLastStatus = refl
+    by phases.Suspended = refl
+    by phases.Dead = refl
+
 -- what is true of no serial, and of some
 module _ (Q : Option ℕ → Type 0) (none : Q None) where
   abbrev pub Kept : Agent → Type 0
-  Kept a = Q a.main × Q a.ahead
+  Kept a = Q a.main × Q a.ahead × Reads a.asks_ahead
 
   abbrev pub All : List Agent → Type 0
   All agents = (p : ℕ) → Kept (agent_in agents p)
@@ -63,33 +123,33 @@ module _ (Q : Option ℕ → Type 0) (none : Q None) where
   pick true x y h k = h
   pick false x y h k = k
 
-  moves : (r : AgentStep × Machine) (a : Agent) → Kept a → Kept (moved r a)
-  moves (step, machine) a h = (pick step.promoted a.ahead a.main h.1 h.0, pick (step.promoted || not (is_ahead machine.ahead)) None a.ahead none h.1)
+  moves : (r : AgentStep × Machine) (a : Agent) → Reads r.0.ahead → Kept a → Kept (moved r a)
+  moves (step, machine) a e h = (pick step.promoted a.ahead a.main h.1 h.0, pick (step.promoted || not (is_ahead machine.ahead)) None a.ahead none h.1, e)
 
   closes : (which : Which) (a : Agent) → Kept a → Kept (closed which a)
-  closes Main a h = (none, h.1)
-  closes Ahead a h = (h.0, none)
+  closes Main a h = (none, h.1, h.2)
+  closes Ahead a h = (h.0, none, h.2)
 
   loses : (a : Agent) → Kept a → Kept (main_lost a)
   loses a h = by (is_nothing a.asks)
     where
       by : (b : Bool) → Kept (cond b a (moved (steps.lost_step a.machine Main causes.Label) a))
       by true = h
-      by false = moves (steps.lost_step a.machine Main causes.Label) a h
+      by false = moves (steps.lost_step a.machine Main causes.Label) a (lost_reads a.machine causes.Label) h
 
   loses_ahead : (a : Agent) → Kept a → Kept (ahead_lost a)
   loses_ahead a h = by (is_nothing a.asks_ahead)
     where
       by : (b : Bool) → Kept (cond b a (record a { machine = (steps.lost_step a.machine Ahead causes.Label).1; asks_ahead = Nothing }))
       by true = h
-      by false = h
+      by false = (h.0, h.1, refl)
 
   ends : (a : Agent) → Kept a → Kept (agent_over a)
-  ends a h = let k = loses_ahead (main_lost a) (loses a h) in (k.0, k.1)
+  ends a h = let k = loses_ahead (main_lost a) (loses a h) in (k.0, k.1, k.2)
 
   points_by : (r : Result Ask PointRefusal × Machine) (pointer : ℕ) (a : Agent) → Kept a → Kept (pointed_by r pointer a)
   points_by (Err refusal, machine) pointer a h = h
-  points_by (Ok ask, machine) pointer a h = let k = moves (steps.asks ask, machine) a h in (k.0, k.1)
+  points_by (Ok ask, machine) pointer a h = let k = moves (steps.asks ask, machine) a refl h in (k.0, k.1, k.2)
 
   -- ---- the agents of all places
   set_all : (agents : List Agent) (k : ℕ) (x : Agent) → Kept x → All agents → All (slice_set agents k x)
@@ -109,7 +169,7 @@ module _ (Q : Option ℕ → Type 0) (none : Q None) where
   where_all test place (a ∷ agents) all zero = by (test place)
     where
       by : (b : Bool) → Kept (cond b (cut_agent a) a)
-      by true = (none, none)
+      by true = (none, none, refl)
       by false = all zero
   where_all test place (a ∷ agents) all (suc p) = where_all test (place + 1) agents (λ q. all (suc q)) p
 
@@ -120,7 +180,7 @@ module _ (Q : Option ℕ → Type 0) (none : Q None) where
       let a = agent_at t reply.place in
       record {
         pushes = refl;
-        agents = λ h. set_all t.agents reply.place (moved (reply_of t reply told) (closed reply.which a)) (moves (reply_of t reply told) (closed reply.which a) (closes reply.which a (h reply.place))) h;
+        agents = λ h. set_all t.agents reply.place (moved (reply_of t reply told) (closed reply.which a)) (moves (reply_of t reply told) (closed reply.which a) (reply_reads (agent_at t reply.place).machine reply.place (plain_for t reply) told reply.which reply.answer) (closes reply.which a (h reply.place))) h;
         manages = λ h. h;
       }
 
@@ -149,11 +209,11 @@ module _ (Q : Option ℕ → Type 0) (none : Q None) where
   sets t place x f = record { pushes = refl; agents = λ h. set_all t.agents place x (f (h place)) h; manages = λ h. h }
 
   affects : (effect : Effect) (t : Target) → Goes t (effect_on effect t)
-  affects (effects.Left place) t = sets t place (cut_agent (agent_at t place)) (λ h. (none, none))
+  affects (effects.Left place) t = sets t place (cut_agent (agent_at t place)) (λ h. (none, none, refl))
   affects (effects.Abort place orb) t = let a = agent_at t place in sets t place (record a { machine = steps.abort_step a.machine orb }) (λ h. h)
-  affects (effects.AbortSet place) t = sets t place (cut_agent (agent_at t place)) (λ h. (none, none))
+  affects (effects.AbortSet place) t = sets t place (cut_agent (agent_at t place)) (λ h. (none, none, refl))
   affects (effects.UnitReset unit) t = record { pushes = refl; agents = λ h. where_all (on_unit unit t.table.places) 0 t.agents h; manages = λ h. h }
-  affects effects.TargetReset t = record { pushes = refl; agents = λ h. map_all cut_agent t.agents (λ a k. (none, none)) h; manages = λ h. h }
+  affects effects.TargetReset t = record { pushes = refl; agents = λ h. map_all cut_agent t.agents (λ a k. (none, none, refl)) h; manages = λ h. h }
   affects _ t = self t
 
   manages_by : (r : ManagerStep × (manager.Machine × Table)) (answer : Answer) (t : Target) → Goes t (managed_by r answer t)
@@ -177,7 +237,7 @@ module _ (Q : Option ℕ → Type 0) (none : Q None) where
   starts_by (Ok ask, machine) t = record { pushes = refl; agents = λ h. h; manages = λ h. h }
 
   registers : (name : Register) (place : ℕ) (access : Access) (t : Target) → Goes t (register_got name place access t)
-  registers agent_reset place access t = sets t place (cut_agent (agent_at t place)) (λ h. (none, none))
+  registers agent_reset place access t = sets t place (cut_agent (agent_at t place)) (λ h. (none, none, refl))
   registers orb_pointer place access t = by access.is_write
     where
       a : Agent
@@ -209,13 +269,13 @@ module _ (Q : Option ℕ → Type 0) (none : Q None) where
   gets_by None wire serial t = requests_got (access_at wire serial) (id_for wire 0 (unwrap_or (sender_in (wire.sent serial)) 0)) t
 
   resets_by : (b : Bool) (t : Target) → Goes t (reset_seen b t)
-  resets_by true t = record { pushes = refl; agents = λ h. map_all cut_agent t.agents (λ a k. (none, none)) h; manages = λ h. none }
+  resets_by true t = record { pushes = refl; agents = λ h. map_all cut_agent t.agents (λ a k. (none, none, refl)) h; manages = λ h. none }
   resets_by false t = self t
 
   enters_by : (place : Option ℕ) (decided : Option Decided) (id : ℕ) (t : Target) → Goes t (enters_in place decided id t)
   enters_by None decided id t = self t
   enters_by (Some place) None id t = self t
-  enters_by (Some place) (Some decided) id t = record { pushes = refl; agents = λ h. set_all t.agents place new_agent (none, none) h; manages = λ h. h }
+  enters_by (Some place) (Some decided) id t = record { pushes = refl; agents = λ h. set_all t.agents place new_agent (none, none, refl) h; manages = λ h. h }
 
   keys : (event : Option Event) (unit : ℕ) (t : Target) → Goes t (key_by event unit t)
   keys None unit t = self t
@@ -283,8 +343,8 @@ module _ (Q : Option ℕ → Type 0) (none : Q None) where
   sends is_write serial a q h = by (wants a.asks is_write) (wants a.asks_ahead is_write)
     where
       by : (x y : Bool) → Kept (cond x (record a { main = Some serial; asks = Nothing }) (cond y (record a { ahead = Some serial; asks_ahead = Nothing }) a))
-      by true y = (q, h.1)
-      by false true = (h.0, q)
+      by true y = (q, h.1, h.2)
+      by false true = (h.0, q, refl)
       by false false = h
 
   sends_for : (place : Option ℕ) (is_write : Bool) (serial : ℕ) (t : Target) → Sends serial t (sent_for place is_write serial t)

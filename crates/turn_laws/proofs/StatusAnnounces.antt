@@ -11,7 +11,9 @@ use Rattle.label_table.specs.History as wire
 use Rattle.label_table.specs.History.{is_same, not_begun}
 use Rattle.label_table.specs.Layer.{Layer, asking_step}
 use Rattle.label_table.specs.declared.judgement.Asked.{Asked}
+use Rattle.label_table.specs.declared.place.LabelState.TheVariants as states
 use Rattle.label_table.specs.declared.reply.ReplyKind.{ReplyKind}
+use Rattle.label_table.specs.declared.reply.ReplyKind.TheVariants as kinds
 use Rattle.login_table.specs.declared.login.Login.{Login}
 use Rattle.media_bay.specs.Unsolicited.{block}
 use Rattle.orb_layout.specs.Replies.{Answer}
@@ -29,8 +31,10 @@ use Rattle.sbp_target.specs.declared.purpose.Purpose.{Purpose}
 use Rattle.sbp_target.specs.declared.purpose.Purpose.TheVariants as purposes
 use Rattle.sbp_target.proofs.Histories.Primitives.{Known, asks_known, began_at, began_off, live_on, none_known}
 use Rattle.sbp_target.proofs.Histories.Seats.{Lives, OffOne, same_is, split}
+use Rattle.sbp_world.proofs.Agents.CrewSeats.{state_of}
+use Rattle.turn_laws.proofs.StatusKinds.{WaitsToWrite, write_waits}
 use Rattle.turn_laws.proofs.StatusOnce.{Distinct, distinct_more, keeps_pending, more_pending, self_pending}
-use Rattle.turn_laws.proofs.StatusStays.{IsStatus, Seated, Still, desk_set, follows, life_stays, none_some, not_under}
+use Rattle.turn_laws.proofs.StatusStays.{IsLive, IsStatus, Seated, Still, desk_set, follows, life_stays, live_began, none_some, not_under, same_life}
 use Rattle.sbp_world.proofs.Common.{untrue}
 
 module _ (old : Lives) (first : List ℕ) where
@@ -53,6 +57,8 @@ module _ (old : Lives) (first : List ℕ) where
     pub grows : (peer : ℕ) → is_pending peer first ≡ true → is_pending peer node.pending ≡ true
     pub sent : (peer : ℕ) → is_pending peer node.pending ≡ true → (is_pending peer first ≡ true) ⊎ HasNew lives peer
     pub once : Distinct first → Distinct node.pending
+    pub goes : (peer : ℕ) (label : LabelParts) → IsLive (old peer label) → IsLive (lives peer label)
+    pub apart : (peer : ℕ) (label : LabelParts) (kind : ReplyKind) → IsStatus lives peer label kind → IsStatus old peer label kind ⊎ ((IsLive (old peer label) → ⊥) × (kind ≡ kinds.Write))
 
   pub still_announced : (node : NodeState) → Still old first node → Announced node
   still_announced node h = record {
@@ -64,10 +70,15 @@ module _ (old : Lives) (first : List ℕ) where
     grows = λ p e. ap (is_pending p) h.pending ∙ e;
     sent = λ p e. inl (sym (ap (is_pending p) h.pending) ∙ e);
     once = λ d. subst Distinct (sym h.pending) d;
+    goes = h.lines.goes;
+    apart = λ p l kind s. inl (h.lines.before p l kind s);
   }
 
   -- ---- one is sent to a node
-  module _ (place peer : ℕ) (s : Scene) (body : Body) (idle : is_pending peer s.node.pending ≡ false) (a : Announced s.node) where
+  module _ (place peer : ℕ) (s : Scene) (fifo : ℕ) (payload : List ℕ) (idle : is_pending peer s.node.pending ≡ false) (a : Announced s.node) where
+    abbrev body : Body
+    body = block_write fifo payload
+
     idle_first : is_pending peer first ≡ false
     idle_first = by (is_pending peer first) refl
       where
@@ -112,6 +123,12 @@ module _ (old : Lives) (first : List ℕ) where
           (λ same. inl (old_only p (same_is peer label p m same).peer (a.new p l kind (earlier p l kind other h))))
           (λ neither. a.one p l m kind that (earlier p l kind other h) (earlier p m that neither i)))
 
+      apart_then : ((kind : ReplyKind) → IsStatus now peer label kind → kind ≡ kinds.Write) → (p : ℕ) (l : LabelParts) (kind : ReplyKind) → IsStatus now p l kind → IsStatus old p l kind ⊎ ((IsLive (old p l) → ⊥) × (kind ≡ kinds.Write))
+      apart_then writes p l kind h =
+          split (is_same peer label p l) (IsStatus old p l kind ⊎ ((IsLive (old p l) → ⊥) × (kind ≡ kinds.Write)))
+          (λ same. inr ((λ live. let x = a.goes p l live in not_under (sym fresh ∙ (same_life a.lives peer label p l same ∙ x.is))), writes kind (same_life now peer label p l same ∙ h)))
+          (λ other. a.apart p l kind (earlier p l kind other h))
+
       has_later : (p : ℕ) → (is_pending p first ≡ true) ⊎ HasNew a.lives p → (is_pending p first ≡ true) ⊎ HasNew now p
       has_later p (inl e) = inl e
       has_later p (inr n) = inr (record { label = n.label; kind = n.kind; is = lasts p n.label n.kind n.is; fresh = n.fresh })
@@ -124,6 +141,13 @@ module _ (old : Lives) (first : List ℕ) where
             by (inl f) = has_later p (a.sent p f)
             by (inr f) = inr (subst (HasNew now) (sym f) (record { label = label; kind = kind; is = is; fresh = λ k h. not_under (sym fresh ∙ a.stays peer label k h) }))
 
+    -- the new one is a write
+    same_kinds : (kind other : ReplyKind) (call one : ℕ) → states.UnderWay kind call ≡ states.UnderWay other one → kind ≡ other
+    same_kinds kind other call one e = cc
+
+    writes : (now : Lives) (asked : Asked) (layer : Layer Purpose) → Known layer now → WaitsToWrite layer peer asked.label.number → (kind : ReplyKind) → IsStatus now peer asked.label kind → kind ≡ kinds.Write
+    writes now asked layer known w kind h = same_kinds kind kinds.Write asked.label.serial w.call (sym (state_of layer now peer asked.label kind (Some purposes.Unsolicited) known h) ∙ w.state)
+
     told_out : (r : Option Asked × Layer Purpose) → asking_step s.node.layer peer body purposes.Unsolicited ≡ r → Announced (unsolicited_by place peer s.node (sent_by r s.outbox peer)).node
     told_out (None, layer) e = record {
       lives = a.lives;
@@ -134,6 +158,8 @@ module _ (old : Lives) (first : List ℕ) where
       grows = a.grows;
       sent = a.sent;
       once = a.once;
+      goes = a.goes;
+      apart = a.apart;
     }
     told_out (Some asked, layer) e =
         let b = asks_known s.node.layer layer a.lives peer body purposes.Unsolicited asked a.known e in
@@ -148,6 +174,8 @@ module _ (old : Lives) (first : List ℕ) where
           grows = λ p h. keeps_pending p peer s.node.pending (a.grows p h);
           sent = sent_then now asked.label off b.fresh b.kind (began_at peer asked.label b.kind purposes.Unsolicited a.lives);
           once = λ d. distinct_more s.node.pending peer idle (a.once d);
+          goes = λ p l h. live_began (is_same peer asked.label p l) b.kind purposes.Unsolicited (a.lives p l) (a.goes p l h);
+          apart = apart_then now asked.label off b.fresh (writes now asked layer b.known (write_waits s.node.layer layer peer fifo payload purposes.Unsolicited asked e));
         }
 
   announces_to : (place : ℕ) (login : Login) (s : Scene) → Announced s.node → Announced (announce_to place login s).node
@@ -156,7 +184,7 @@ module _ (old : Lives) (first : List ℕ) where
     where
       by : (b : Bool) → is_pending login.node s.node.pending ≡ b → Announced (cond b (scene s.node (with_side s.outbox (sides.Unsent place))) (unsolicited_by place login.node s.node (request_step s.node.layer s.outbox login.node (block_write login.fifo block) purposes.Unsolicited))).node
       by true e = a
-      by false e = told_out place login.node s (block_write login.fifo block) e a (asking_step s.node.layer login.node (block_write login.fifo block) purposes.Unsolicited) refl
+      by false e = told_out place login.node s login.fifo block e a (asking_step s.node.layer login.node (block_write login.fifo block) purposes.Unsolicited) refl
 
   choose : (b : Bool) (x y : Scene) → Announced x.node → Announced y.node → Announced (cond b x y).node
   choose true x y h k = h

@@ -195,7 +195,7 @@ module _ (node : NodeState) (g : Good node) where
   ended_seat lives f place = let s = seat_of place in (λ x e kind h. s.0 x e kind (f x.peer x.label kind h), λ x e kind h. s.1 x e kind (f x.peer x.label kind h))
 
   self_lines : (lives : Lives) (layer : Layer Purpose) → Known layer lives → Lines lives layer
-  self_lines lives layer k = record { lives = lives; known = k; stays = λ p l kind h. h; before = λ p l kind h. h }
+  self_lines lives layer k = record { lives = lives; known = k; stays = λ p l kind h. h; before = λ p l kind h. h; goes = λ p l h. h }
 
   pub starts_still : (lives : Lives) (layer : Layer Purpose) → Known layer lives → ((peer : ℕ) (label : LabelParts) (kind : ReplyKind) → IsStatus lives peer label kind → IsStatus g.lives peer label kind) → Still lives node.pending (record node { layer = layer })
   starts_still lives layer k f = record { lines = self_lines lives layer k; seated = ended_seat lives f; pending = refl }

@@ -1,5 +1,5 @@
 -- The list of the nodes to which an unsolicited status is under way: each stands in it once at most, so it is gone from it behind one answer.
-use Rattle.std.proofs.Common.{arith, ◌≡◌, ◌∙◌, refl, sym, ap, inl, inr, ◌⊎◌, ℕ, suc, ◌+◌, ◌==◌, ◌||◌, not, nat_eq, nat_lt, Bool, true, false, cond, List, [], ◌∷◌, ◌++◌, length, position, Some, None}
+use Rattle.std.proofs.Common.{arith, ◌≡◌, ◌∙◌, refl, sym, ap, subst, inl, inr, ◌⊎◌, ℕ, suc, ◌+◌, ◌==◌, ◌||◌, not, nat_eq, nat_lt, Bool, true, false, cond, List, [], ◌∷◌, ◌++◌, length, position, Some, None}
 use Rattle.std.specs.List.{position_or_len}
 use Rattle.std.proofs.lemmas.Bool.Decides.{nat_tests}
 use Rattle.std.proofs.lemmas.Bool.{or_parts}
@@ -91,3 +91,20 @@ out_others p q (x ∷ xs) f = by (out_others p q xs f) (nat_eq p x) refl
         let other : nat_eq q x ≡ false = grind (arith, nat_tests) in
         ap (is_pending q) (out_first p x xs e) ∙ sym (ap (λ b. b || is_pending q xs) other)
     by more false e = ap (is_pending q) (out_later p x xs e) ∙ ap (λ b. (q == x) || b) more
+
+pub out_none : (p : ℕ) (xs : List ℕ) → Distinct xs → is_pending p (removed (position (is_node p) xs) xs) ≡ false
+out_none p [] d = refl
+out_none p (x ∷ xs) d = by (out_none p xs d.1) (nat_eq p x) refl
+  where
+    by : is_pending p (Out p xs) ≡ false → (b : Bool) → nat_eq p x ≡ b → is_pending p (Out p (x ∷ xs)) ≡ false
+    by more true e = let same : p ≡ x = grind (arith, nat_tests) in ap (is_pending p) (out_first p x xs e) ∙ (ap (λ n. is_pending n xs) same ∙ d.0)
+    by more false e = ap (is_pending p) (out_later p x xs e) ∙ (ap (λ b. b || is_pending p (Out p xs)) e ∙ more)
+
+pub distinct_out : (p : ℕ) (xs : List ℕ) → Distinct xs → Distinct (removed (position (is_node p) xs) xs)
+distinct_out p [] d = tt
+distinct_out p (x ∷ xs) d = by (distinct_out p xs d.1) (nat_eq p x) refl
+  where
+    by : Distinct (Out p xs) → (b : Bool) → nat_eq p x ≡ b → Distinct (Out p (x ∷ xs))
+    by more true e = subst Distinct (sym (out_first p x xs e)) d.1
+    by more false e =
+        let other : nat_eq x p ≡ false = grind (arith, nat_tests) in subst Distinct (sym (out_later p x xs e)) (out_others p x xs other ∙ d.0, more)

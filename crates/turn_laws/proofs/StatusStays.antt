@@ -57,6 +57,20 @@ manager_no e = cc
 pub not_under : {kind : ReplyKind} {purpose : Option Purpose} → not_begun ≡ under_way kind purpose → ⊥
 not_under e = cc
 
+-- what is under way, whoever it is for
+pub record IsLive (life : Life Purpose) : Type 0 where
+  pub kind : ReplyKind
+  pub purpose : Option Purpose
+  pub is : life ≡ under_way kind purpose
+
+pub live_left : (b : Bool) (life : Life Purpose) → IsLive life → IsLive (cond b (for_nobody life) life)
+live_left true life h = record { kind = h.kind; purpose = None; is = ap for_nobody h.is }
+live_left false life h = h
+
+pub live_began : (b : Bool) (kind : ReplyKind) (purpose : Purpose) (life : Life Purpose) → IsLive life → IsLive (cond b (under_way kind (Some purpose)) life)
+live_began true kind purpose life h = record { kind = kind; purpose = Some purpose; is = refl }
+live_began false kind purpose life h = h
+
 pub left_if : (b : Bool) (kind : ReplyKind) (life : Life Purpose) → cond b (for_nobody life) life ≡ under_way kind (Some purposes.Unsolicited) → life ≡ under_way kind (Some purposes.Unsolicited)
 left_if true kind life e = absurd (nobody_is life purposes.Unsolicited kind e)
 left_if false kind life e = e
@@ -98,6 +112,7 @@ module _ (old : Lives) where
     pub known : Known layer lives
     pub stays : (peer : ℕ) (label : LabelParts) (kind : ReplyKind) → IsStatus old peer label kind → IsStatus lives peer label kind
     pub before : (peer : ℕ) (label : LabelParts) (kind : ReplyKind) → IsStatus lives peer label kind → IsStatus old peer label kind
+    pub goes : (peer : ℕ) (label : LabelParts) → IsLive (old peer label) → IsLive (lives peer label)
 
   lines_disown : (sent : Option Sent) → ((x : Sent) → sent ≡ Some x → IsOther x) → (layer : Layer Purpose) → Lines layer → Lines (disowned sent layer)
   lines_disown None o layer f = f
@@ -112,6 +127,7 @@ module _ (old : Lives) where
             (λ same. absurd (o x refl kind (same_life old x.peer x.label p l same ∙ s)))
             (λ other. off.off p l other ∙ f.stays p l kind s);
         before = λ p l kind h. f.before p l kind (left_if (is_same x.peer x.label p l) kind (f.lives p l) h);
+        goes = λ p l h. live_left (is_same x.peer x.label p l) (f.lives p l) (f.goes p l h);
       }
 
   lines_ask : (layer : Layer Purpose) (peer : ℕ) (body : Body) (purpose : Purpose) (r : Option Asked × Layer Purpose) → purpose ≢ purposes.Unsolicited → asking_step layer peer body purpose ≡ r → Lines layer → Lines r.1
@@ -123,9 +139,10 @@ module _ (old : Lives) where
         known = b.known;
         stays = λ p l kind s. life_stays f.lives new peer asked.label (began_off peer asked.label b.kind purpose f.lives) b.fresh p l kind (f.stays p l kind s);
         before = λ p l kind h. f.before p l kind (began_if (is_same peer asked.label p l) b.kind kind purpose (f.lives p l) n h);
+        goes = λ p l h. live_began (is_same peer asked.label p l) b.kind purpose (f.lives p l) (f.goes p l h);
       }
   lines_ask layer peer body purpose (None, now) n e f =
-      record { lives = f.lives; known = none_known layer now f.lives peer body purpose f.known e; stays = f.stays; before = f.before }
+      record { lives = f.lives; known = none_known layer now f.lives peer body purpose f.known e; stays = f.stays; before = f.before; goes = f.goes }
 
   -- what begins is another transaction
   fresh_other : (layer : Layer Purpose) (peer : ℕ) (body : Body) (purpose : Purpose) (asked : Asked) (now : Layer Purpose) → asking_step layer peer body purpose ≡ (Some asked, now) → Lines layer → IsOther (sent_to peer asked.label)
@@ -134,7 +151,7 @@ module _ (old : Lives) where
 
   pub lines_answer : (layer : Layer Purpose) (p : Packet) (bytes : List ℕ) (rcode : ℕ) (given : List ℕ) → Lines layer → Lines (answering_step layer p bytes rcode given).1
   lines_answer layer p bytes rcode given f =
-      record { lives = f.lives; known = answer_known layer f.lives p bytes rcode given f.known; stays = f.stays; before = f.before }
+      record { lives = f.lives; known = answer_known layer f.lives p bytes rcode given f.known; stays = f.stays; before = f.before; goes = f.goes }
 
   -- ---- the node: what its desks wait for is no unsolicited status
   abbrev pub Seated : Desk → Type 0

@@ -2,9 +2,7 @@
 use Rattle.turn_laws.specs.Together.{TurnsLaw}
 use Rattle.turn_laws.proofs.ActRequests.{act_requests_law}
 use Rattle.turn_laws.proofs.Actions.{actions_law}
-use Rattle.turn_laws.proofs.Alone.{alone_law}
 use Rattle.turn_laws.proofs.Aborts.{aborts_law}
-use Rattle.turn_laws.proofs.Announcing.{announced_law}
 use Rattle.turn_laws.proofs.AnswerRuns.{answered_law}
 use Rattle.turn_laws.proofs.Cleared.{cleared_law}
 use Rattle.turn_laws.proofs.Codes.{codes_law}
@@ -17,6 +15,7 @@ use Rattle.turn_laws.proofs.Ends.{ends_law}
 use Rattle.turn_laws.proofs.Faults.{faults_law}
 use Rattle.turn_laws.proofs.Judgements.{judgement_run_law}
 use Rattle.turn_laws.proofs.LoginRuns.{login_run_law}
+use Rattle.turn_laws.proofs.Pushes.{pushes_law}
 use Rattle.turn_laws.proofs.Once.{once_law}
 use Rattle.turn_laws.proofs.OrderRuns.{ordered_law}
 use Rattle.turn_laws.proofs.RunEnds.{runs_end_law}
@@ -49,9 +48,8 @@ turns_law = record {
     decided = decided_law.after_lines line run is some most size;
     failures = failures_law.after_lines line run is some most size;
     failing = failing_law.after_lines line run is some most size;
-    announced = announced_law.after_lines line run is some most size;
-    alone = alone_law.after_lines line run is some most size;
     runs_end = runs_end_law.after_lines line run is some most size;
+    pushes = pushes_law.after_lines line run is some most size;
   };
   between = λ line run is some most size next deliveries told may. record {
     judgement = judgement_run_law.between line run is some most size next deliveries told may;
@@ -75,8 +73,7 @@ turns_law = record {
     decided = decided_law.between line run is some most size next deliveries told may;
     failures = failures_law.between line run is some most size next deliveries told may;
     failing = failing_law.between line run is some most size next deliveries told may;
-    announced = announced_law.between line run is some most size next deliveries told may;
-    alone = alone_law.between line run is some most size next deliveries told may;
     runs_end = runs_end_law.between line run is some most size next deliveries told may;
+    pushes = pushes_law.between line run is some most size next deliveries told may;
   };
 }

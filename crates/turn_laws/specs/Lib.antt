@@ -3,6 +3,7 @@ pub mod Cleared
 pub mod Cuts
 pub mod Alone
 pub mod Announced
+pub mod Pushes
 pub mod Faults
 pub mod Ends
 pub mod Once

@@ -14,8 +14,6 @@ use Rattle.sbp_laws.specs.SentWrites.{StatusesAreSent}
 use Rattle.sbp_laws.specs.Turns.{EachMoment, EachTurn}
 use Rattle.turn_laws.specs.ActRequests.{ActsByRequests}
 use Rattle.turn_laws.specs.Actions.{ActsByRows}
-use Rattle.turn_laws.specs.Alone.{PushesAlone}
-use Rattle.turn_laws.specs.Announced.{AnnouncesWhereDue}
 use Rattle.turn_laws.specs.Cleared.{ClearsWhereDue}
 use Rattle.turn_laws.specs.Codes.{EndsWithCodes}
 use Rattle.turn_laws.specs.Cuts.{CutsWhereDue}
@@ -25,6 +23,7 @@ use Rattle.turn_laws.specs.Failures.{FailsWhereDue}
 use Rattle.turn_laws.specs.Ends.{EndsWhereDue}
 use Rattle.turn_laws.specs.Faults.{DiesBeforeFaults}
 use Rattle.turn_laws.specs.Once.{DiesOnce}
+use Rattle.turn_laws.specs.Pushes.{PushesWhereDue}
 use Rattle.turn_laws.specs.Runs.{OfEveryRun}
 use Rattle.turn_laws.specs.Silent.{EndsHeard}
 use Rattle.turn_laws.specs.Unserved.{UnservedWhereTold}
@@ -51,9 +50,8 @@ pub record LawfulInTurns (start : List Disk) (past : List Moment) : Type 0 where
   pub decided : EachTurn (DecisionStands start) past
   pub failures : EachTurn (FailsWhereDue start) past
   pub failing : EachTurn (FailsByRows start) past
-  pub announced : EachTurn (AnnouncesWhereDue start) past
-  pub alone : EachTurn (PushesAlone start) past
   pub runs_end : EachTurn (EndsAsRead start) past
+  pub pushes : EachTurn (PushesWhereDue start) past
 
 abbrev pub TurnsLaw : Type 0
 TurnsLaw = OfEveryRun LawfulInTurns

@@ -21,6 +21,7 @@ ghost use Rattle.turn_laws.specs.Operations.{NoneEndsLaw};
 ghost use Rattle.turn_laws.specs.Ordered.{OrderedLaw};
 ghost use Rattle.turn_laws.specs.Packets.{PacketsLaw};
 ghost use Rattle.turn_laws.specs.RunsEnd.{RunsEndLaw};
+ghost use Rattle.turn_laws.specs.Pushes.{PushesLaw};
 ghost use Rattle.turn_laws.specs.Silent.{SilentLaw};
 ghost use Rattle.turn_laws.specs.Statuses.{StatusesLaw};
 ghost use Rattle.turn_laws.specs.UnderWay.{TargetWaitsLaw};
@@ -182,6 +183,14 @@ pub fn discs_are_announced_where_due()
 #[tactic(auto, using(crate::proofs::Alone::alone_law))]
 pub fn unsolicited_statuses_go_alone()
     ensures { AloneLaw }
+{}
+
+/// In every run, whatever anybody injected, each login that hears of a disc has `unsolicited` where the write finds a
+/// label to its initiator and no earlier one to it is pending, and else `unsent`; no other turn has such a note:
+/// `pushes` of the media law.
+#[tactic(auto, using(crate::proofs::Pushes::pushes_law))]
+pub fn unsolicited_statuses_stand_where_due()
+    ensures { PushesLaw }
 {}
 
 /// In each turn of every run, whatever anybody injected, a failure of the management operation is told exactly
