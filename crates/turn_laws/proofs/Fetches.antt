@@ -477,7 +477,7 @@ module _ (start : List Disk) where
       let n = (terms past).count in
       let above : n < serial = omega (arith, e) in
       let k = counted start past c in
-      (takes_on (Apart serial) refl None t.reply t).agents (λ q. (apart_of n serial (agent_at t q).main above (k.agents q).0, apart_of n serial (agent_at t q).ahead above (k.agents q).1))
+      (takes_on (Apart serial) refl None t.reply t).agents (λ q. (apart_of n serial (agent_at t q).main above (k.agents q).0, apart_of n serial (agent_at t q).ahead above (k.agents q).1, (k.agents q).2))
 
   on_note : (note : Note) (past : List Moment) → SerialsCount (said note ∷ past) → Is past → Is (said note ∷ past)
   on_note (notes.Got serial) past c h =
