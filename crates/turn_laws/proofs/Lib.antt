@@ -148,4 +148,5 @@ pub mod ActBodies
 pub mod ActTies
 pub mod Actions
 pub mod ActRequests
+pub mod ActEntries
 pub mod Together

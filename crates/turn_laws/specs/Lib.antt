@@ -25,4 +25,5 @@ pub mod Answers
 pub mod UnderWay
 pub mod Actions
 pub mod ActRequests
+pub mod ActEntries
 pub mod Together
