@@ -7,7 +7,7 @@ use Rattle.bus_transactions.proofs.Reaches.{goes_on}
 use Rattle.orb_list.specs.declared.list.PresentList.{PresentList}
 use Rattle.rbc_disk.specs.Disk.{Disk}
 use Rattle.sbp_initiator.proofs.Histories.Effects.{HasMarks}
-use Rattle.sbp_initiator.specs.Acting.{act_step, asked_for, demand_of, facts_with}
+use Rattle.sbp_initiator.specs.Acting.{act_step, asked_for, demand_of, facts_with, manage_demand}
 use Rattle.sbp_initiator.specs.Refusals.{needs_rom, prepares, rings, rows_of}
 use Rattle.sbp_initiator.specs.Refusing.{finds_label}
 use Rattle.sbp_initiator.specs.States.{is_list, wanted_body}
@@ -42,7 +42,8 @@ use Rattle.sbp_world.proofs.Hosts.Shows.{shown_now}
 use Rattle.sbp_world.proofs.Pointers.Guarded.{Guarded}
 use Rattle.sbp_world.proofs.Wire.Holding.{TargetOf}
 use Rattle.sbp_world.proofs.Wire.Starts.{laws_of}
-use Rattle.turn_laws.proofs.ActBodies.{bodies, body_in, label_row}
+use Rattle.turn_laws.specs.ActRequests.{managed_body}
+use Rattle.turn_laws.proofs.ActBodies.{bodies, body_in, label_row, managed_is}
 use Rattle.turn_laws.proofs.ActRows.{Tied, refuses_as, refuses_but, refuses_own}
 use Rattle.turn_laws.proofs.Places.{Place}
 
@@ -136,3 +137,7 @@ module _ (units ready : ℕ) (start : List Disk) (past : List Moment) (s : Scene
   pub asked_bodies : (action : Action) → (manages (operation_of action) ≡ true → Offset) → NoRow (rows_of action (facts_with (finds_label action old) old action)) → action_body action ms i (host_at ms i) ≡ body_in (demand_of action old)
   asked_bodies action offset none =
       bodies ms i old (here.hosts i inside) (here.cores i inside) (here.holding i inside) marks first action (finds_label action old) offset none
+
+  -- one with a management ORB writes its address somewhere
+  pub managed_bodies : Some (managed_body (unwrap_or old.management 0) ms i) ≡ body_in (Some (manage_demand old))
+  managed_bodies = managed_is ms i old (here.hosts i inside) (here.cores i inside) (here.holding i inside) marks first (unwrap_or old.management 0) refl

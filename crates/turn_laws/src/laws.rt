@@ -218,11 +218,11 @@ pub fn actions_are_done_or_refused()
     ensures { ActionsLaw }
 {}
 
-/// In each turn of every run that begins with an action of an initiator that has no management ORB, whatever anybody
-/// injected, exactly the request is sent that the action asks for, if it is done and asks for one: a read of the ROM
-/// or of AGENT_STATE, a write of AGENT_RESET, of UNSOLICITED_STATUS_ENABLE, of ORB_POINTER with the address of the
-/// first ORB of the list, or of DOORBELL with the running number, with the lowest label that serves it. So much of
-/// `requests` of the sent law.
+/// In each turn of every run that begins with an action of an initiator, whatever anybody injected, exactly the
+/// request is sent that the action asks for, if it is done and asks for one: a read of the ROM or of AGENT_STATE, a
+/// write of AGENT_RESET, of UNSOLICITED_STATUS_ENABLE, of ORB_POINTER with the address of the first ORB of the list,
+/// of DOORBELL with the running number, or of the address of its management ORB, with the lowest label that serves
+/// it. Where this last one goes is not said. So much of `requests` of the sent law.
 #[tactic(auto, using(crate::proofs::ActRequests::act_requests_law))]
 pub fn actions_send_their_requests()
     ensures { ActRequestsLaw }
