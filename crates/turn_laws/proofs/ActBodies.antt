@@ -134,15 +134,19 @@ module _ (past : List Moment) (i : ℕ) (s : InitiatorState) (own : IsHost past 
   rings_any None e live f = rung_first e live (lowest s.lists.slots.slots) refl f
   rings_any (Some list) e live f = rung_by list e live host.pointer refl
 
+  -- the address of the ORB in the next place of management
+  pub managed_is : (offset : ℕ) → unwrap_or s.management 0 ≡ offset → Some (block_write offset (address_bytes (start (windows.Management (host.writes % 2))))) ≡ body_in (Some (manage_demand s))
+  managed_is offset e =
+      ap (λ n. Some (block_write n (address_bytes (start (windows.Management (host.writes % 2)))))) (sym e)
+      ∙ ap (λ n. Some (block_write (unwrap_or s.management 0) (address_bytes (start (windows.Management (n % 2)))))) (ap (λ (c : Core). c.writes) core)
+      ∙ ap (λ bytes. Some (block_write (unwrap_or s.management 0) bytes)) (eight (start (windows.Management (s.counts.managed % 2))))
+
   -- where MANAGEMENT_AGENT is known
   abbrev pub Offset : Type 0
   Offset = management_offset (host_at past i).management ≡ unwrap_or s.management 0
 
   writes_it : Offset → Some (management_body host) ≡ body_in (Some (manage_demand s))
-  writes_it offset =
-      ap (λ n. Some (block_write n (address_bytes (start (windows.Management (host.writes % 2)))))) offset
-      ∙ ap (λ n. Some (block_write (unwrap_or s.management 0) (address_bytes (start (windows.Management (n % 2)))))) (ap (λ (c : Core). c.writes) core)
-      ∙ ap (λ bytes. Some (block_write (unwrap_or s.management 0) bytes)) (eight (start (windows.Management (s.counts.managed % 2))))
+  writes_it offset = managed_is (management_offset host.management) (sym offset)
 
   pub bodies : (action : Action) (has_label : Bool) → (manages (operation_of action) ≡ true → Offset) → NoRow (rows_of action (facts_with has_label s action)) → action_body action past i host ≡ body_in (demand_of action s)
   bodies actions.Rom b f n = refl

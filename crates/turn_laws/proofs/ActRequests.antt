@@ -1,5 +1,5 @@
 -- The requests of the actions of every run.
-use Rattle.std.proofs.Common.{arith, ◌≡◌, ◌∙◌, refl, sym, ap, subst, ℕ, zero, suc, ◌+◌, ◌<◌, ◌≤◌, not, Bool, true, false, List, [], ◌∷◌, ◌++◌, length, Option, Some, None, inl, inr}
+use Rattle.std.proofs.Common.{arith, ◌≡◌, ◌∙◌, refl, sym, ap, subst, ℕ, zero, suc, ◌+◌, ◌<◌, ◌≤◌, not, unwrap_or, Bool, true, false, List, [], ◌∷◌, ◌++◌, length, Option, Some, None, inl, inr}
 use Rattle.async_packet.specs.Canon.{IsValid, canon}
 use Rattle.bus_transactions.specs.Wire.{id_for}
 use Rattle.bus_transactions.proofs.Fits.{request_fits}
@@ -11,7 +11,7 @@ use Rattle.packet_store.specs.Stored.{Stored}
 use Rattle.rbc_disk.specs.Disk.{Disk}
 use Rattle.sbp_bus.specs.Generations.{GenerationsState, node_of, topology_at}
 use Rattle.sbp_initiator.proofs.FirstRow.{refusal_law}
-use Rattle.sbp_initiator.specs.Acting.{act_step, asked_as, asked_for, demand_of, demanded_as, facts_with, judged_as}
+use Rattle.sbp_initiator.specs.Acting.{act_step, asked_as, asked_for, demand_of, demanded_as, facts_with, judged_as, manage_demand}
 use Rattle.sbp_initiator.specs.Effects.{Turn as Called}
 use Rattle.sbp_initiator.specs.Histories.Ends.{own}
 use Rattle.sbp_initiator.specs.Refusals.{refusal, rows_of}
@@ -50,11 +50,11 @@ use Rattle.sbp_world.proofs.Hosts.Knows.{target_there}
 use Rattle.sbp_world.proofs.Hosts.Requested.{all_told_bus, done_sends}
 use Rattle.sbp_world.proofs.Wire.Bus.{holds}
 use Rattle.sbp_world.proofs.Wire.Holding.{target_small, to_target}
-use Rattle.turn_laws.specs.ActRequests.{ActRequestsLaw, ActsByRequests, AsksOr}
+use Rattle.turn_laws.specs.ActRequests.{ActRequestsLaw, ActsByRequests, AsksManaged, AsksOr, managed_body}
 use Rattle.turn_laws.specs.Actions.{asks_more}
 use Rattle.turn_laws.proofs.ActBodies.{body_in}
 use Rattle.turn_laws.proofs.ActNotes.{effects_are, sends_are}
-use Rattle.turn_laws.proofs.ActTies.{asked_bodies, fits}
+use Rattle.turn_laws.proofs.ActTies.{asked_bodies, fits, managed_bodies}
 use Rattle.turn_laws.proofs.Actions.{none_asked, number_is, sides_are}
 use Rattle.turn_laws.proofs.Calls.{Brings, Cases, calls, injects, is_act, loses, refuses, refuses_action, resets, sets_key}
 use Rattle.turn_laws.proofs.Handed.{handed, notes_sent, packet_note}
@@ -96,6 +96,18 @@ module _ (action : Action) (s : InitiatorState) where
   goes_through : (act_step action empty_outbox s).0 ≡ None → NoRow (rows_of action (facts_with (finds_label action s) s action))
   unfolding refusal
   goes_through e = no_row (rows_of action (facts_with (finds_label action s) s action)) (sym (refusal_law.first action empty_outbox s) ∙ e)
+
+-- what an action with a management ORB asks for
+managed_demand : (action : Action) (s : InitiatorState) → manages (operation_of action) ≡ true → demand_of action s ≡ Some (manage_demand s)
+managed_demand (actions.Login unit reconnect exclusive password) s e = refl
+managed_demand (actions.Query unit) s e = refl
+managed_demand actions.Reconnect s e = refl
+managed_demand actions.Logout s e = refl
+managed_demand (actions.Abort orb) s e = refl
+managed_demand actions.AbortSet s e = refl
+managed_demand actions.UnitReset s e = refl
+managed_demand actions.TargetReset s e = refl
+managed_demand _ s e = untrue e
 
 -- what an action tells leaves the wire
 append_wire : (i n k : ℕ) (cmd : Cmd) (past : List Moment) → terms (once_told past (append_notes i n k cmd ++ [])) ≡ terms past
@@ -218,17 +230,25 @@ module _ (units ready : ℕ) (start : List Disk) where
       abbrev pub asking : Turn
       asking = turn ms (asked line (events.Act i action)) (handed (i + 1) weight outbox v)
 
-      pub packets_are : manages (operation_of action) ≡ false → ArePackets (before_requests start asking) (suc i) (behind_answer start asking) (requests_to 0 (action_body action ms i (host_at ms i)))
-      packets_are unmanaged =
+      packets_for : (found : Option Body) → found ≡ body_in (demand_of action old) → ArePackets (before_requests start asking) (suc i) (behind_answer start asking) (requests_to 0 found)
+      packets_for found bodies =
           let sides = sides_are units ready start past s here i inside action outbox state e in
           let rest = handed (i + 1) weight outbox v in
           let now = once_told asks (effects_of rest ++ []) in
           let before : terms now ≡ terms asks =
           ap (λ ns. terms (once_told asks (ns ++ []))) (effects_are ms i (i + 1) weight action outbox v sides) ∙ told_wire action ms i asks in
-          let bodies = asked_bodies units ready start past s here i inside action (λ f. untrue (sym unmanaged ∙ f)) (goes_through action old done) in
-          subst (λ found. ArePackets now (suc i) (sends_of rest) (requests_to 0 found)) (sym bodies)
+          subst (λ x. ArePackets now (suc i) (sends_of rest) (requests_to 0 x)) (sym bodies)
           (subst (λ ns. ArePackets now (suc i) ns (requests_to 0 (body_in (demand_of action old)))) (sym (sends_are ms i (i + 1) weight action outbox v sides))
           (sent_by now before (demand_of action old) refl made))
+
+      pub packets_are : manages (operation_of action) ≡ false → ArePackets (before_requests start asking) (suc i) (behind_answer start asking) (requests_to 0 (action_body action ms i (host_at ms i)))
+      packets_are unmanaged =
+          packets_for (action_body action ms i (host_at ms i)) (asked_bodies units ready start past s here i inside action (λ f. untrue (sym unmanaged ∙ f)) (goes_through action old done))
+
+      pub managed_are : manages (operation_of action) ≡ true
+          → ArePackets (before_requests start asking) (suc i) (behind_answer start asking) (requests_to 0 (Some (managed_body (unwrap_or old.management 0) ms i)))
+      managed_are managed =
+          packets_for (Some (managed_body (unwrap_or old.management 0) ms i)) (managed_bodies units ready start past s here i inside ∙ ap body_in (sym (managed_demand action old managed)))
 
       requests_are : asks_more action ≡ false → RequestsLaw start asking
       requests_are more not_silent =
@@ -256,16 +276,25 @@ module _ (units ready : ℕ) (start : List Disk) where
         by true e = tt
         by false e = f e
 
+    where_managed : (t : Turn) → (manages (operation_of action) ≡ true → AsksManaged start line i t) → Where (manages (operation_of action)) (AsksManaged start line i t)
+    where_managed t f = by (manages (operation_of action)) refl
+      where
+        by : (b : Bool) → manages (operation_of action) ≡ b → Where b (AsksManaged start line i t)
+        by true e = f e
+        by false e = tt
+
     pub does_ask : (outbox : OutboxState) (state : InitiatorState) → act_step action empty_outbox old ≡ (None, (outbox, state))
         → ActsByRequests start (turn ms (asked line (events.Act i action)) (handed (i + 1) (weight_in action) outbox (with_initiator i state (without_notes w))))
     does_ask outbox state e =
         let weight = weight_in action in
-        let t = asking weight outbox state e in
-        (where_unmanaged t (λ f. inr (packets_are weight outbox state e f)), where_known t (requests_are weight outbox state e))
+        let t = asking weight outbox state e in (
+          where_unmanaged t (λ f. inr (packets_are weight outbox state e f)),
+          (where_managed t (λ f. (unwrap_or old.management 0, inr (managed_are weight outbox state e f))), where_known t (requests_are weight outbox state e)),
+        )
 
     pub refuses_all : (number : ℕ) → (act_step action empty_outbox old).0 ≡ Some number → ActsByRequests start (turn ms (asked line (events.Act i action)) (refused line number))
     refuses_all number e =
-        let t = turn ms (asked line (events.Act i action)) (refused line number) in (where_unmanaged t (λ f. inl (number, refl)), where_known t (refused_requests number e))
+        let t = turn ms (asked line (events.Act i action)) (refused line number) in (where_unmanaged t (λ f. inl (number, refl)), (where_managed t (λ f. (0, inl (number, refl))), where_known t (refused_requests number e)))
 
   no_action : (past : List Moment) (line : ℕ) (event : Event) (rest : List Note) → is_act event ≡ false → ActsByRequests start (turn past (asked line event) rest)
   no_action past line (events.Act i action) rest e = untrue (sym e)

@@ -73,12 +73,10 @@ some_running None = refl
 some_running (Some underway) = refl
 
 -- ---- what the terms are tied to
-pub record Tied (past : List Moment) (i : ℕ) (s : InitiatorState) (action : Action) : Type 0 where
+pub record Tied (past : List Moment) (i : ℕ) (s : InitiatorState) : Type 0 where
   pub host : IsHost past i s
   pub core : host_core (host_at past i) ≡ own_core s
   pub points : is_stuck (host_at past i).session ≡ false → is_pointing (terms past) (host_at past i).pointer ≡ points s.seat
-  -- of an action that asks for it: whether a ROM was read
-  pub rom : own_rows.needs_rom action ≡ true → is_none (host_at past i).management ≡ not (is_some s.management)
 
 same_where : (b x y : Bool) → (b ≡ true → x ≡ y) → (b && x) ≡ (b && y)
 same_where true x y f = f refl
@@ -113,7 +111,7 @@ refused_same r q a b c d h e l = by r.stuck refl
         rows_same r z a b (d f) (record { mid_link = h.mid_link; not_linking = h.not_linking; no_orb = h.no_orb; no_slot = h.no_slot }) (record { no_rom = c; dead_seen = e }) refl
         ∙ last_row q r.no_label l
 
-module _ (past : List Moment) (i : ℕ) (s : InitiatorState) (action : Action) (tied : Tied past i s action) where
+module _ (past : List Moment) (i : ℕ) (s : InitiatorState) (tied : Tied past i s) (action : Action) where
   abbrev host : Host
   host = host_at past i
 
@@ -150,24 +148,37 @@ module _ (past : List Moment) (i : ℕ) (s : InitiatorState) (action : Action) (
         let h = tied.host in
         subst (λ j. HasRows (refusals past j action host) has) h.number (action_law.rows past s action host has_label (subst (λ j. AreRows past j s.lists.slots) (sym h.number) h.rows))
 
-    -- but for whether the list is dead
-    rows_but : (NoRow has → told.no_label ≡ has.no_label) → refusal_of (record told { dead_seen = has.dead_seen }) ≡ refusal_of has
-    rows_but l =
+    -- where the rows of the ROM and of a dead list are these, and that of its label is what it has or where no other holds
+    rows_with : (no_rom no_label : Bool) → no_rom ≡ has.no_rom → (NoRow has → no_label ≡ has.no_label) → refusal_of (record told { no_rom = no_rom; dead_seen = has.dead_seen; no_label = no_label }) ≡ refusal_of has
+    rows_with no_rom no_label e l =
         let h = lists_same in
-        refused_same (record told { dead_seen = has.dead_seen }) has (ap is_stuck session_is ∙ stuck_row s.seat) (ap (λ x. not (is_right_state action x)) session_is ∙ ap not (right_row action s.seat))
-        (ap (λ b. b && is_none host.management) (needs_same action) ∙ same_where (own_rows.needs_rom action) _ _ tied.rom)
+        refused_same (record told { no_rom = no_rom; dead_seen = has.dead_seen; no_label = no_label }) has (ap is_stuck session_is ∙ stuck_row s.seat)
+        (ap (λ x. not (is_right_state action x)) session_is ∙ ap not (right_row action s.seat)) e
         (waits_same session_is) (record { mid_link = h.mid_link; not_linking = h.not_linking; no_orb = h.no_orb; no_slot = h.no_slot }) refl l
 
-  module _ (o : OutboxState) (l : let found = finds_label action s in NoRow (has found) → (told found).no_label ≡ (has found).no_label) where
+  module _ (o : OutboxState) where
     abbrev found : Bool
     found = finds_label action s
 
-    pub refuses_but : refusal_of (record (told found) { dead_seen = (has found).dead_seen }) ≡ (act_step action o s).0
+    -- by its own rows of these
+    pub refuses_own : refusal_of (record (told found) { no_rom = (has found).no_rom; dead_seen = (has found).dead_seen; no_label = (has found).no_label }) ≡ (act_step action o s).0
     unfolding refusal
-    refuses_but = rows_but found l ∙ sym (refusal_law.first action o s)
+    refuses_own = rows_with found (has found).no_rom (has found).no_label refl (λ n. refl) ∙ sym (refusal_law.first action o s)
 
-    -- so an action is refused as the rows say
-    pub refuses_as : ((own_rows.prepares action || own_rows.rings action) ≡ true → host.marked_dead ≡ s.marks.is_dead) → refusal_at past i action ≡ (act_step action o s).0
-    refuses_as dead =
-        ap (λ b. refusal_of (record (told found) { dead_seen = b })) (ap (λ b. b && host.marked_dead) (cares_same action) ∙ same_where (own_rows.prepares action || own_rows.rings action) _ _ dead)
-        ∙ refuses_but
+    -- by the terms, where they are tied to what it has
+    module _ (l : NoRow (has found) → (told found).no_label ≡ (has found).no_label) (rom : own_rows.needs_rom action ≡ true → is_none host.management ≡ not (is_some s.management)) where
+      pub refuses_but : refusal_of (record (told found) { dead_seen = (has found).dead_seen }) ≡ (act_step action o s).0
+      unfolding refusal
+      refuses_but =
+          rows_with found (told found).no_rom (told found).no_label (ap (λ b. b && is_none host.management) (needs_same action) ∙ same_where (own_rows.needs_rom action) _ _ rom) l
+          ∙ sym (refusal_law.first action o s)
+
+      -- so an action is refused as the rows say
+      pub refuses_as : ((own_rows.prepares action || own_rows.rings action) ≡ true → host.marked_dead ≡ s.marks.is_dead) → refusal_at past i action ≡ (act_step action o s).0
+      refuses_as dead =
+          ap (λ b. refusal_of (record (told found) { dead_seen = b })) (ap (λ b. b && host.marked_dead) (cares_same action) ∙ same_where (own_rows.prepares action || own_rows.rings action) _ _ dead)
+          ∙ refuses_but
+
+-- what needs no ROM has no row of it
+pub none_needed : (past : List Moment) (i : ℕ) (host : Host) (action : Action) → own_rows.needs_rom action ≡ false → (refusals past i action host).no_rom ≡ false
+none_needed past i host action e = ap (λ b. b && is_none host.management) (needs_same action ∙ e)

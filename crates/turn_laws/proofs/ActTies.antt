@@ -7,14 +7,14 @@ use Rattle.bus_transactions.proofs.Reaches.{goes_on}
 use Rattle.orb_list.specs.declared.list.PresentList.{PresentList}
 use Rattle.rbc_disk.specs.Disk.{Disk}
 use Rattle.sbp_initiator.proofs.Histories.Effects.{HasMarks}
-use Rattle.sbp_initiator.specs.Acting.{act_step, asked_for, demand_of, facts_with}
+use Rattle.sbp_initiator.specs.Acting.{act_step, asked_for, demand_of, facts_with, manage_demand}
 use Rattle.sbp_initiator.specs.Refusals.{needs_rom, prepares, rings, rows_of}
 use Rattle.sbp_initiator.specs.Refusing.{finds_label}
 use Rattle.sbp_initiator.specs.States.{is_list, wanted_body}
 use Rattle.sbp_initiator.specs.declared.purpose.Demand.{Demand}
 use Rattle.sbp_initiator.specs.declared.state.InitiatorState.{InitiatorState}
 use Rattle.sbp_journal.specs.Outgoings.{OutboxState}
-use Rattle.sbp_journal.specs.Rows.{refusal_of}
+use Rattle.sbp_journal.specs.Rows.{Refusals, refusal_of}
 use Rattle.sbp_journal.specs.Run.{Moment}
 use Rattle.sbp_journal.specs.Transactions.{Kind, Transaction}
 use Rattle.sbp_journal.specs.Wire.{Terms, terms, waits}
@@ -42,8 +42,9 @@ use Rattle.sbp_world.proofs.Hosts.Shows.{shown_now}
 use Rattle.sbp_world.proofs.Pointers.Guarded.{Guarded}
 use Rattle.sbp_world.proofs.Wire.Holding.{TargetOf}
 use Rattle.sbp_world.proofs.Wire.Starts.{laws_of}
-use Rattle.turn_laws.proofs.ActBodies.{bodies, body_in, label_row}
-use Rattle.turn_laws.proofs.ActRows.{Tied, refuses_as, refuses_but}
+use Rattle.turn_laws.specs.ActRequests.{managed_body}
+use Rattle.turn_laws.proofs.ActBodies.{bodies, body_in, label_row, managed_is}
+use Rattle.turn_laws.proofs.ActRows.{Tied, refuses_as, refuses_but, refuses_own}
 use Rattle.turn_laws.proofs.Places.{Place}
 
 module _ (units ready : ℕ) (start : List Disk) (past : List Moment) (s : Scene) (here : Place units ready start past s) (i : ℕ) (inside : i < length s.world.initiators) where
@@ -109,20 +110,34 @@ module _ (units ready : ℕ) (start : List Disk) (past : List Moment) (s : Scene
   abbrev pub Dead : Type 0
   Dead = (host_at ms i).marked_dead ≡ old.marks.is_dead
 
-  module _ (action : Action) (o : OutboxState) (rom : needs_rom action ≡ true → Rom) (offset : manages (operation_of action) ≡ true → Offset) where
-    tied : Tied ms i old action
-    tied = record { host = here.hosts i inside; core = here.cores i inside; points = writes.points_while; rom = rom }
+  tied : Tied ms i old
+  tied = record { host = here.hosts i inside; core = here.cores i inside; points = writes.points_while }
 
-    labelled : NoRow (rows_of action (facts_with (finds_label action old) old action)) → (refusals ms i action (host_at ms i)).no_label ≡ (rows_of action (facts_with (finds_label action old) old action)).no_label
-    labelled = label_row ms i old (here.hosts i inside) (here.cores i inside) (here.holding i inside) marks first action (finds_label action old) offset (finds action)
+  module _ (action : Action) (o : OutboxState) where
+    abbrev pub told : Refusals
+    told = refusals ms i action (host_at ms i)
 
-    pub refused_by_rows : ((prepares action || rings action) ≡ true → Dead) → refusal_at ms i action ≡ (act_step action o old).0
-    refused_by_rows dead = refuses_as ms i old action tied o labelled dead
+    abbrev pub has : Refusals
+    has = rows_of action (facts_with (finds_label action old) old action)
 
-    pub refused_but_dead : refusal_of (record (refusals ms i action (host_at ms i)) { dead_seen = (rows_of action (facts_with (finds_label action old) old action)).dead_seen }) ≡ (act_step action o old).0
-    refused_but_dead = refuses_but ms i old action tied o labelled
+    pub refused_by_own : refusal_of (record told { no_rom = has.no_rom; dead_seen = has.dead_seen; no_label = has.no_label }) ≡ (act_step action o old).0
+    refused_by_own = refuses_own ms i old tied action o
+
+    module _ (rom : needs_rom action ≡ true → Rom) (offset : manages (operation_of action) ≡ true → Offset) where
+      labelled : NoRow has → told.no_label ≡ has.no_label
+      labelled = label_row ms i old (here.hosts i inside) (here.cores i inside) (here.holding i inside) marks first action (finds_label action old) offset (finds action)
+
+      pub refused_by_rows : ((prepares action || rings action) ≡ true → Dead) → refusal_at ms i action ≡ (act_step action o old).0
+      refused_by_rows dead = refuses_as ms i old tied action o labelled rom dead
+
+      pub refused_but_dead : refusal_of (record told { dead_seen = has.dead_seen }) ≡ (act_step action o old).0
+      refused_but_dead = refuses_but ms i old tied action o labelled rom
 
   -- and where no row holds it asks for what the terms say
   pub asked_bodies : (action : Action) → (manages (operation_of action) ≡ true → Offset) → NoRow (rows_of action (facts_with (finds_label action old) old action)) → action_body action ms i (host_at ms i) ≡ body_in (demand_of action old)
   asked_bodies action offset none =
       bodies ms i old (here.hosts i inside) (here.cores i inside) (here.holding i inside) marks first action (finds_label action old) offset none
+
+  -- one with a management ORB writes its address somewhere
+  pub managed_bodies : Some (managed_body (unwrap_or old.management 0) ms i) ≡ body_in (Some (manage_demand old))
+  managed_bodies = managed_is ms i old (here.hosts i inside) (here.cores i inside) (here.holding i inside) marks first (unwrap_or old.management 0) refl

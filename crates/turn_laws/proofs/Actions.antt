@@ -1,5 +1,5 @@
 -- What an action of an initiator brings, in each turn of every run that begins with its line.
-use Rattle.std.proofs.Common.{◌≡◌, ◌∙◌, refl, sym, ap, subst, ℕ, ◌+◌, ◌<◌, ◌||◌, not, Bool, true, false, List, length, Option, Some, None, inl, inr}
+use Rattle.std.proofs.Common.{◌≡◌, ◌∙◌, refl, sym, ap, subst, ℕ, ◌+◌, ◌<◌, ◌&&◌, ◌||◌, is_some, not, Bool, true, false, List, length, Option, Some, None, inl, inr}
 use Rattle.rbc_disk.specs.Disk.{Disk}
 use Rattle.sbp_initiator.specs.Acting.{act_step, facts_with}
 use Rattle.sbp_initiator.specs.Effects.{Turn as Called}
@@ -8,7 +8,7 @@ use Rattle.sbp_initiator.specs.Refusals.{needs_rom, prepares, rings, rows_of}
 use Rattle.sbp_initiator.specs.Refusing.{finds_label}
 use Rattle.sbp_initiator.specs.declared.state.InitiatorState.{InitiatorState}
 use Rattle.sbp_journal.specs.Outgoings.{OutboxState, empty_outbox}
-use Rattle.sbp_journal.specs.Rows.{refusal_of}
+use Rattle.sbp_journal.specs.Rows.{Refusals}
 use Rattle.sbp_journal.specs.Run.{Moment, asked}
 use Rattle.sbp_journal.specs.declared.event.Action.{Action}
 use Rattle.sbp_journal.specs.declared.event.Action.TheVariants as actions
@@ -29,7 +29,8 @@ use Rattle.sbp_world.proofs.Common.{untrue}
 use Rattle.sbp_world.proofs.Hosts.Telling.{action_law}
 use Rattle.turn_laws.specs.Actions.{ActionsLaw, ActsBut, ActsByRows, asks_more}
 use Rattle.turn_laws.proofs.ActNotes.{acts_as_told}
-use Rattle.turn_laws.proofs.ActTies.{refused_but_dead, refused_by_rows}
+use Rattle.turn_laws.proofs.ActRows.{none_needed}
+use Rattle.turn_laws.proofs.ActTies.{refused_but_dead, refused_by_own, refused_by_rows}
 use Rattle.turn_laws.proofs.Calls.{Brings, Cases, calls, injects, is_act, loses, refuses, refuses_action, resets, sets_key}
 use Rattle.turn_laws.proofs.Handed.{handed}
 use Rattle.turn_laws.proofs.Pass.{call_no_act, of_every_run}
@@ -76,15 +77,8 @@ module _ (units ready : ℕ) (start : List Disk) where
         refused_by_rows units ready start past s here i inside action empty_outbox (λ f. not_asked (needs_rom action) n.0 f) (λ f. not_asked (manages (operation_of action)) n.1.0 f)
         (λ f. not_asked (prepares action || rings action) n.1.1 f)
 
-    -- the rows, where the list was seen dead or not
-    abbrev number_but : Bool → Option ℕ
-    number_but dead_seen = refusal_of (record (refusals ms i action (host_at ms i)) { dead_seen = dead_seen })
-
-    number_but_dead : manages (operation_of action) ≡ false → (dead_seen : Bool) × (number_but dead_seen ≡ (act_step action empty_outbox old).0)
-    number_but_dead e = (
-      (rows_of action (facts_with (finds_label action old) old action)).dead_seen,
-      refused_but_dead units ready start past s here i inside action empty_outbox (λ f. not_asked (needs_rom action) (rom_manages action e) f) (λ f. not_asked (manages (operation_of action)) e f),
-    )
+    abbrev rows : Refusals
+    rows = rows_of action (facts_with (finds_label action old) old action)
 
     -- so it is by what holds of a number that its call has
     module _ (line : ℕ) (told : List Note) (so : (number : Option ℕ) → number ≡ (act_step action empty_outbox old).0 → ActsOr number ms line i action told) where
@@ -95,15 +89,29 @@ module _ (units ready : ℕ) (start : List Disk) where
           by true e = tt
           by false e = so (refusal_at ms i action) (number_is e)
 
-      but_dead : manages (operation_of action) ≡ false → ActsBut ms line i action told
-      but_dead e = let n = number_but_dead e in (n.0, so (number_but n.0) n.1)
-
-      where_unmanaged : Where (not (manages (operation_of action))) (ActsBut ms line i action told)
-      where_unmanaged = by (manages (operation_of action)) refl
+      but_those : ActsBut ms line i action told
+      but_those = by (manages (operation_of action)) refl
         where
-          by : (b : Bool) → manages (operation_of action) ≡ b → Where (not b) (ActsBut ms line i action told)
-          by true e = tt
-          by false e = but_dead e
+          by : (b : Bool) → manages (operation_of action) ≡ b → ActsBut ms line i action told
+          by true e = record {
+            no_rom = rows.no_rom;
+            dead_seen = rows.dead_seen;
+            no_label = rows.no_label;
+            by_rows = so _ (refused_by_own units ready start past s here i inside action empty_outbox);
+            rom_as = λ f. ap (λ b. b && not (is_some old.management)) f;
+            dead_as = λ f. ap (λ b. b && old.marks.is_dead) f;
+            label_as = λ f. untrue (sym f ∙ e);
+          }
+          by false e = record {
+            no_rom = (refusals ms i action (host_at ms i)).no_rom;
+            dead_seen = rows.dead_seen;
+            no_label = (refusals ms i action (host_at ms i)).no_label;
+            by_rows = so _
+                (refused_but_dead units ready start past s here i inside action empty_outbox (λ f. not_asked (needs_rom action) (rom_manages action e) f) (λ f. not_asked (manages (operation_of action)) e f));
+            rom_as = λ f. none_needed ms i (host_at ms i) action f;
+            dead_as = λ f. ap (λ b. b && old.marks.is_dead) f;
+            label_as = λ f. refl;
+          }
 
     notes_here : (act_step action empty_outbox old).0 ≡ None → (act_step action empty_outbox old).1.0.sides ≡ own (action_notes action ms i)
     notes_here e =
@@ -120,12 +128,12 @@ module _ (units ready : ℕ) (start : List Disk) where
         let acts = acts_as_told ms i (i + 1) weight action outbox w (sides_are outbox state e) in
         let so : (number : Option ℕ) → number ≡ (act_step action empty_outbox old).0 → ActsOr number ms line i action told =
         λ number n. by_notes number ms line i action told (n ∙ ap (λ (x : Option ℕ × Called). x.0) e) acts in
-        (inr acts, (where_unmanaged line told so, where_known line told so))
+        (inr acts, (but_those line told so, where_known line told so))
 
     pub refuses_so : (line number : ℕ) → (act_step action empty_outbox old).0 ≡ Some number → ActsByRows (turn ms (asked line (events.Act i action)) (refused line number))
     refuses_so line number e =
         let so : (x : Option ℕ) → x ≡ (act_step action empty_outbox old).0 → ActsOr x ms line i action (refused line number) = λ x n. by_refusal x ms line i action (refused line number) number (n ∙ e) refl in
-        (inl (number, refl), (where_unmanaged line (refused line number) so, where_known line (refused line number) so))
+        (inl (number, refl), (but_those line (refused line number) so, where_known line (refused line number) so))
 
   no_action : (past : List Moment) (line : ℕ) (event : Event) (rest : List Note) → is_act event ≡ false → ActsByRows (turn past (asked line event) rest)
   no_action past line (events.Act i action) rest e = untrue (sym e)

@@ -161,6 +161,7 @@ pub mod ActBodies
 pub mod ActTies
 pub mod Actions
 pub mod ActRequests
+pub mod ActEntries
 pub mod Together
 pub mod RunPlans
 pub mod RunEnds

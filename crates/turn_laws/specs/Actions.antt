@@ -1,6 +1,7 @@
--- What an action of an initiator brings, in each turn that begins with its line: a refusal and nothing else, or its notes, and behind them what it sends. Where it has no management ORB it is refused
--- exactly where a row holds, with the least number of those that hold, but for the row that its list is marked dead, which is said of no action; and where it neither prepares an ORB nor rings, that row is none of it.
-use Rattle.std.specs.Prelude.{◌≡◌, ◌⊎◌, ◌||◌, not, ℕ, Bool, List}
+-- What an action of an initiator brings, in each turn that begins with its line: a refusal and nothing else, or its notes, and behind them what it sends. It is refused exactly where a row holds, with the
+-- least number of those that hold. Three rows are the initiator's own here: whether a ROM was read, of a login and a query; whether the list is marked dead, of what prepares an ORB or rings; and whether a
+-- label serves, of what has a management ORB. Of all others each row is that of the run terms.
+use Rattle.std.specs.Prelude.{◌≡◌, ◌⊎◌, ◌||◌, not, ℕ, Bool, false, List}
 use Rattle.sbp_initiator.specs.Refusals.{needs_rom, prepares, rings}
 use Rattle.sbp_journal.specs.Rows.{refusal_of}
 use Rattle.sbp_journal.specs.Run.{Moment, asked}
@@ -22,14 +23,19 @@ asks_more action = needs_rom action || (manages (operation_of action) || (prepar
 abbrev pub IsDone : List Moment → (line i : ℕ) → Action → List Note → Type 0
 IsDone past line i action told = ((number : ℕ) × (told ≡ refused line number)) ⊎ Acts past i action told
 
--- by the rows, where it was seen dead or not
-abbrev pub ActsBut : List Moment → (line i : ℕ) → Action → List Note → Type 0
-ActsBut past line i action told = (dead_seen : Bool) × ActsOr (refusal_of (record (refusals past i action (host_at past i)) { dead_seen = dead_seen })) past line i action told
+pub record ActsBut (past : List Moment) (line i : ℕ) (action : Action) (told : List Note) : Type 0 where
+  pub no_rom : Bool
+  pub dead_seen : Bool
+  pub no_label : Bool
+  pub by_rows : ActsOr (refusal_of (record (refusals past i action (host_at past i)) { no_rom = no_rom; dead_seen = dead_seen; no_label = no_label })) past line i action told
+  pub rom_as : needs_rom action ≡ false → no_rom ≡ false
+  pub dead_as : (prepares action || rings action) ≡ false → dead_seen ≡ false
+  pub label_as : manages (operation_of action) ≡ false → no_label ≡ (refusals past i action (host_at past i)).no_label
 
 abbrev pub ActsIn : Moment → Turn → Type 0
 ActsIn (asked line (events.Act i action)) t =
     IsDone t.past line i action t.rest
-    × (Where (not (manages (operation_of action))) (ActsBut t.past line i action t.rest) × Where (not (asks_more action)) (ActsOr (refusal_at t.past i action) t.past line i action t.rest))
+    × (ActsBut t.past line i action t.rest × Where (not (asks_more action)) (ActsOr (refusal_at t.past i action) t.past line i action t.rest))
 ActsIn moment t = Unit {0}
 
 abbrev pub ActsByRows : Turn → Type 0

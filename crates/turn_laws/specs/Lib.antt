@@ -27,5 +27,6 @@ pub mod Answers
 pub mod UnderWay
 pub mod Actions
 pub mod ActRequests
+pub mod ActEntries
 pub mod Together
 pub mod RunsEnd
