@@ -1,12 +1,10 @@
 -- The notes of a disc that came are those of the media law, by what holds from place to place of the target's layer and of the nodes that an unsolicited status is under way to: at each
 -- place of a login that hears of the disc its write finds a label, and none is under way to its node, exactly where the terms have it so.
-use Rattle.std.proofs.Common.{arith, ◌≡◌, ◌∙◌, refl, sym, ap, subst, ℕ, zero, suc, ◌+◌, ◌<◌, ◌==◌, ◌&&◌, not, is_some, Bool, true, false, cond, List, [], ◌∷◌, ◌++◌, length, Option, Some, None}
-use Rattle.std.specs.Prelude.{slice_index_or}
+use Rattle.std.proofs.Common.{arith, ◌≡◌, ◌∙◌, refl, sym, ap, subst, ℕ, zero, suc, ◌+◌, ◌<◌, ◌&&◌, not, is_some, Bool, true, false, cond, List, [], ◌∷◌, ◌++◌, length, Option, Some, None}
 use Rattle.label_table.specs.Layer.{Layer, asking_step}
 use Rattle.label_table.specs.declared.judgement.Asked.{Asked}
-use Rattle.login_table.specs.Table.{Table, is_live, place_at}
+use Rattle.login_table.specs.Table.{place_at}
 use Rattle.login_table.specs.declared.login.Login.{Login}
-use Rattle.rbc_disk.specs.Disk.{Disk}
 use Rattle.sbp_bus.specs.declared.places.Holder.{Holder}
 use Rattle.sbp_journal.specs.Wire.{Terms}
 use Rattle.sbp_journal.specs.declared.note.Note.{Note}

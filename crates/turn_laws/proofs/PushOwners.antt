@@ -1,5 +1,5 @@
 -- A write that the target sent behind what its turn told is for an agent's main transaction or for the operation, which asks for nothing else then, or it is an unsolicited status.
-use Rattle.std.proofs.Common.{arith, ◌≡◌, ◌≢◌, ◌∙◌, refl, sym, ap, subst, inl, inr, ◌⊎◌, ℕ, zero, suc, ◌+◌, ◌<◌, ◌≤◌, ◌==◌, ◌||◌, nat_eq, nat_lt, Bool, true, false, cond, List, [], ◌∷◌, ◌++◌, map, length, Option, Some, None, Result, Ok, Err}
+use Rattle.std.proofs.Common.{arith, ◌≡◌, ◌≢◌, ◌∙◌, refl, sym, ap, subst, inl, inr, ◌⊎◌, ℕ, zero, suc, ◌+◌, ◌<◌, ◌≤◌, ◌==◌, ◌||◌, nat_eq, Bool, true, false, cond, List, [], ◌∷◌, ◌++◌, map, length, Option, Some, None, Result, Ok, Err}
 use Rattle.std.specs.Prelude.{position, slice_set}
 use Rattle.std.proofs.lemmas.Bool.Decides.{nat_tests}
 use Rattle.std.proofs.lemmas.List.{get_or-set_same}
@@ -17,14 +17,14 @@ use Rattle.rbc_disk.specs.Disk.{Disk}
 use Rattle.sbp_journal.specs.Outgoings.{OutboxState}
 use Rattle.sbp_journal.specs.Run.{Moment, asked, said}
 use Rattle.sbp_journal.specs.Transactions.{Kind, Part, Sending, no_packet, part_by, part_in, part_of, request, response, writing}
-use Rattle.sbp_journal.specs.Wire.{Terms, terms}
+use Rattle.sbp_journal.specs.Wire.{terms}
 use Rattle.sbp_journal.specs.declared.note.Note.{Note}
 use Rattle.sbp_journal.specs.declared.note.Note.TheVariants as notes
 use Rattle.sbp_journal.specs.declared.outbox.Outgoing.{Outgoing}
 use Rattle.sbp_journal.specs.declared.side.Side.{Side}
 use Rattle.sbp_journal.specs.declared.side.Side.TheVariants as sides
 use Rattle.sbp_laws.specs.Packets.{access_in, access_in_bytes, spelled_by}
-use Rattle.sbp_laws.specs.Targets.{Agent, Purpose, Reply, Target, agent_at, agent_over, ahead_lost, for_agent, for_manager, for_nobody, is_nothing, is_serial, is_write_access, main_lost, moved, new_agent, over, purpose_among, purpose_of, sends_of, sent_as, sent_for, taken_on, target_at, wants, wants_it}
+use Rattle.sbp_laws.specs.Targets.{Agent, Reply, Target, agent_at, agent_over, ahead_lost, for_agent, for_manager, for_nobody, is_nothing, is_serial, is_write_access, main_lost, moved, new_agent, over, purpose_among, purpose_of, sends_of, sent_as, sent_for, taken_on, target_at, wants, wants_it}
 use Rattle.sbp_world.specs.Agents.Crews.{agent_in}
 use Rattle.sbp_bus.specs.Generations.{node_of}
 use Rattle.sbp_world.specs.Handing.{handed_out}
@@ -39,7 +39,7 @@ use Rattle.turn_laws.proofs.Handed.{handed, handed_fresh, note_of, notes_sent, n
 use Rattle.turn_laws.proofs.LaterTerms.{Pushes}
 use Rattle.turn_laws.proofs.PendingTerms.{upd_other}
 use Rattle.turn_laws.proofs.PushSerials.{Has, Small, counted, small_none}
-use Rattle.turn_laws.proofs.SerialsStay.{Kept, Reads, takes_on}
+use Rattle.turn_laws.proofs.SerialsStay.{Reads, takes_on}
 
 -- the packets that were sent before the last ones
 abbrev pub before_packets : List Moment → ℕ

@@ -1,18 +1,16 @@
 -- A write that a layer is asked for waits for the answer to a write.
-use Rattle.std.proofs.Common.{arith, ◌≡◌, ◌∙◌, refl, sym, ap, subst, ℕ, ◌≤◌, nat_eq, nat_le, Bool, true, false, cond, List, Option, Some, None, Result, Ok, Err}
+use Rattle.std.proofs.Common.{arith, ◌≡◌, ◌∙◌, refl, sym, ap, subst, ℕ, ◌≤◌, nat_eq, nat_le, true, false, cond, List, Option, Some, None}
 use Rattle.std.proofs.lemmas.Bool.Decides.{nat_tests}
 use Rattle.async_packet.specs.Fields.{tcode_of}
-use Rattle.async_packet.specs.Labels.{LabelParts}
 use Rattle.label_table.specs.Bodies.{Body, block_write}
 use Rattle.label_table.specs.Layer.{Layer, asked_at, asking_in, asking_step, peer_at, peer_place, unlabelled}
 use Rattle.label_table.specs.Owned.{owned_place}
 use Rattle.label_table.specs.Peers.{begun_for, no_peer, peer_of, state_for}
 use Rattle.label_table.specs.Requests.{is_write, kind_by_tcode, kind_of, with_label}
-use Rattle.label_table.specs.Table.{begin_at, begin_step, lowest_from, place_at, with_place}
+use Rattle.label_table.specs.Table.{begin_at, begin_step, lowest_from, place_at}
 use Rattle.label_table.specs.declared.judgement.Asked.{Asked}
 use Rattle.label_table.specs.declared.place.LabelState.TheVariants as states
 use Rattle.label_table.specs.declared.place.Place.{Place}
-use Rattle.label_table.specs.declared.reply.ReplyKind.{ReplyKind}
 use Rattle.label_table.specs.declared.reply.ReplyKind.TheVariants as kinds
 use Rattle.label_table.proofs.Owned.{own_shown}
 use Rattle.label_table.proofs.Steps.{lowest_below, state_placed}
