@@ -94,7 +94,10 @@ module _ (node : NodeState) (T : Target) (after : Terms) (H : ℕ → Holder) (u
     told_first None places = refl
     told_first (Some login) places = refl
 
-    pub notes_from : (places : List (Option Login)) (left at : ℕ) (layer : Layer Purpose) (pending : List ℕ) → I layer pending at → length places ≡ left → at + left ≡ 8 → ((n : ℕ) → place_at places n ≡ login_at node (at + n)) → Notes (announced_from left at unit from node layer pending) ≡ Law (told_logins load T.enabled places)
+    abbrev pub AreNotes : (left at : ℕ) → Layer Purpose → List ℕ → List (Option Login) → Type 0
+    AreNotes left at layer pending places = Notes (announced_from left at unit from node layer pending) ≡ Law (told_logins load T.enabled places)
+
+    pub notes_from : (places : List (Option Login)) (left at : ℕ) (layer : Layer Purpose) (pending : List ℕ) → I layer pending at → length places ≡ left → at + left ≡ 8 → ((n : ℕ) → place_at places n ≡ login_at node (at + n)) → AreNotes left at layer pending places
     notes_from [] zero at layer pending i e b f = refl
     notes_from [] (suc left) at layer pending i e b f = absurd (omega (arith, e))
     notes_from (login ∷ places) zero at layer pending i e b f = absurd (omega (arith, e))

@@ -70,23 +70,27 @@ Owner start ms s = Has (Pushes start ms) s ⊎ IsOwned (target_at start ms) s
 wants_nothing : (ask : Ask) (w : Bool) → ask ≡ Nothing → wants ask w ≡ false
 wants_nothing ask w e = ap (λ a. wants a w) e
 
-sends_main : (w : Bool) (serial s : ℕ) (a : Agent) → a.main ≡ Some s → a.asks ≡ Nothing → ((sends_of w serial a).main ≡ Some s) × ((sends_of w serial a).asks ≡ Nothing)
-sends_main w serial s a e f = by (wants a.asks w) (wants_nothing a.asks w f) (wants a.asks_ahead w)
-  where
-    by : (x : Bool) → x ≡ false → (y : Bool) → (let b = cond x (record a { main = Some serial; asks = Nothing }) (cond y (record a { ahead = Some serial; asks_ahead = Nothing }) a) in (b.main ≡ Some s) × (b.asks ≡ Nothing))
-    by true g y = untrue (sym g)
-    by false g true = (e, f)
-    by false g false = (e, f)
+-- an agent's main transaction has the serial, and it asks for nothing else
+abbrev HasMain : ℕ → Agent → Type 0
+HasMain s a = (a.main ≡ Some s) × (a.asks ≡ Nothing)
 
-set_main : (agents : List Agent) (k p s : ℕ) (x : Agent) → ((agent_in agents k).main ≡ Some s → (agent_in agents k).asks ≡ Nothing → (x.main ≡ Some s) × (x.asks ≡ Nothing)) → (agent_in agents p).main ≡ Some s → (agent_in agents p).asks ≡ Nothing → ((agent_in (slice_set agents k x) p).main ≡ Some s) × ((agent_in (slice_set agents k x) p).asks ≡ Nothing)
-set_main [] k p s x h e f = (e, f)
-set_main (a ∷ agents) zero zero s x h e f = h e f
-set_main (a ∷ agents) zero (suc p) s x h e f = (e, f)
-set_main (a ∷ agents) (suc k) zero s x h e f = (e, f)
-set_main (a ∷ agents) (suc k) (suc p) s x h e f = set_main agents k p s x h e f
+sends_main : (w : Bool) (serial s : ℕ) (a : Agent) → HasMain s a → HasMain s (sends_of w serial a)
+sends_main w serial s a m = by (wants a.asks w) (wants_nothing a.asks w m.1) (wants a.asks_ahead w)
+  where
+    by : (x : Bool) → x ≡ false → (y : Bool) → HasMain s (cond x (record a { main = Some serial; asks = Nothing }) (cond y (record a { ahead = Some serial; asks_ahead = Nothing }) a))
+    by true g y = untrue (sym g)
+    by false g true = (m.0, m.1)
+    by false g false = m
+
+set_main : (agents : List Agent) (k p s : ℕ) (x : Agent) → (HasMain s (agent_in agents k) → HasMain s x) → HasMain s (agent_in agents p) → HasMain s (agent_in (slice_set agents k x) p)
+set_main [] k p s x h m = m
+set_main (a ∷ agents) zero zero s x h m = h m
+set_main (a ∷ agents) zero (suc p) s x h m = m
+set_main (a ∷ agents) (suc k) zero s x h m = m
+set_main (a ∷ agents) (suc k) (suc p) s x h m = set_main agents k p s x h m
 
 stays_for : (place : Option ℕ) (w : Bool) (serial s : ℕ) (t : Target) → IsOwned t s → IsOwned (sent_for place w serial t) s
-stays_for (Some k) w serial s t (of_main p e f) = let m = set_main t.agents k p s (sends_of w serial (agent_at t k)) (sends_main w serial s (agent_at t k)) e f in of_main p m.0 m.1
+stays_for (Some k) w serial s t (of_main p e f) = let m = set_main t.agents k p s (sends_of w serial (agent_at t k)) (sends_main w serial s (agent_at t k)) (e, f) in of_main p m.0 m.1
 stays_for (Some k) w serial s t (of_manager e f) = of_manager e f
 stays_for None w serial s t (of_main p e f) = by (wants t.manager_asks w)
   where

@@ -217,7 +217,13 @@ module _ (units ready : ℕ) (has : 0 < units) (start : List Disk) (past : List 
           absurd (other (sym (on_place p a ea la) ∙ (ap (λ u. place_on (target_at start ms) u a.node) unit ∙ (ap (place_on (target_at start ms) b.unit) same ∙ on_place q b eb lb))))
 
   -- ---- behind the response to an agent
-  module _ (run : Option Told) (one : Sent) (found : found_sent serial w.store.kept ≡ Some one) (zero_to : one.to ≡ 0) (pkt : Packet) (label : LabelParts) (place : ℕ) (layer : Layer Purpose) (e : judging_step node.layer one.generation one.bytes ≡ (of_response pkt label (Some (purposes.Agent place)), layer)) (base : Pending nodes after (Pushes start (said (notes.Got serial) ∷ ms)) layer node.pending) where
+  abbrev Responds : Sent → Packet → LabelParts → (place : ℕ) → Layer Purpose → Type 0
+  Responds one pkt label place layer = judging_step node.layer one.generation one.bytes ≡ (of_response pkt label (Some (purposes.Agent place)), layer)
+
+  abbrev HeldThere : Layer Purpose → Type 0
+  HeldThere layer = Pending nodes after (Pushes start (said (notes.Got serial) ∷ ms)) layer node.pending
+
+  module _ (run : Option Told) (one : Sent) (found : found_sent serial w.store.kept ≡ Some one) (zero_to : one.to ≡ 0) (pkt : Packet) (label : LabelParts) (place : ℕ) (layer : Layer Purpose) (e : Responds one pkt label place layer) (base : HeldThere layer) where
     -- whom one is pending to has it by the terms too
     listed_same : (p : ℕ) (login : Login) (there : login_at node p ≡ Some login) (live : is_live login ≡ true) → is_listed login.node node.pending ≡ list_any (is_pending after (suc (initiator_with after login.node))) T.pushes
     listed_same p login there live =
@@ -500,7 +506,16 @@ module _ (units ready : ℕ) (has : 0 < units) (start : List Disk) (past : List 
       abbrev agents : Finding Purpose
       agents = of_response p label (Some (purposes.Agent place))
 
-      by_login : (there : Option Login) → served_login its_node place ≡ there → (let outbox = (Given agents layer).1.outbox in AreOthers outbox.sides → AreQuiet outbox.sides → (first : List (wire_calls.Call Purpose)) → agent_tells there place its_node first s.media.disks (Given agents layer).1.disks outbox → Runs outbox.sides → AnnouncesWhereDue start (Turned judgements.Got outbox) → PushesWhereDue start (Turned judgements.Got outbox))
+      abbrev handed_over : OutboxState
+      handed_over = (Given agents layer).1.outbox
+
+      abbrev Tells : Option Login → List (wire_calls.Call Purpose) → Type 0
+      Tells there first = agent_tells there place its_node first s.media.disks (Given agents layer).1.disks handed_over
+
+      abbrev DueWhereNamed : Type 0
+      DueWhereNamed = AnnouncesWhereDue start (Turned judgements.Got handed_over) → PushesWhereDue start (Turned judgements.Got handed_over)
+
+      by_login : (there : Option Login) → served_login its_node place ≡ there → AreOthers handed_over.sides → AreQuiet handed_over.sides → (first : List (wire_calls.Call Purpose)) → Tells there first → Runs handed_over.sides → DueWhereNamed
       by_login None served o q first tells runs names = no_sides judgements.Got (Given agents layer).1.outbox o tells names
       by_login (Some login) served o q first tells runs names =
           agent_pushes units ready has start past s here serial run one found zero_to p label place layer e

@@ -28,7 +28,10 @@ abbrev IfAsked : ℕ → List ℕ → Option Asked × Layer Purpose → Type 0
 IfAsked peer bytes (None, new) = Unit {0}
 IfAsked peer bytes (Some asked, new) = WaitsBy new peer bytes asked
 
-at_label : (layer : Layer Purpose) (k peer : ℕ) (bytes : List ℕ) (purpose : Purpose) → owned_place peer_of peer layer.peers ≡ Some k → (number : Option ℕ) → lowest_from 0 bytes (peer_at layer k).table.places ≡ number → IfAsked peer bytes (asked_at k layer (begun_for (peer_at layer k) peer purpose (begin_at number (peer_at layer k).table bytes)))
+abbrev Begins : Layer Purpose → (k peer : ℕ) → List ℕ → Purpose → Option ℕ → Option Asked × Layer Purpose
+Begins layer k peer bytes purpose number = asked_at k layer (begun_for (peer_at layer k) peer purpose (begin_at number (peer_at layer k).table bytes))
+
+at_label : (layer : Layer Purpose) (k peer : ℕ) (bytes : List ℕ) (purpose : Purpose) → owned_place peer_of peer layer.peers ≡ Some k → (number : Option ℕ) → lowest_from 0 bytes (peer_at layer k).table.places ≡ number → IfAsked peer bytes (Begins layer k peer bytes purpose number)
 at_label layer k peer bytes purpose e None f = tt
 at_label layer k peer bytes purpose e (Some n) f =
     let table = (peer_at layer k).table in
