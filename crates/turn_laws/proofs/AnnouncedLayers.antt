@@ -52,10 +52,6 @@ record Apart (before now : NodeState) : Type 0 where
   pending : now.pending ≡ before.pending
   enabled : (place : ℕ) → (desk_at now place).is_enabled ≡ (desk_at before place).is_enabled
 
-picked : (b : Bool) (d e : Desk) (x : Bool) → d.is_enabled ≡ x → e.is_enabled ≡ x → (cond b d e).is_enabled ≡ x
-picked true d e x f g = f
-picked false d e x f g = g
-
 set_past_at : (desks : List Desk) (place other : ℕ) (d : Desk) → length desks ≤ place → slice_index_or (slice_set desks place d) other new_desk ≡ slice_index_or desks other new_desk
 set_past_at desks place other d h = ap (λ (ds : List Desk). slice_index_or ds other new_desk) (set_past desks place d h)
 

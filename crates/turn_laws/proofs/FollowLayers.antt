@@ -1,5 +1,5 @@
 -- What is kept of a layer by giving transactions up and by asking the node of a login is kept by all that follows a step of the agent of that login.
-use Rattle.std.proofs.Common.{◌≡◌, ℕ, ◌+◌, nat_lt, is_some, Bool, true, false, cond, Option, Some, None}
+use Rattle.std.proofs.Common.{ℕ, nat_lt, is_some, Bool, true, false, cond, Option, Some, None}
 use Rattle.async_packet.specs.Labels.{LabelParts}
 use Rattle.command_agent.specs.Machine.{is_under_way}
 use Rattle.command_agent.specs.Steps.{lost_step}

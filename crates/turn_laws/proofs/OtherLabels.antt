@@ -1,6 +1,5 @@
 -- What a request to one node finds does not hang on what another node is asked, nor on what is given up: the labels to a node and their last requests stay, and each of five nodes has a place for its labels.
-use Rattle.std.proofs.Common.{arith, ◌≡◌, ◌≢◌, ◌∙◌, refl, sym, ap, subst, ℕ, ◌<◌, ◌≤◌, ◌==◌, ◌&&◌, ◌||◌, not, nat_eq, is_some, Bool, true, false, cond, List, map, Option, Some, None}
-use Rattle.std.proofs.lemmas.Bool.Decides.{nat_tests}
+use Rattle.std.proofs.Common.{◌≡◌, ◌∙◌, refl, sym, ap, subst, ℕ, ◌<◌, ◌≤◌, ◌&&◌, ◌||◌, not, nat_eq, is_some, Bool, false, cond, List, Option, Some, None}
 use Rattle.async_packet.specs.Canon.{canon}
 use Rattle.async_packet.specs.Labels.{LabelParts}
 use Rattle.bus_transactions.specs.Bare.{bare, bare_after, same}
@@ -117,9 +116,6 @@ module _ (row : ℕ → ℕ) where
     -- behind some calls the labels to a peer are those from before
     abbrev pub Goes : ℕ → Layer P → Layer P → Type 0
     Goes p a b = Later p (bare a) (bare b)
-
-    pub goes_self : (p : ℕ) (a : Layer P) → Roomy (bare a) → Goes p a a
-    goes_self p a r = record { roomy = r; alike = alike_self p (bare a) }
 
     pub goes_asked : (p k : ℕ) → k < 5 → (a b : Layer P) (body : Body) (purpose : P) → nat_eq p (row k) ≡ false → Goes p a b → Goes p a (asking_step b (row k) body purpose).1
     goes_asked p k small a b body purpose other g =

@@ -22,7 +22,6 @@ use Rattle.sbp_laws.specs.Targets.{for_agent, for_manager, for_nobody, over, pur
 use Rattle.sbp_target.specs.Calls.{Call, alone}
 use Rattle.sbp_target.specs.Histories.Transactions.{IsUnderWay}
 use Rattle.sbp_target.specs.Nodes.{NodeState}
-use Rattle.sbp_target.specs.Nodes as target
 use Rattle.sbp_target.specs.declared.purpose.Purpose.{Purpose}
 use Rattle.sbp_target.specs.declared.purpose.Purpose.TheVariants as purposes
 use Rattle.sbp_world.specs.Agents.Serials.{IsHanded}

@@ -24,8 +24,8 @@ use Rattle.sbp_bus.specs.Packets.{judged_note}
 use Rattle.sbp_bus.specs.Requests.{find}
 use Rattle.sbp_bus.specs.declared.requests.Request.{Request}
 use Rattle.sbp_journal.specs.Outgoings.{empty_outbox}
-use Rattle.sbp_journal.specs.Run.{Moment, asked, said}
-use Rattle.sbp_journal.specs.Transactions.{Kind, Transaction, request}
+use Rattle.sbp_journal.specs.Run.{Moment, said}
+use Rattle.sbp_journal.specs.Transactions.{Kind, Transaction}
 use Rattle.sbp_journal.specs.Wire.{Terms, free, noted, rests, terms, waits}
 use Rattle.sbp_journal.specs.declared.cause.Cause.{Cause}
 use Rattle.sbp_journal.specs.declared.cause.Cause.TheVariants as causes
@@ -91,6 +91,16 @@ marked_same serial again v = by (again || not (is_flying serial v.store.kept))
     by : (b : Bool) → ((cond b v (record v { store = deliver_step v.store serial })).target ≡ v.target) × (((cond b v (record v { store = deliver_step v.store serial })).initiators ≡ v.initiators) × ((cond b v (record v { store = deliver_step v.store serial })).fresh ≡ v.fresh))
     by true = (refl, (refl, refl))
     by false = (refl, (refl, refl))
+
+-- what is no unsolicited status
+none_not : None ≡ Some purposes.Unsolicited → ⊥
+none_not e = cc
+
+manager_not : Some purposes.Management ≡ Some purposes.Unsolicited → ⊥
+manager_not e = cc
+
+pub agent_not : (place : ℕ) → Some (purposes.Agent place) ≡ Some purposes.Unsolicited → ⊥
+agent_not place e = cc
 
 same_purpose : (kind other : ReplyKind) (one two : Option Purpose) → under_way kind one ≡ under_way other two → one ≡ two
 same_purpose kind other one two e = cc
@@ -373,15 +383,6 @@ module _ (units ready : ℕ) (has : 0 < units) (start : List Disk) (past : List 
             (subst (λ (n : NodeState). Rows layer n.layer others_left n.pending) (sym g.concludes) (rows_same layer others_left))
 
       -- ---- whatever it is found to be
-      none_not : None ≡ Some purposes.Unsolicited → ⊥
-      none_not e = cc
-
-      manager_not : Some purposes.Management ≡ Some purposes.Unsolicited → ⊥
-      manager_not e = cc
-
-      agent_not : (place : ℕ) → Some (purposes.Agent place) ≡ Some purposes.Unsolicited → ⊥
-      agent_not place e = cc
-
       by_purpose : (p : Packet) (label : LabelParts) (purpose : Option Purpose) (layer : Layer Purpose) → F ≡ (of_response p label purpose, layer) → Got node good p label purpose layer X.1.node → Goal judgements.Got
       by_purpose p label None layer e g = unsaid p label None layer e g none_not g.concludes
       by_purpose p label (Some purposes.Unsolicited) layer e g = settles p label layer e g

@@ -186,7 +186,15 @@ ArePending nodes u = (n number : ℕ) (kind : Kind) (s : ℕ) → n ≤ nodes �
 abbrev pub IsOnce : Terms → Type 0
 IsOnce t = (s : ℕ) (v w : Transaction) (kind other : Kind) → t.held v ≡ waits kind s → t.held w ≡ waits other s → v ≡ w
 
-module _ (nodes : ℕ) (start : List Disk) (from : ℕ) (Q : ℕ → List ℕ → Type 0) (ms now : List Moment) (m : Later start from Q ms now) (layer left : Layer Purpose) (pending later : List ℕ) (k : Pending nodes (terms ms) (Pushes start ms) layer pending) (small : (s : ℕ) → Has (Pushes start ms) s → s ≤ (terms ms).count) (rows : Rows layer left pending later) (there : HaveRows nodes start from Q ms now left) (once : IsOnce (terms now)) (ties : Ties nodes (terms ms) layer) (tied_then : AreTied nodes (terms now) left) (sent : AreSent nodes start ms now layer left) (waiting : ArePending nodes (terms now)) where
+-- what is so of the terms before and behind
+pub record Steps (nodes : ℕ) (start : List Disk) (ms now : List Moment) (layer left : Layer Purpose) : Type 0 where
+  pub once : IsOnce (terms now)
+  pub ties : Ties nodes (terms ms) layer
+  pub tied : AreTied nodes (terms now) left
+  pub sent : AreSent nodes start ms now layer left
+  pub waiting : ArePending nodes (terms now)
+
+module _ (nodes : ℕ) (start : List Disk) (from : ℕ) (Q : ℕ → List ℕ → Type 0) (ms now : List Moment) (m : Later start from Q ms now) (layer left : Layer Purpose) (pending later : List ℕ) (k : Pending nodes (terms ms) (Pushes start ms) layer pending) (small : (s : ℕ) → Has (Pushes start ms) s → s ≤ (terms ms).count) (rows : Rows layer left pending later) (there : HaveRows nodes start from Q ms now left) (steps : Steps nodes start ms now layer left) where
   abbrev t : Terms
   t = terms ms
 
@@ -236,7 +244,7 @@ module _ (nodes : ℕ) (start : List Disk) (from : ℕ) (Q : ℕ → List ℕ �
           -- a serial is of one transaction
           here : (x : New Q t u s) → (x.packet.to ≤ nodes) × Row left (Id u x.packet.to) x.label → Row left (Id u n) number
           here x r =
-              let one = once s (Own t x.packet.to x.label) (Own t n number) x.kind kind x.held own in
+              let one = steps.once s (Own t x.packet.to x.label) (Own t n number) x.kind kind x.held own in
               subst (λ a. Row left (Id u n) a) (ap (λ (v : Transaction). v.label) one) (subst (λ a. Row left (Id u a) x.label) (ap (λ (v : Transaction). v.responder) one) r.1)
 
   full_there : (n number : ℕ) → n ≤ nodes → Row left (Id u n) number → is_listed (Id u n) later ≡ true
@@ -297,15 +305,15 @@ module _ (nodes : ℕ) (start : List Disk) (from : ℕ) (Q : ℕ → List ℕ �
       own = ap u.held (sym (same_own n number)) ∙ e
 
       by_held : IsFresh layer (Id t n) number × ((at_old n number r).kind ≡ kinds.Write) → (x : Held) → t.held (Own t n number) ≡ x → Has (Pushes start now) s
-      by_held f free g = sent n number kind s b (at_old n number r) f.0 f.1 (m.taken (Own t n number) kind s g own) own
+      by_held f free g = steps.sent n number kind s b (at_old n number r) f.0 f.1 (m.taken (Own t n number) kind s g own) own
       by_held f rests g = rests_waits (u.held (Own t n number)) kind s (m.resting (Own t n number) g) own
       by_held f (waits other q) g =
-          let x = ties.under n number other q b g in
+          let x = steps.ties.under n number other q b g in
           absurd (f.0 x.kind x.call x.is)
 
       by : Row layer (Id t n) number ⊎ (IsFresh layer (Id t n) number × ((at_old n number r).kind ≡ kinds.Write)) → Has (Pushes start now) s
       by (inl o) =
-          let w = ties.waiting n number b o in
+          let w = steps.ties.waiting n number b o in
           let same : w.serial ≡ s = same_waits (u.held (Own t n number)) w.kind kind w.serial s (m.waiting (Own t n number) w.kind w.serial w.is) own in
           m.less s (subst (Has old) same (k.row n number w.kind w.serial b o w.is))
       by (inr f) = by_held f (t.held (Own t n number)) refl
@@ -317,8 +325,8 @@ module _ (nodes : ℕ) (start : List Disk) (from : ℕ) (Q : ℕ → List ℕ �
       by (inl f) = let x = k.same n b f in (x.0, (m.less x.0 x.1.0, m.pends n x.0 x.1.0 ∙ x.1.1))
       by (inr x) =
           let r = at_new n x.0 x.1 in
-          let w = row_waits nodes u left tied_then n x.0 b r in
-          (w.serial, (row_there n x.0 w.kind w.serial b r w.is, waiting n x.0 w.kind w.serial b w.is))
+          let w = row_waits nodes u left steps.tied n x.0 b r in
+          (w.serial, (row_there n x.0 w.kind w.serial b r w.is, steps.waiting n x.0 w.kind w.serial b w.is))
 
   pub step_kept : Pending nodes u (Pushes start now) left later
   step_kept = record { pends = pends_there; push = push_there; full = full_there; one = one_there; calm = calm_there; row = row_there; same = same_there; once = rows.once k.once }

@@ -20,7 +20,7 @@ use Rattle.sbp_bus.specs.Requests.{find}
 use Rattle.sbp_bus.specs.declared.requests.Request.{Request}
 use Rattle.sbp_journal.specs.Outgoings.{OutboxState, empty_outbox}
 use Rattle.sbp_journal.specs.Run.{Moment, asked, said}
-use Rattle.sbp_journal.specs.Transactions.{Kind, Sending, Transaction, begun_by, request}
+use Rattle.sbp_journal.specs.Transactions.{Kind, Sending, Transaction, begun_by}
 use Rattle.sbp_journal.specs.Wire.{Terms, begins, noted, opened, puts, terms, times_out, waits}
 use Rattle.sbp_journal.specs.declared.cause.Judged.{Judged}
 use Rattle.sbp_journal.specs.declared.cause.Judged.TheVariants as judgements

@@ -129,10 +129,13 @@ module _ (units ready : ℕ) (has : 0 < units) (start : List Disk) (past : List 
     tied_behind : (nodes : ℕ) → length behind.initiators ≡ nodes → AreTied nodes (terms now) behind.target.layer
     tied_behind nodes e n number l = labels units ready has start behind there.holds n number
 
-    pub turn_kept : (nodes : ℕ) → length behind.initiators ≡ nodes → (layer : Layer Purpose) (pending : List ℕ) → Pending nodes (terms base) (Pushes start base) layer pending → Ties nodes (terms base) layer → Rows layer behind.target.layer pending behind.target.pending → Owned nodes → AllSent nodes start base now layer behind.target.layer → Done
+    abbrev Grown : Layer Purpose → List ℕ → Type 0
+    Grown layer pending = Rows layer behind.target.layer pending behind.target.pending
+
+    pub turn_kept : (nodes : ℕ) → length behind.initiators ≡ nodes → (layer : Layer Purpose) (pending : List ℕ) → Pending nodes (terms base) (Pushes start base) layer pending → Ties nodes (terms base) layer → Grown layer pending → Owned nodes → AllSent nodes start base now layer behind.target.layer → Done
     turn_kept nodes e layer pending k ties rows owned sent =
         subst (λ n. Pending n (terms now) (Pushes start now) behind.target.layer behind.target.pending) (sym e)
-        (step_kept nodes start from Q base now turn_later layer behind.target.layer pending behind.target.pending k small rows owned (once_at behind there.holds.sound.stands) ties (tied_behind nodes e) sent (awaited_pends behind there.holds.sound.stands nodes))
+        (step_kept nodes start from Q base now turn_later layer behind.target.layer pending behind.target.pending k small rows owned (record { once = once_at behind there.holds.sound.stands; ties = ties; tied = tied_behind nodes e; sent = sent; waiting = awaited_pends behind there.holds.sound.stands nodes }))
 
 -- ---- at a place
 module _ (units ready : ℕ) (has : 0 < units) (start : List Disk) (past : List Moment) (s : Scene) (here : Place units ready start past s) where

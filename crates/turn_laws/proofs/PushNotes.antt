@@ -1,12 +1,10 @@
 -- The notes of a disc that came are those of the media law, by what holds from place to place of the target's layer and of the nodes that an unsolicited status is under way to: at each
 -- place of a login that hears of the disc its write finds a label, and none is under way to its node, exactly where the terms have it so.
-use Rattle.std.proofs.Common.{arith, ◌≡◌, ◌∙◌, refl, sym, ap, subst, ℕ, zero, suc, ◌+◌, ◌<◌, ◌==◌, ◌&&◌, not, is_some, Bool, true, false, cond, List, [], ◌∷◌, ◌++◌, length, Option, Some, None}
-use Rattle.std.specs.Prelude.{slice_index_or}
+use Rattle.std.proofs.Common.{arith, ◌≡◌, ◌∙◌, refl, sym, ap, subst, ℕ, zero, suc, ◌+◌, ◌<◌, ◌&&◌, not, is_some, Bool, true, false, cond, List, [], ◌∷◌, ◌++◌, length, Option, Some, None}
 use Rattle.label_table.specs.Layer.{Layer, asking_step}
 use Rattle.label_table.specs.declared.judgement.Asked.{Asked}
-use Rattle.login_table.specs.Table.{Table, is_live, place_at}
+use Rattle.login_table.specs.Table.{place_at}
 use Rattle.login_table.specs.declared.login.Login.{Login}
-use Rattle.rbc_disk.specs.Disk.{Disk}
 use Rattle.sbp_bus.specs.declared.places.Holder.{Holder}
 use Rattle.sbp_journal.specs.Wire.{Terms}
 use Rattle.sbp_journal.specs.declared.note.Note.{Note}
@@ -96,7 +94,10 @@ module _ (node : NodeState) (T : Target) (after : Terms) (H : ℕ → Holder) (u
     told_first None places = refl
     told_first (Some login) places = refl
 
-    pub notes_from : (places : List (Option Login)) (left at : ℕ) (layer : Layer Purpose) (pending : List ℕ) → I layer pending at → length places ≡ left → at + left ≡ 8 → ((n : ℕ) → place_at places n ≡ login_at node (at + n)) → Notes (announced_from left at unit from node layer pending) ≡ Law (told_logins load T.enabled places)
+    abbrev pub AreNotes : (left at : ℕ) → Layer Purpose → List ℕ → List (Option Login) → Type 0
+    AreNotes left at layer pending places = Notes (announced_from left at unit from node layer pending) ≡ Law (told_logins load T.enabled places)
+
+    pub notes_from : (places : List (Option Login)) (left at : ℕ) (layer : Layer Purpose) (pending : List ℕ) → I layer pending at → length places ≡ left → at + left ≡ 8 → ((n : ℕ) → place_at places n ≡ login_at node (at + n)) → AreNotes left at layer pending places
     notes_from [] zero at layer pending i e b f = refl
     notes_from [] (suc left) at layer pending i e b f = absurd (omega (arith, e))
     notes_from (login ∷ places) zero at layer pending i e b f = absurd (omega (arith, e))

@@ -1,5 +1,5 @@
 -- A write that the target sent behind what its turn told is for an agent's main transaction or for the operation, which asks for nothing else then, or it is an unsolicited status.
-use Rattle.std.proofs.Common.{arith, ◌≡◌, ◌≢◌, ◌∙◌, refl, sym, ap, subst, inl, inr, ◌⊎◌, ℕ, zero, suc, ◌+◌, ◌<◌, ◌≤◌, ◌==◌, ◌||◌, nat_eq, nat_lt, Bool, true, false, cond, List, [], ◌∷◌, ◌++◌, map, length, Option, Some, None, Result, Ok, Err}
+use Rattle.std.proofs.Common.{arith, ◌≡◌, ◌≢◌, ◌∙◌, refl, sym, ap, subst, inl, inr, ◌⊎◌, ℕ, zero, suc, ◌+◌, ◌<◌, ◌≤◌, ◌==◌, ◌||◌, nat_eq, Bool, true, false, cond, List, [], ◌∷◌, ◌++◌, map, length, Option, Some, None, Result, Ok, Err}
 use Rattle.std.specs.Prelude.{position, slice_set}
 use Rattle.std.proofs.lemmas.Bool.Decides.{nat_tests}
 use Rattle.std.proofs.lemmas.List.{get_or-set_same}
@@ -17,14 +17,14 @@ use Rattle.rbc_disk.specs.Disk.{Disk}
 use Rattle.sbp_journal.specs.Outgoings.{OutboxState}
 use Rattle.sbp_journal.specs.Run.{Moment, asked, said}
 use Rattle.sbp_journal.specs.Transactions.{Kind, Part, Sending, no_packet, part_by, part_in, part_of, request, response, writing}
-use Rattle.sbp_journal.specs.Wire.{Terms, terms}
+use Rattle.sbp_journal.specs.Wire.{terms}
 use Rattle.sbp_journal.specs.declared.note.Note.{Note}
 use Rattle.sbp_journal.specs.declared.note.Note.TheVariants as notes
 use Rattle.sbp_journal.specs.declared.outbox.Outgoing.{Outgoing}
 use Rattle.sbp_journal.specs.declared.side.Side.{Side}
 use Rattle.sbp_journal.specs.declared.side.Side.TheVariants as sides
 use Rattle.sbp_laws.specs.Packets.{access_in, access_in_bytes, spelled_by}
-use Rattle.sbp_laws.specs.Targets.{Agent, Purpose, Reply, Target, agent_at, agent_over, ahead_lost, for_agent, for_manager, for_nobody, is_nothing, is_serial, is_write_access, main_lost, moved, new_agent, over, purpose_among, purpose_of, sends_of, sent_as, sent_for, taken_on, target_at, wants, wants_it}
+use Rattle.sbp_laws.specs.Targets.{Agent, Reply, Target, agent_at, agent_over, ahead_lost, for_agent, for_manager, for_nobody, is_nothing, is_serial, is_write_access, main_lost, moved, new_agent, over, purpose_among, purpose_of, sends_of, sent_as, sent_for, taken_on, target_at, wants, wants_it}
 use Rattle.sbp_world.specs.Agents.Crews.{agent_in}
 use Rattle.sbp_bus.specs.Generations.{node_of}
 use Rattle.sbp_world.specs.Handing.{handed_out}
@@ -39,7 +39,7 @@ use Rattle.turn_laws.proofs.Handed.{handed, handed_fresh, note_of, notes_sent, n
 use Rattle.turn_laws.proofs.LaterTerms.{Pushes}
 use Rattle.turn_laws.proofs.PendingTerms.{upd_other}
 use Rattle.turn_laws.proofs.PushSerials.{Has, Small, counted, small_none}
-use Rattle.turn_laws.proofs.SerialsStay.{Kept, Reads, takes_on}
+use Rattle.turn_laws.proofs.SerialsStay.{Reads, takes_on}
 
 -- the packets that were sent before the last ones
 abbrev pub before_packets : List Moment → ℕ
@@ -70,23 +70,27 @@ Owner start ms s = Has (Pushes start ms) s ⊎ IsOwned (target_at start ms) s
 wants_nothing : (ask : Ask) (w : Bool) → ask ≡ Nothing → wants ask w ≡ false
 wants_nothing ask w e = ap (λ a. wants a w) e
 
-sends_main : (w : Bool) (serial s : ℕ) (a : Agent) → a.main ≡ Some s → a.asks ≡ Nothing → ((sends_of w serial a).main ≡ Some s) × ((sends_of w serial a).asks ≡ Nothing)
-sends_main w serial s a e f = by (wants a.asks w) (wants_nothing a.asks w f) (wants a.asks_ahead w)
-  where
-    by : (x : Bool) → x ≡ false → (y : Bool) → (let b = cond x (record a { main = Some serial; asks = Nothing }) (cond y (record a { ahead = Some serial; asks_ahead = Nothing }) a) in (b.main ≡ Some s) × (b.asks ≡ Nothing))
-    by true g y = untrue (sym g)
-    by false g true = (e, f)
-    by false g false = (e, f)
+-- an agent's main transaction has the serial, and it asks for nothing else
+abbrev HasMain : ℕ → Agent → Type 0
+HasMain s a = (a.main ≡ Some s) × (a.asks ≡ Nothing)
 
-set_main : (agents : List Agent) (k p s : ℕ) (x : Agent) → ((agent_in agents k).main ≡ Some s → (agent_in agents k).asks ≡ Nothing → (x.main ≡ Some s) × (x.asks ≡ Nothing)) → (agent_in agents p).main ≡ Some s → (agent_in agents p).asks ≡ Nothing → ((agent_in (slice_set agents k x) p).main ≡ Some s) × ((agent_in (slice_set agents k x) p).asks ≡ Nothing)
-set_main [] k p s x h e f = (e, f)
-set_main (a ∷ agents) zero zero s x h e f = h e f
-set_main (a ∷ agents) zero (suc p) s x h e f = (e, f)
-set_main (a ∷ agents) (suc k) zero s x h e f = (e, f)
-set_main (a ∷ agents) (suc k) (suc p) s x h e f = set_main agents k p s x h e f
+sends_main : (w : Bool) (serial s : ℕ) (a : Agent) → HasMain s a → HasMain s (sends_of w serial a)
+sends_main w serial s a m = by (wants a.asks w) (wants_nothing a.asks w m.1) (wants a.asks_ahead w)
+  where
+    by : (x : Bool) → x ≡ false → (y : Bool) → HasMain s (cond x (record a { main = Some serial; asks = Nothing }) (cond y (record a { ahead = Some serial; asks_ahead = Nothing }) a))
+    by true g y = untrue (sym g)
+    by false g true = (m.0, m.1)
+    by false g false = m
+
+set_main : (agents : List Agent) (k p s : ℕ) (x : Agent) → (HasMain s (agent_in agents k) → HasMain s x) → HasMain s (agent_in agents p) → HasMain s (agent_in (slice_set agents k x) p)
+set_main [] k p s x h m = m
+set_main (a ∷ agents) zero zero s x h m = h m
+set_main (a ∷ agents) zero (suc p) s x h m = m
+set_main (a ∷ agents) (suc k) zero s x h m = m
+set_main (a ∷ agents) (suc k) (suc p) s x h m = set_main agents k p s x h m
 
 stays_for : (place : Option ℕ) (w : Bool) (serial s : ℕ) (t : Target) → IsOwned t s → IsOwned (sent_for place w serial t) s
-stays_for (Some k) w serial s t (of_main p e f) = let m = set_main t.agents k p s (sends_of w serial (agent_at t k)) (sends_main w serial s (agent_at t k)) e f in of_main p m.0 m.1
+stays_for (Some k) w serial s t (of_main p e f) = let m = set_main t.agents k p s (sends_of w serial (agent_at t k)) (sends_main w serial s (agent_at t k)) (e, f) in of_main p m.0 m.1
 stays_for (Some k) w serial s t (of_manager e f) = of_manager e f
 stays_for None w serial s t (of_main p e f) = by (wants t.manager_asks w)
   where

@@ -1,15 +1,14 @@
 -- Each turn of every run has the notes of unsolicited statuses that the media law has: a login that hears of a disc is sent one where its write finds a label and none is pending to its
 -- node, and both are so at its place, behind the requests of the agent that loaded the disc and the statuses to other nodes, as they are by the terms behind the turn's first note.
-use Rattle.std.proofs.Common.{arith, ◌≡◌, ◌≢◌, ◌∙◌, refl, sym, ap, subst, inl, inr, ◌⊎◌, ℕ, zero, suc, ◌+◌, ◌<◌, ◌≤◌, ◌==◌, ◌&&◌, ◌||◌, not, nat_eq, is_some, Bool, true, false, cond, List, [], ◌∷◌, ◌++◌, length, map, Option, Some, None, Result}
+use Rattle.std.proofs.Common.{arith, ◌≡◌, ◌∙◌, refl, sym, ap, subst, inl, inr, ℕ, suc, ◌+◌, ◌<◌, ◌≤◌, ◌==◌, ◌&&◌, ◌||◌, not, nat_eq, is_some, Bool, true, false, List, [], ◌∷◌, ◌++◌, length, map, Option, Some, None, Result}
 use Rattle.std.specs.List.{list_any}
 use Rattle.std.proofs.lemmas.Bool.Decides.{nat_tests}
 use Rattle.async_packet.specs.Labels.{LabelParts}
 use Rattle.async_packet.specs.Packet.{Packet, header_in}
 use Rattle.bus_transactions.specs.Bare.{bare}
 use Rattle.bus_transactions.specs.Fitting.{AreBytes, FitsRequest}
-use Rattle.bus_transactions.specs.Wire.{as_sending}
 use Rattle.bus_transactions.proofs.Rooms.{HasRoom}
-use Rattle.label_table.specs.Bodies.{Body, block_write}
+use Rattle.label_table.specs.Bodies.{Body}
 use Rattle.label_table.specs.History as wire_calls
 use Rattle.label_table.specs.Layer.{Finding, Layer, asking_step, disowning_step, judging_step, of_again, of_generation, of_grammar, of_label, of_request, of_response}
 use Rattle.label_table.specs.Peers.{peer_of}
@@ -35,7 +34,7 @@ use Rattle.label_table.specs.declared.reply.Stale.{Stale}
 use Rattle.rbc_disk.specs.Held.{Held as Media}
 use Rattle.sbp_journal.specs.Outgoings.{OutboxState, empty_outbox}
 use Rattle.sbp_journal.specs.Run.{Moment, asked, said}
-use Rattle.sbp_journal.specs.Wire.{Terms, noted, terms}
+use Rattle.sbp_journal.specs.Wire.{Terms, terms}
 use Rattle.sbp_journal.specs.declared.cause.Cause.TheVariants as causes
 use Rattle.sbp_journal.specs.declared.cause.Judged.{Judged}
 use Rattle.sbp_journal.specs.declared.cause.Judged.TheVariants as judgements
@@ -51,7 +50,7 @@ use Rattle.sbp_laws.specs.Targets.{Target, initiator_with, over, place_on, targe
 use Rattle.sbp_laws.specs.Turns.{Turn, turn}
 use Rattle.sbp_target.specs.Calls.{receives}
 use Rattle.sbp_target.specs.Histories.Layers.{first_of, layer_after}
-use Rattle.sbp_target.specs.Histories.Sides.{Announced, Announces, AreLast, agent_tells, announced_from, announced_if, decision_changes, delivery_tells, operation_tells, request_changes}
+use Rattle.sbp_target.specs.Histories.Sides.{Announces, AreLast, agent_tells, announced_from, announced_if, decision_changes, delivery_tells, operation_tells, request_changes}
 use Rattle.sbp_target.specs.Management.{with_manager}
 use Rattle.sbp_target.specs.Nodes.{NodeState, desk_at, login_at}
 use Rattle.sbp_target.specs.Nodes as target
@@ -65,7 +64,7 @@ use Rattle.sbp_target.proofs.Histories.Calling.{Good}
 use Rattle.sbp_target.proofs.Histories.Found.{IsFound, found as found_as}
 use Rattle.sbp_target.proofs.Histories.Primitives.{closing_known, live_on}
 use Rattle.sbp_target.proofs.Histories.Told.{side_law}
-use Rattle.sbp_world.specs.Agents.Holders.{IsHeld, IsLiveOf}
+use Rattle.sbp_world.specs.Agents.Holders.{IsLiveOf}
 use Rattle.sbp_world.specs.Agents.Management.Offices.{Agrees, office_of}
 use Rattle.sbp_world.specs.Delivering.{MayTell, faults_after, marked, whole_of}
 use Rattle.sbp_world.specs.FitTarget.{FitsLogin}
@@ -77,7 +76,7 @@ use Rattle.sbp_world.specs.Wire.Wires.{layers_of}
 use Rattle.sbp_world.specs.Worlds.{Scene, WorldState, initiator_at, with_note, with_target}
 use Rattle.sbp_world.proofs.Agents.CrewFirsts.{agrees}
 use Rattle.sbp_world.proofs.Agents.Management.Calm.{AreQuiet}
-use Rattle.sbp_world.proofs.Agents.Management.Holding.{good_of, was_sent}
+use Rattle.sbp_world.proofs.Agents.Management.Holding.{good_of}
 use Rattle.sbp_world.proofs.Agents.Management.Still.{hist}
 use Rattle.sbp_world.proofs.Common.{and_first, and_second, equal, untrue}
 use Rattle.sbp_world.proofs.FitTarget.Agents.{quads_bytes}
@@ -98,9 +97,9 @@ use Rattle.turn_laws.proofs.Handed.{handed, notes_told}
 use Rattle.turn_laws.proofs.KindNotes.{kind_handed, own_handed}
 use Rattle.turn_laws.proofs.LaterTerms.{Pushes}
 use Rattle.turn_laws.proofs.ManagedSides.{from_self}
-use Rattle.turn_laws.proofs.OtherLabels.{AlikeAt, Goes, Later, Roomy, alike_self, goes_asked, goes_disowned, goes_finds, room_asked, room_disowned}
+use Rattle.turn_laws.proofs.OtherLabels.{AlikeAt, Goes, Roomy, alike_self, goes_asked, goes_disowned, goes_finds, room_asked, room_disowned}
 use Rattle.turn_laws.proofs.Pass.{of_every_carried}
-use Rattle.turn_laws.proofs.PendingHeard.{base, good as heard_good}
+use Rattle.turn_laws.proofs.PendingHeard.{agent_not, base, good as heard_good}
 use Rattle.turn_laws.proofs.PendingKept.{Id, Pending}
 use Rattle.turn_laws.proofs.PendingTurns.{Kept, note_pushes}
 use Rattle.turn_laws.proofs.Places.{Place}
@@ -180,9 +179,6 @@ module _ (units ready : ℕ) (has : 0 < units) (start : List Disk) (past : List 
 
   -- a live login is of an initiator
   module _ (p : ℕ) (login : Login) (e : login_at node p ≡ Some login) (live : is_live login ≡ true) where
-    its : IsHeld t nodes (target_at start ms) w.places p login
-    its = here.held.held p login e
-
     abbrev i : ℕ
     i = (here.held.held p login e).holder.initiator
 
@@ -221,7 +217,13 @@ module _ (units ready : ℕ) (has : 0 < units) (start : List Disk) (past : List 
           absurd (other (sym (on_place p a ea la) ∙ (ap (λ u. place_on (target_at start ms) u a.node) unit ∙ (ap (place_on (target_at start ms) b.unit) same ∙ on_place q b eb lb))))
 
   -- ---- behind the response to an agent
-  module _ (run : Option Told) (one : Sent) (found : found_sent serial w.store.kept ≡ Some one) (zero_to : one.to ≡ 0) (pkt : Packet) (label : LabelParts) (place : ℕ) (layer : Layer Purpose) (e : judging_step node.layer one.generation one.bytes ≡ (of_response pkt label (Some (purposes.Agent place)), layer)) (base : Pending nodes after (Pushes start (said (notes.Got serial) ∷ ms)) layer node.pending) where
+  abbrev Responds : Sent → Packet → LabelParts → (place : ℕ) → Layer Purpose → Type 0
+  Responds one pkt label place layer = judging_step node.layer one.generation one.bytes ≡ (of_response pkt label (Some (purposes.Agent place)), layer)
+
+  abbrev HeldThere : Layer Purpose → Type 0
+  HeldThere layer = Pending nodes after (Pushes start (said (notes.Got serial) ∷ ms)) layer node.pending
+
+  module _ (run : Option Told) (one : Sent) (found : found_sent serial w.store.kept ≡ Some one) (zero_to : one.to ≡ 0) (pkt : Packet) (label : LabelParts) (place : ℕ) (layer : Layer Purpose) (e : Responds one pkt label place layer) (base : HeldThere layer) where
     -- whom one is pending to has it by the terms too
     listed_same : (p : ℕ) (login : Login) (there : login_at node p ≡ Some login) (live : is_live login ≡ true) → is_listed login.node node.pending ≡ list_any (is_pending after (suc (initiator_with after login.node))) T.pushes
     listed_same p login there live =
@@ -500,14 +502,20 @@ module _ (units ready : ℕ) (has : 0 < units) (start : List Disk) (past : List 
     abbrev Finds : Finding Purpose → Layer Purpose → Type 0
     Finds f layer = judging_step its_node.layer one.generation one.bytes ≡ (f, layer)
 
-    agent_not : (place : ℕ) → Some (purposes.Agent place) ≡ Some purposes.Unsolicited → ⊥
-    agent_not place e = cc
-
     module _ (p : Packet) (label : LabelParts) (place : ℕ) (layer : Layer Purpose) (e : Finds (of_response p label (Some (purposes.Agent place))) layer) (g : Got its_node good_here p label (Some (purposes.Agent place)) layer X.1.node) where
       abbrev agents : Finding Purpose
       agents = of_response p label (Some (purposes.Agent place))
 
-      by_login : (there : Option Login) → served_login its_node place ≡ there → (let outbox = (Given agents layer).1.outbox in AreOthers outbox.sides → AreQuiet outbox.sides → (first : List (wire_calls.Call Purpose)) → agent_tells there place its_node first s.media.disks (Given agents layer).1.disks outbox → Runs outbox.sides → AnnouncesWhereDue start (Turned judgements.Got outbox) → PushesWhereDue start (Turned judgements.Got outbox))
+      abbrev handed_over : OutboxState
+      handed_over = (Given agents layer).1.outbox
+
+      abbrev Tells : Option Login → List (wire_calls.Call Purpose) → Type 0
+      Tells there first = agent_tells there place its_node first s.media.disks (Given agents layer).1.disks handed_over
+
+      abbrev DueWhereNamed : Type 0
+      DueWhereNamed = AnnouncesWhereDue start (Turned judgements.Got handed_over) → PushesWhereDue start (Turned judgements.Got handed_over)
+
+      by_login : (there : Option Login) → served_login its_node place ≡ there → AreOthers handed_over.sides → AreQuiet handed_over.sides → (first : List (wire_calls.Call Purpose)) → Tells there first → Runs handed_over.sides → DueWhereNamed
       by_login None served o q first tells runs names = no_sides judgements.Got (Given agents layer).1.outbox o tells names
       by_login (Some login) served o q first tells runs names =
           agent_pushes units ready has start past s here serial run one found zero_to p label place layer e

@@ -1,18 +1,16 @@
 -- A write that a layer is asked for waits for the answer to a write.
-use Rattle.std.proofs.Common.{arith, ◌≡◌, ◌∙◌, refl, sym, ap, subst, ℕ, ◌≤◌, nat_eq, nat_le, Bool, true, false, cond, List, Option, Some, None, Result, Ok, Err}
+use Rattle.std.proofs.Common.{arith, ◌≡◌, ◌∙◌, refl, sym, ap, subst, ℕ, ◌≤◌, nat_eq, nat_le, true, false, cond, List, Option, Some, None}
 use Rattle.std.proofs.lemmas.Bool.Decides.{nat_tests}
 use Rattle.async_packet.specs.Fields.{tcode_of}
-use Rattle.async_packet.specs.Labels.{LabelParts}
 use Rattle.label_table.specs.Bodies.{Body, block_write}
 use Rattle.label_table.specs.Layer.{Layer, asked_at, asking_in, asking_step, peer_at, peer_place, unlabelled}
 use Rattle.label_table.specs.Owned.{owned_place}
 use Rattle.label_table.specs.Peers.{begun_for, no_peer, peer_of, state_for}
 use Rattle.label_table.specs.Requests.{is_write, kind_by_tcode, kind_of, with_label}
-use Rattle.label_table.specs.Table.{begin_at, begin_step, lowest_from, place_at, with_place}
+use Rattle.label_table.specs.Table.{begin_at, begin_step, lowest_from, place_at}
 use Rattle.label_table.specs.declared.judgement.Asked.{Asked}
 use Rattle.label_table.specs.declared.place.LabelState.TheVariants as states
 use Rattle.label_table.specs.declared.place.Place.{Place}
-use Rattle.label_table.specs.declared.reply.ReplyKind.{ReplyKind}
 use Rattle.label_table.specs.declared.reply.ReplyKind.TheVariants as kinds
 use Rattle.label_table.proofs.Owned.{own_shown}
 use Rattle.label_table.proofs.Steps.{lowest_below, state_placed}
@@ -30,7 +28,10 @@ abbrev IfAsked : ℕ → List ℕ → Option Asked × Layer Purpose → Type 0
 IfAsked peer bytes (None, new) = Unit {0}
 IfAsked peer bytes (Some asked, new) = WaitsBy new peer bytes asked
 
-at_label : (layer : Layer Purpose) (k peer : ℕ) (bytes : List ℕ) (purpose : Purpose) → owned_place peer_of peer layer.peers ≡ Some k → (number : Option ℕ) → lowest_from 0 bytes (peer_at layer k).table.places ≡ number → IfAsked peer bytes (asked_at k layer (begun_for (peer_at layer k) peer purpose (begin_at number (peer_at layer k).table bytes)))
+abbrev Begins : Layer Purpose → (k peer : ℕ) → List ℕ → Purpose → Option ℕ → Option Asked × Layer Purpose
+Begins layer k peer bytes purpose number = asked_at k layer (begun_for (peer_at layer k) peer purpose (begin_at number (peer_at layer k).table bytes))
+
+at_label : (layer : Layer Purpose) (k peer : ℕ) (bytes : List ℕ) (purpose : Purpose) → owned_place peer_of peer layer.peers ≡ Some k → (number : Option ℕ) → lowest_from 0 bytes (peer_at layer k).table.places ≡ number → IfAsked peer bytes (Begins layer k peer bytes purpose number)
 at_label layer k peer bytes purpose e None f = tt
 at_label layer k peer bytes purpose e (Some n) f =
     let table = (peer_at layer k).table in
