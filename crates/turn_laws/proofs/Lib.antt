@@ -88,7 +88,10 @@ pub mod AgentNotes
 pub mod Progresses
 pub mod PresentOrbs
 pub mod SilentTurns
+pub mod ProgressFolds
 pub mod Fetches
+pub mod RestSteps
+pub mod Rests
 pub mod Silent
 pub mod StatusWrites
 pub mod Statuses
