@@ -1,6 +1,5 @@
 -- By the terms of every history in which serials count, nothing was got yet of an ORB that is still to be read, once its read was sent: neither it nor what its agent has of it names a next pointer.
-use Rattle.std.proofs.Common.{◌≡◌, ◌∙◌, refl, sym, ap, subst, ℕ, zero, suc, ◌+◌, ◌<◌, ◌==◌, ◌||◌, not, nat_eq, is_some, Bool, true, false, cond, List, [], ◌∷◌, Option, Some, None, Result, Ok, Err, arith}
-use Rattle.std.specs.Prelude.{is_none, position, unwrap_or}
+use Rattle.std.proofs.Common.{◌≡◌, ◌∙◌, refl, sym, ap, subst, ℕ, ◌==◌, ◌||◌, not, is_some, Bool, true, false, cond, List, Option, Some, None, Result, Ok, Err}
 use Rattle.bus_transactions.specs.Packets.{SerialsCount}
 use Rattle.command_agent.specs.declared.phase.Phase.{Phase}
 use Rattle.command_agent.specs.declared.phase.Phase.TheVariants as phases
@@ -10,8 +9,6 @@ use Rattle.command_agent.specs.declared.step.Which.{Which}
 use Rattle.command_agent.specs.declared.step.Which.TheVariants.{Ahead, Main}
 use Rattle.command_agent.specs.Machine.{Machine, is_ahead, is_sent, new_machine}
 use Rattle.command_agent.specs.Steps.{abort_step, doorbell_step, lost_step, point_step, reply_step, reset_step}
-use Rattle.mgmt_agent.specs.declared.operation.Busy.{Busy}
-use Rattle.mgmt_agent.specs.Machine as manager
 use Rattle.orb_layout.specs.declared.ask.Ask.{Ask}
 use Rattle.orb_layout.specs.declared.ask.Ask.TheVariants.{Nothing, Read, Write}
 use Rattle.orb_layout.specs.declared.ask.FailCause.TheVariants as causes
@@ -22,31 +19,17 @@ use Rattle.orb_layout.specs.Replies.{Answer, Done, Expired, NoLabel, Payload, Re
 use Rattle.rbc_disk.specs.Disk.{Disk}
 use Rattle.rbc_disk.specs.Runs.{Told}
 use Rattle.rbc_disk.specs.Units.{PlainDisk}
-use Rattle.sbp_journal.specs.Addresses.{Access, Register, Start, agent_reset, agent_state, doorbell, management_agent, no_start, orb_pointer, register, rom_start, start_at, start_serves, unsolicited_enable}
-use Rattle.sbp_journal.specs.Run.{Moment, asked, said}
-use Rattle.sbp_journal.specs.Transactions.{Part, no_packet, part_of, request, response}
-use Rattle.sbp_journal.specs.Wire.{Terms, terms}
-use Rattle.sbp_journal.specs.declared.note.Note.{Note}
-use Rattle.sbp_journal.specs.declared.note.Note.TheVariants as notes
-use Rattle.sbp_journal.specs.declared.operation.FunctionWord.TheVariants as functions
-use Rattle.sbp_laws.specs.Agents.{Event, got_in, nothing, replies, reply_to, write_in}
-use Rattle.sbp_laws.specs.Packets.{access_at, access_in_bytes, answer_in, answered_at, id_for, packet_at, receiver_in, sender_in}
-use Rattle.sbp_laws.specs.Progress.{Progress, gets, gets_ahead, gets_by, gets_main, no_progress, progress, reads_main, sends as progress_sends}
-use Rattle.sbp_laws.specs.Targets.{Agent, Decided, Purpose, Reply, Target, agent_at, agent_over, ahead_lost, closed, cut_agent, entered_by, enters_in, for_agent, for_manager, for_nobody, got_by, is_nothing, is_serial, is_write_access, known_at, main_lost, manager_step, moved, new_agent, over, pointed_by, points, purpose_of, register_got, replied, replied_to, request_got, rings, sends_of, sent_as, sent_for, start_got, started_by, taken_on, target_at, target_by, wants, wants_it, with_agent}
-use Rattle.sbp_world.proofs.Agents.Management.Firsts.{wire_is}
-use Rattle.sbp_world.proofs.Common.{none_is, same_number, untrue}
+use Rattle.sbp_journal.specs.Run.{Moment}
+use Rattle.sbp_laws.specs.Agents.{replies}
+use Rattle.sbp_laws.specs.Progress.{Progress, gets_ahead, gets_by, gets_main, progress, reads_main, sends as progress_sends}
+use Rattle.sbp_laws.specs.Targets.{Agent, agent_at, agent_over, ahead_lost, closed, cut_agent, is_nothing, is_serial, main_lost, moved, new_agent, over, pointed_by, points, rings, sends_of, target_at, wants}
+use Rattle.sbp_world.proofs.Common.{same_number, untrue}
 use Rattle.sbp_world.proofs.Lists.MainStays.{wanted}
-use Rattle.sbp_world.proofs.Lists.OrbFolds.{new_there}
-use Rattle.sbp_world.proofs.Lists.AgentFolds.{AreKept, AreLasting, AreSo, AreStill, Pends, cut_still, over_still, set_so, set_still, settles, so, stand, stand_still}
-use Rattle.sbp_world.proofs.Lists.AgentNotes.{managed_kept, note_kept, pick}
-use Rattle.turn_laws.proofs.DeathAnswers.{write_no}
 use Rattle.turn_laws.proofs.EndShapes.{IsShapedStep, IsUnderWay, lost_shaped, reply_shaped}
 use Rattle.turn_laws.proofs.FetchSteps.{Brings, Leaves, Points, Rings, ahead_leaves, is_fetching, lost_leaves, lost_plain, main_brings, point_so, ring_so}
-use Rattle.turn_laws.proofs.LaterNotes.{one_count}
 use Rattle.turn_laws.proofs.NextSteps.{Unread}
-use Rattle.turn_laws.proofs.Progresses.{IsWhole, calm_gets, whole_before}
-use Rattle.turn_laws.proofs.PushSerials.{Apart, apart_of, counted}
-use Rattle.turn_laws.proofs.SerialsStay.{All, takes_on}
+use Rattle.turn_laws.proofs.Progresses.{IsWhole}
+use Rattle.turn_laws.proofs.ProgressFolds.{AreFollowed, followed_before}
 
 -- ---- of one agent
 -- An ORB that is still to be read has no next pointer, and where its read was sent none was got. Nothing was got of a read ahead. An agent that asks, or is not active, has no main
@@ -61,7 +44,7 @@ pub record IsFetched (p : Progress) (a : Agent) : Type 0 where
   pub looks : is_fetching a.machine.phase ≡ true → is_nothing a.asks_ahead ≡ true
 
 -- both cannot be
-clash : {A : Type 0} (b : Bool) → b ≡ true → b ≡ false → A
+pub clash : {A : Type 0} (b : Bool) → b ≡ true → b ≡ false → A
 clash b e f = untrue (sym f ∙ e)
 
 -- it is so of one that does not differ in this
@@ -102,7 +85,7 @@ none_if : (x : Bool) (s : Option ℕ) → x ≡ false → is_some (cond x s None
 none_if true s e = untrue (sym e)
 none_if false s e = refl
 
-some_left : (x y : Bool) (s : Option ℕ) → is_some (cond (x || not y) None s) ≡ true → (x ≡ false) × ((y ≡ true) × (is_some s ≡ true))
+pub some_left : (x y : Bool) (s : Option ℕ) → is_some (cond (x || not y) None s) ≡ true → (x ≡ false) × ((y ≡ true) × (is_some s ≡ true))
 some_left true y s e = untrue e
 some_left false true s e = (refl, (refl, e))
 some_left false false s e = untrue e
@@ -207,33 +190,14 @@ module _ (now : Progress) where
     looks = λ e. h.looks (k.fetches e);
   }
 
-abbrev Fetched : (ℕ → Progress) → ℕ → Agent → Type 0
-Fetched p q a = IsFetched (p q) a
-
--- the packets of a turn are said apart
-abbrev Never : ℕ → Type 0
-Never serial = ⊥
-
-lasts : (p : ℕ → Progress) → AreLasting (Fetched p) Never
-lasts p = record {
-  untells = λ q a b h. record { unread = h.unread; main = h.main; ahead = h.ahead; idle = h.idle; asks = h.asks; none = h.none; looks = h.looks };
-  sends = λ q a is_write serial never h. absurd never;
-  loses = λ q a h. loses (p q) a h;
-  ends = λ q a h. ends (p q) a h;
-  stays = λ q which answer plain told b h. new_fetched (p q);
-}
-
-are_kept : (p : ℕ → Progress) → AreKept (Fetched p) Never
-are_kept p = record { lasting = lasts p; cuts = λ q a h. cuts (p q) a }
-
 abort_same : (m : Machine) (orb : ℕ) → ((abort_step m orb).phase ≡ m.phase) × ((abort_step m orb).orb.next ≡ m.orb.next)
 unfolding abort_step
 abort_same m orb = (refl, refl)
 
-aborts : (p : ℕ → Progress) (q : ℕ) (a : Agent) (orb : ℕ) → Fetched p q a → Fetched p q (record a { machine = abort_step a.machine orb })
-aborts p q a orb h =
+aborts : (p : Progress) (a : Agent) (orb : ℕ) → IsFetched p a → IsFetched p (record a { machine = abort_step a.machine orb })
+aborts p a orb h =
     let s = abort_same a.machine orb in
-    same_fetched (p q) (p q) a (record a { machine = abort_step a.machine orb })
+    same_fetched p p a (record a { machine = abort_step a.machine orb })
     (record { phase = s.0; next = s.1; main = refl; ahead = λ e. e; asks = λ e. e; looks = λ e. e; got = refl; got_ahead = λ e. refl }) h
 
 -- ---- a reply
@@ -274,100 +238,9 @@ module _ (p : Progress) (a : Agent) (h : IsFetched p a) (w : IsWhole p a) (q : �
       closed_step p (gets_ahead answer p) (reply_step a.machine q plain told Ahead answer) (record a { untold = b }) (ahead_leaves a.machine q plain told answer) (ahead_next p answer)
       (record { unread = h.unread; main = h.main; ahead = h.ahead; idle = h.idle; asks = h.asks; none = h.none; looks = h.looks })
 
--- ---- what the target gets
+-- ---- the progress of an agent that stands
 as_before : (p now : Progress) (a : Agent) → now.next ≡ p.next → now.ahead ≡ p.ahead → IsFetched p a → IsFetched now a
 as_before p now a e f h = same_fetched p now a a (record { phase = refl; next = refl; main = refl; ahead = λ x. x; asks = λ x. x; looks = λ x. x; got = e; got_ahead = λ x. f }) h
-
-module _ (p : ℕ → Progress) (T : Target) (h : AreStill (Fetched p) T) (w : (q : ℕ) → IsWhole (p q) (agent_at T q)) where
-  abbrev Then : Event → ℕ → Progress
-  Then e q = gets e q (agent_at T q) (p q)
-
-  module _ (place : ℕ) (which : Which) (answer : Answer) where
-    abbrev mine : Reply
-    mine = record { place = place; which = which; answer = answer }
-
-    own_pends : Pends (Fetched (Then (replies mine))) (agent_at T place) mine
-    own_pends plain told b =
-        subst (λ (x : Progress). IsFetched x (moved (reply_step (agent_at T place).machine place plain told which answer) (closed which (record (agent_at T place) { untold = b }))))
-        (sym (ap (λ (y : Bool). cond y (gets_by which (agent_at T place) answer (p place)) (p place)) (same_number place)))
-        (reply_fetched (p place) (agent_at T place) (h.agents place) (w place) place answer which plain told b)
-
-    agent_fetched : AreSo (Fetched (Then (replies mine))) (replied_to (for_agent place which) answer T)
-    agent_fetched = record {
-      agents = λ q e. subst (λ (x : Progress). IsFetched x (agent_at T q)) (sym (ap (λ (y : Bool). cond y (gets_by which (agent_at T q) answer (p q)) (p q)) e)) (h.agents q);
-      pending = λ reply e.
-          let same : mine ≡ reply = (let both : Some mine ≡ Some reply = e in cc) in
-          subst (λ (r : Reply). Pends (Fetched (Then (replies mine))) (agent_at T r.place) r) same own_pends;
-    }
-
-  replied_fetched : (answer : Answer) (purpose : Purpose) → AreSo (Fetched (Then (reply_to purpose answer))) (replied_to purpose answer T)
-  replied_fetched answer (for_agent place which) = agent_fetched place which answer
-  replied_fetched answer for_manager = so (Fetched p) _ (managed_kept (Fetched p) (are_kept p) (manager_step T answer) answer T (λ place orb e a x. aborts p place a orb x) h)
-  replied_fetched answer for_nobody = so (Fetched p) T h
-
-  -- a request
-  register_fetched : (name : Register) (place : ℕ) (access : Access) → AreStill (Fetched p) (register_got name place access T)
-  register_fetched agent_reset place access = cut_still (Fetched p) (are_kept p).cuts T place h
-  register_fetched orb_pointer place access =
-      let a = agent_at T place in
-      let pointer = pointer_at access.payload 0 in
-      pick (Fetched p) (are_kept p) access.is_write (with_agent T place (points access a)) T
-      (set_still (Fetched p) T place (points access a) h (λ x. pointed_fetched (p place) (point_step a.machine pointer) (offset_at access.payload 0) a (point_so a.machine pointer) x)) h
-  register_fetched doorbell place access =
-      let a = agent_at T place in set_still (Fetched p) T place (rings a) h (λ x. rings_fetched (p place) (doorbell_step a.machine) a (ring_so a.machine) x)
-  register_fetched unsolicited_enable place access = stand_still (Fetched p) _ T refl refl h
-  register_fetched agent_state place access = h
-
-  started_fetched : (r : Result Ask Busy × manager.Machine) → AreStill (Fetched p) (started_by r T)
-  started_fetched (Err busy, machine) = h
-  started_fetched (Ok ask, machine) = stand_still (Fetched p) _ T refl refl h
-
-  start_fetched : (start : Start) (source : ℕ) (access : Access) → AreStill (Fetched p) (start_got start source access T)
-  start_fetched (register place name) source access = register_fetched name place access
-  start_fetched management_agent source access = started_fetched (manager.start_step T.manager source (offset_at access.payload 0))
-  start_fetched rom_start source access = h
-  start_fetched no_start source access = h
-
-  request_still : (access : Option Access) (source : ℕ) → AreStill (Fetched p) (request_got access source T)
-  request_still None source = h
-  request_still (Some access) source =
-      pick (Fetched p) (are_kept p) (start_serves (start_at access.offset) access) (start_got (start_at access.offset) source access T) T (start_fetched (start_at access.offset) source access) h
-
-  request_fetched : (access : Option Access) (source : ℕ) → AreSo (Fetched (Then (write_in access))) (request_got access source T)
-  request_fetched access source =
-      let e = write_in access in
-      let now = request_got access source T in
-      let s = request_still access source in
-      let before = λ (q : ℕ). (let c = calm_gets e (write_no access) q (agent_at T q) (p q) in as_before (p q) (Then e q) (agent_at now q) c.0 c.1 (s.agents q)) in
-      so (Fetched (Then e)) now (record { agents = before; none = s.none })
-
-  got_fetched : (wire : Terms) (serial : ℕ) (b : Bool) (own : Option ℕ) → AreSo (Fetched (Then (cond b (got_in own T wire serial) nothing))) (cond b (got_by own wire serial T) T)
-  got_fetched wire serial true (Some own) = replied_fetched (answer_in (packet_at wire serial)) (purpose_of T own)
-  got_fetched wire serial true None = request_fetched (access_at wire serial) (id_for wire 0 (unwrap_or (sender_in (wire.sent serial)) 0))
-  got_fetched wire serial false own = so (Fetched p) T h
-
-  late_fetched : (serial : ℕ) (b : Bool) → AreSo (Fetched (Then (cond b (reply_to (purpose_of T serial) Expired) nothing))) (cond b (replied serial Expired T) T)
-  late_fetched serial true = replied_fetched Expired (purpose_of T serial)
-  late_fetched serial false = so (Fetched p) T h
-
--- ---- a login is entered: its agent is new
-module _ (p : ℕ → Progress) where
-  unheard : (q : ℕ) (which : Which) (answer : Answer) (plain : PlainDisk) (told : Option Told) (b : Bool)
-      → IsFetched (p q) (moved (reply_step new_machine q plain told which answer) (closed which (record new_agent { untold = b })))
-  unfolding reply_step
-  unheard q Main answer plain told b = record { unread = λ e. untrue e; main = λ e x. untrue e; ahead = λ x. untrue x; idle = λ e. refl; asks = λ e. untrue (sym e); none = λ e. refl; looks = λ e. refl }
-  unheard q Ahead answer plain told b = record { unread = λ e. untrue e; main = λ e x. untrue e; ahead = λ x. untrue x; idle = λ e. refl; asks = λ e. untrue (sym e); none = λ e. refl; looks = λ e. refl }
-
-  enters_fetched : (place : Option ℕ) (decided : Option Decided) (id : ℕ) (t : Target) → AreSo (Fetched p) t → AreSo (Fetched p) (enters_in place decided id t)
-  enters_fetched None decided id t h = h
-  enters_fetched (Some place) None id t h = h
-  enters_fetched (Some place) (Some decided) id t h =
-      stand (Fetched p) (enters_in (Some place) (Some decided) id t) (with_agent t place new_agent) refl refl
-      (set_so (Fetched p) t place new_agent h (new_fetched (p place)) (λ reply e plain told b. unheard reply.place reply.which reply.answer plain told b))
-
-  entered_fetched : (login : Option ℕ) (t : Target) → AreSo (Fetched p) t → AreSo (Fetched p) (entered_by login t)
-  entered_fetched None t h = h
-  entered_fetched (Some id) t h = enters_fetched (position is_none t.table.places) t.decided id t h
 
 -- ---- a packet is sent, with a serial that nobody waits for yet
 module _ (p : Progress) (serial : ℕ) where
@@ -437,82 +310,30 @@ module _ (p : Progress) (serial : ℕ) where
           })
       by false g false k = sent_still a e f h
 
--- of the target, in whose agents nobody waits for it
-module _ (p : ℕ → Progress) (serial : ℕ) where
-  abbrev Sent : ℕ → Agent → Type 0
-  Sent q a = IsFetched (progress_sends a serial (p q)) a
+unheard : (p : Progress) (q : ℕ) (which : Which) (answer : Answer) (plain : PlainDisk) (told : Option Told) (b : Bool)
+    → IsFetched p (moved (reply_step new_machine q plain told which answer) (closed which (record new_agent { untold = b })))
+unfolding reply_step
+unheard p q Main answer plain told b = record { unread = λ e. untrue e; main = λ e x. untrue e; ahead = λ x. untrue x; idle = λ e. refl; asks = λ e. untrue (sym e); none = λ e. refl; looks = λ e. refl }
+unheard p q Ahead answer plain told b = record { unread = λ e. untrue e; main = λ e x. untrue e; ahead = λ x. untrue x; idle = λ e. refl; asks = λ e. untrue (sym e); none = λ e. refl; looks = λ e. refl }
 
-  either_sent : (b : Bool) (x y : Target) → AreStill Sent x → AreStill Sent y → AreStill Sent (cond b x y)
-  either_sent true x y h k = h
-  either_sent false x y h k = k
+-- ---- each step keeps it
+pub fetched_steps : AreFollowed IsFetched
+fetched_steps = record {
+  new = new_fetched;
+  untells = λ p a b h. record { unread = h.unread; main = h.main; ahead = h.ahead; idle = h.idle; asks = h.asks; none = h.none; looks = h.looks };
+  loses = loses;
+  ends = ends;
+  cuts = λ p a h. cuts p a;
+  aborts = aborts;
+  points = λ p a access quiet h. let pointer = pointer_at access.payload 0 in pointed_fetched p (point_step a.machine pointer) (offset_at access.payload 0) a (point_so a.machine pointer) h;
+  rings = λ p a quiet h. rings_fetched (record p { rung = true }) (doorbell_step a.machine) a (ring_so a.machine) (as_before p (record p { rung = true }) a refl refl h);
+  sends = λ p a is_write serial e f h. sends_fetched p serial is_write a e f h;
+  replies = λ p a q which answer is_told waits w quiet h plain told b. reply_fetched p a h w q answer which plain told b;
+  unheard = unheard;
+}
 
-  module _ (S : Target) (h : AreStill (Fetched p) S) (free : All (Apart serial) refl S.agents) where
-    before : AreStill Sent S
-    before = record { agents = λ q. sent_still (p q) serial (agent_at S q) (free q).0 (free q).1 (h.agents q); none = h.none }
-
-    for_one : (place : Option ℕ) (is_write : Bool) → AreStill Sent (sent_for place is_write serial S)
-    for_one (Some place) is_write =
-        set_still Sent S place (sends_of is_write serial (agent_at S place)) before (λ x. sends_fetched (p place) serial is_write (agent_at S place) (free place).0 (free place).1 (h.agents place))
-    for_one None is_write =
-        either_sent (wants S.manager_asks is_write) (record S { manages = Some serial; manager_asks = Nothing }) (record S { pushes = serial ∷ S.pushes })
-        (stand_still Sent (record S { manages = Some serial; manager_asks = Nothing }) S refl refl before) (stand_still Sent (record S { pushes = serial ∷ S.pushes }) S refl refl before)
-
-    sent_so : (part : Part) (is_write : Bool) → AreStill Sent (sent_as part is_write serial S)
-    sent_so (request label kind) is_write = for_one (position (wants_it is_write) S.agents) is_write
-    sent_so (response label kind) is_write = before
-    sent_so no_packet is_write = before
-
--- ---- at each moment
-module _ (start : List Disk) where
-  abbrev At : List Moment → ℕ → Progress
-  At past q = progress start past q
-
-  abbrev Is : List Moment → Type 0
-  Is past = AreSo (Fetched (At past)) (target_at start past)
-
-  -- nobody waits for the next serial
-  free_in : (past : List Moment) (serial : ℕ) → SerialsCount past → serial ≡ (terms past).count + 1 → All (Apart serial) refl (taken_on None (target_at start past).reply (target_at start past)).agents
-  free_in past serial c e =
-      let t = target_at start past in
-      let n = (terms past).count in
-      let above : n < serial = omega (arith, e) in
-      let k = counted start past c in
-      (takes_on (Apart serial) refl None t.reply t).agents (λ q. (apart_of n serial (agent_at t q).main above (k.agents q).0, apart_of n serial (agent_at t q).ahead above (k.agents q).1, (k.agents q).2))
-
-  on_note : (note : Note) (past : List Moment) → SerialsCount (said note ∷ past) → Is past → Is (said note ∷ past)
-  on_note (notes.Got serial) past c h =
-      let wire = terms past in
-      let s = over_still (Fetched (At past)) (lasts (At past)) (target_at start past) h in
-      subst (λ (w : Terms). AreSo (Fetched (At (said (notes.Got serial) ∷ past))) (target_by (notes.Got serial) past w (target_at start past))) (sym (wire_is start past))
-      (got_fetched (At past) (over (target_at start past)) s (whole_before start past) wire serial (is_serial (receiver_in (wire.sent serial)) 0) (answered_at wire serial))
-  on_note (notes.TimedOut serial) past c h =
-      let wire = terms past in
-      let s = over_still (Fetched (At past)) (lasts (At past)) (target_at start past) h in
-      subst (λ (w : Terms). AreSo (Fetched (At (said (notes.TimedOut serial) ∷ past))) (target_by (notes.TimedOut serial) past w (target_at start past))) (sym (wire_is start past))
-      (late_fetched (At past) (over (target_at start past)) s (whole_before start past) serial (is_serial (sender_in (wire.sent serial)) 0))
-  on_note (notes.Sent serial generation zero to bytes) past c h =
-      let t = target_at start past in
-      let now = target_at start (said (notes.Sent serial generation 0 to bytes) ∷ past) in
-      let s = sent_so (At past) serial (taken_on None t.reply t) (settles (Fetched (At past)) (lasts (At past)) t h) (free_in past serial c.1 c.0) (part_of bytes) (is_write_access (access_in_bytes bytes)) in
-      so (Fetched (At (said (notes.Sent serial generation 0 to bytes) ∷ past))) now (record { agents = s.agents; none = s.none })
-  on_note (notes.Sent serial generation (suc from) to bytes) past c h =
-      let t = target_at start past in
-      let S = taken_on None t.reply t in
-      let other : nat_eq (suc from) 0 ≡ false = grind arith in
-      subst (λ b. AreSo (Fetched (At past)) (cond b (sent_as (part_of bytes) (is_write_access (access_in_bytes bytes)) serial S) S)) (sym other)
-      (so (Fetched (At past)) S (settles (Fetched (At past)) (lasts (At past)) t h))
-  on_note (notes.Managed i functions.Login subject status login) past c h =
-      note_kept (Fetched (At past)) (are_kept (At past)) (notes.Managed i functions.Login subject status login) past (known_at start past).wire (target_at start past) h
-      (entered_fetched (At past) login (target_at start past) h)
-  on_note note past c h = note_kept (Fetched (At past)) (are_kept (At past)) note past (known_at start past).wire (target_at start past) h tt
-
-  fetched : (past : List Moment) → SerialsCount past → Is past
-  fetched [] c = record { agents = λ q e. subst (λ (a : Agent). IsFetched no_progress a) (sym (new_there 8 q)) (new_fetched no_progress); pending = λ reply e. none_is reply e }
-  fetched (asked line event ∷ past) c = so (Fetched (At past)) (over (target_at start past)) (over_still (Fetched (At past)) (lasts (At past)) (target_at start past) (fetched past c))
-  fetched (said note ∷ past) c = on_note note past c (fetched past (one_count note past c))
-
-  -- an agent whose transaction is under way
-  pub unread_before : (past : List Moment) → SerialsCount past → (q : ℕ) → (let a = agent_at (over (target_at start past)) q in is_some a.main ≡ true → Unread (progress start past q) a.machine)
-  unread_before past c q some e =
-      let h = (over_still (Fetched (At past)) (lasts (At past)) (target_at start past) (fetched past c)).agents q in
-      h.main (ap is_fetching e) some ∙ sym (h.unread (ap is_fetching e))
+-- so of an agent whose transaction is under way
+pub unread_before : (start : List Disk) (past : List Moment) → SerialsCount past → (q : ℕ) → (let a = agent_at (over (target_at start past)) q in is_some a.main ≡ true → Unread (progress start past q) a.machine)
+unread_before start past c q some e =
+    let h = followed_before IsFetched fetched_steps start past c q in
+    h.main (ap is_fetching e) some ∙ sym (h.unread (ap is_fetching e))

@@ -7,7 +7,6 @@ use Rattle.label_table.specs.Peers.{PeerPlace}
 use Rattle.label_table.specs.Bodies.{Body}
 use Rattle.label_table.specs.Layer.{Layer, asked_at, asking_in, asking_step, free_labels}
 use Rattle.login_table.specs.declared.login.Login.{Login}
-use Rattle.orb_layout.specs.declared.ask.Ask.{Ask}
 use Rattle.orb_layout.specs.declared.ask.Ask.TheVariants.{Nothing}
 use Rattle.orb_layout.specs.declared.ask.FailCause.TheVariants as causes
 use Rattle.command_agent.specs.declared.phase.Phase.{Phase}

@@ -86,7 +86,10 @@ pub mod NextSteps
 pub mod Progresses
 pub mod PresentOrbs
 pub mod SilentTurns
+pub mod ProgressFolds
 pub mod Fetches
+pub mod RestSteps
+pub mod Rests
 pub mod Silent
 pub mod StatusWrites
 pub mod Statuses

@@ -239,7 +239,7 @@ first_is bytes p true e other f =
     ap (λ x. (with_next (cond {A = Option OrbPointer} x (Some (pointer_at bytes 0)) None) p).next) e ∙ ap (λ (x : List ℕ). pointer_at x 0) same
 first_is bytes p false e other f = absurd (let no : Err causes.Grammar ≡ Ok other = f in cc)
 
-orb_first : (p : Progress) (answer : Answer) (bytes : List ℕ) → payload_of answer 32 ≡ Ok bytes → (gets_main phases.Fetching answer p).next ≡ pointer_at bytes 0
+pub orb_first : (p : Progress) (answer : Answer) (bytes : List ℕ) → payload_of answer 32 ≡ Ok bytes → (gets_main phases.Fetching answer p).next ≡ pointer_at bytes 0
 orb_first p (Payload other) bytes e = first_is other p (length other == 32) refl bytes e
 orb_first p Done bytes e = absurd (let no : Err causes.Grammar ≡ Ok bytes = e in cc)
 orb_first p (Refused rcode) bytes e = absurd (let no : Err causes.Refused ≡ Ok bytes = e in cc)

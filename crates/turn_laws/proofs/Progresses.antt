@@ -182,7 +182,7 @@ whole_as p now a e f h = record {
   looks = h.looks;
 }
 
-pub calm_gets : (e : Event) → NoReply e → (q : ℕ) (a : Agent) (p : Progress) → ((gets e q a p).next ≡ p.next) × ((gets e q a p).ahead ≡ p.ahead)
+calm_gets : (e : Event) → NoReply e → (q : ℕ) (a : Agent) (p : Progress) → ((gets e q a p).next ≡ p.next) × ((gets e q a p).ahead ≡ p.ahead)
 calm_gets nothing n q a p = (refl, refl)
 calm_gets (replies reply) n q a p = absurd (n reply refl)
 calm_gets (writes agent_state other given) n q a p = (refl, refl)
@@ -213,7 +213,7 @@ ahead_among from (a ∷ agents) place serial e =
     by rest more false true g h = record { k = 0; place_is = let f : from ≡ place = cc in omega arith; waits = is_its_serial a.ahead serial g }
     by rest more false false g h = let x = more h in let p = x.place_is in record { k = suc x.k; place_is = omega arith; waits = x.waits }
 
-ahead_of : (t : Target) (place serial : ℕ) → purpose_of t serial ≡ for_agent place Ahead → (agent_at t place).ahead ≡ Some serial
+pub ahead_of : (t : Target) (place serial : ℕ) → purpose_of t serial ≡ for_agent place Ahead → (agent_at t place).ahead ≡ Some serial
 ahead_of t place serial e = by (is_serial t.manages serial) e
   where
     by : (b : Bool) → cond b for_manager (purpose_among 0 t.agents serial) ≡ for_agent place Ahead → (agent_at t place).ahead ≡ Some serial

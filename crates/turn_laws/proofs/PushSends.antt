@@ -9,13 +9,13 @@ use Rattle.media_bay.specs.Unsolicited.{block}
 use Rattle.sbp_journal.specs.declared.outbox.Outgoing.{Outgoing}
 use Rattle.sbp_target.specs.declared.purpose.Purpose.{Purpose}
 use Rattle.sbp_target.specs.declared.purpose.Purpose.TheVariants as purposes
-use Rattle.sbp_target.specs.Nodes.{NodeState, Scene, desk_at, login_at}
+use Rattle.sbp_target.specs.Nodes.{Scene, desk_at}
 use Rattle.sbp_target.specs.Replies.{announced_by}
 use Rattle.sbp_target.specs.Sending.{request_step, sent_by}
-use Rattle.sbp_target.specs.Units.{hears, unsolicited_by}
+use Rattle.sbp_target.specs.Units.{unsolicited_by}
 use Rattle.sbp_target.specs.Histories.Moves.{Announced, Heard, pushes, stay, withholds}
 use Rattle.sbp_target.proofs.Histories.Moved.{announced_moves}
-use Rattle.sbp_target.proofs.Histories.Views.{heard_live, kept}
+use Rattle.sbp_target.proofs.Histories.Views.{kept}
 use Rattle.sbp_world.proofs.Common.{and_first, and_second, equal, same_number, untrue}
 
 -- it goes to another live login of the unit

@@ -32,7 +32,7 @@ use Rattle.turn_laws.proofs.AgentEnds.{found_at}
 use Rattle.turn_laws.proofs.EndFound.{failed_there}
 use Rattle.turn_laws.proofs.EndTries.{Brought, brought, brought_unsent, fails_in, found_by}
 use Rattle.turn_laws.proofs.FollowEnds.{no_label}
-use Rattle.turn_laws.proofs.FollowSends.{requested, requested_ahead, requested_by, requested_then, requests}
+use Rattle.turn_laws.proofs.FollowSends.{requested, requested_ahead, requested_by, requests}
 use Rattle.turn_laws.proofs.RequestWrites.{ahead_reads, lost_body, none_found, status_lost, unsent, write_sent}
 use Rattle.turn_laws.proofs.SilentTurns.{end_is, end_of, of_end, phase_is, presents_it, writes_it}
 use Rattle.turn_laws.proofs.StatusSteps.{EndsAs, IsEnd}

@@ -1,10 +1,8 @@
 -- In each turn of every run the initiator of an ORB that ends is sent the status of that end, where it finds a label, and no other write.
-use Rattle.std.proofs.Common.{◌≡◌, ◌∙◌, refl, sym, ap, subst, ℕ, is_some, Bool, true, false, List, [], ◌∷◌, Option, Some, None, Result, Ok, Err}
+use Rattle.std.proofs.Common.{◌≡◌, ◌∙◌, refl, sym, ap, subst, ℕ, is_some, true, List, [], ◌∷◌, Option, Some, None, Result, Ok, Err}
 use Rattle.bus_transactions.specs.Packets.{SerialsCount}
-use Rattle.label_table.specs.Layer.{Layer}
-use Rattle.login_table.specs.declared.login.Login.{Login}
 use Rattle.orb_layout.specs.declared.ask.Ask.{Ask}
-use Rattle.orb_layout.specs.declared.ask.Ask.TheVariants.{Nothing, Read, Write}
+use Rattle.orb_layout.specs.declared.ask.Ask.TheVariants.{Write}
 use Rattle.orb_layout.specs.declared.status.StatusKind.{StatusKind}
 use Rattle.orb_layout.specs.Pointers.{pointer_at}
 use Rattle.rbc_disk.specs.Disk.{Disk}
@@ -17,18 +15,16 @@ use Rattle.command_agent.specs.declared.step.AgentStep.{AgentStep}
 use Rattle.command_agent.specs.declared.step.PointRefusal.{PointRefusal}
 use Rattle.command_agent.specs.declared.step.Which.TheVariants.{Main}
 use Rattle.sbp_journal.specs.Addresses.{agent_reset, agent_state, doorbell, orb_pointer, unsolicited_enable}
-use Rattle.sbp_journal.specs.declared.note.Note.{Note}
 use Rattle.sbp_laws.specs.Agents.{AgentTurn, Event, agent_event, agent_turn, by_doorbell, by_pointer, nothing, replies, target_before, told_among, untold_among, wire_before, writes}
 use Rattle.sbp_laws.specs.LoginLaw.{HasLogins}
 use Rattle.sbp_laws.specs.NoteKinds.{is_end_note, of_kind}
 use Rattle.sbp_laws.specs.Progress.{progress}
-use Rattle.sbp_laws.specs.SentWrites.{End, StatusesAreSent, end_in, end_writes, place_in, src_by, statuses_due}
+use Rattle.sbp_laws.specs.SentWrites.{StatusesAreSent, end_in, end_writes, place_in, src_by, statuses_due}
 use Rattle.sbp_laws.specs.Targets.{Reply, Target, agent_at, initiator_at, is_nothing, plain_for}
 use Rattle.sbp_laws.specs.Turns.{Turn}
-use Rattle.sbp_target.specs.declared.purpose.Purpose.{Purpose}
 use Rattle.sbp_world.proofs.Lists.OrbSteps.{holds_read}
 use Rattle.turn_laws.specs.Statuses.{StatusesLaw}
-use Rattle.turn_laws.proofs.AgentDue.{HasTurn, IsTurnOf, TellsEnds, TellsFor, has_rest, has_steps}
+use Rattle.turn_laws.proofs.AgentDue.{HasTurn, TellsEnds, TellsFor, has_rest, has_steps}
 use Rattle.turn_laws.proofs.EachTurns.{joined_law}
 use Rattle.turn_laws.proofs.EndFound.{answering_is}
 use Rattle.turn_laws.proofs.Ends.{tells_law}
@@ -38,7 +34,7 @@ use Rattle.turn_laws.proofs.Handed.{AllInner}
 use Rattle.turn_laws.proofs.Silent.{Calmly, calm_law, next_ended, next_held, read_here, src_same}
 use Rattle.turn_laws.proofs.SilentTurns.{end_by_ends}
 use Rattle.turn_laws.proofs.StatusSteps.{EndsAs, reply_ends}
-use Rattle.turn_laws.proofs.StatusWrites.{IsKnown, statuses_sent}
+use Rattle.turn_laws.proofs.StatusWrites.{statuses_sent}
 
 -- a turn that ends no ORB
 none_sent : (start : List Disk) (t : Turn) → of_kind is_end_note t.rest ≡ [] → StatusesAreSent start t

@@ -1,5 +1,5 @@
--- Behind each turn of every run an ACTIVE agent waits for its main request, a SUSPENDED one for none, and an operation of the management for its one request.
-use Rattle.std.proofs.Common.{arith, ◌≡◌, ◌∙◌, refl, sym, ap, subst, ℕ, zero, suc, ◌<◌, ◌==◌, ◌&&◌, is_some, true, false, List, [], ◌∷◌, length, slice_index_or, Option, Some, None}
+-- Behind each turn of every run an ACTIVE agent waits for its main request, a SUSPENDED one rests, and an operation of the management waits for its one request.
+use Rattle.std.proofs.Common.{arith, ◌≡◌, ◌∙◌, refl, sym, ap, subst, ℕ, suc, ◌+◌, ◌<◌, ◌==◌, ◌&&◌, is_some, true, false, List, [], ◌∷◌, length, slice_index_or, Option, Some, None}
 use Rattle.bus_transactions.specs.Reached.{IsAwaited}
 use Rattle.bus_transactions.specs.Wire.{transaction}
 use Rattle.bus_transactions.proofs.Reaches.{goes_on}
@@ -14,7 +14,7 @@ use Rattle.sbp_journal.specs.Run.{Moment}
 use Rattle.sbp_journal.specs.Transactions.{Transaction}
 use Rattle.sbp_journal.specs.Wire.{Held, Terms, terms}
 use Rattle.sbp_laws.specs.Packets.{begun_in, is_of_now, is_under_way, is_waiting_for, waits_for}
-use Rattle.sbp_laws.specs.SentLaw.{ManagerRuns, Runs}
+use Rattle.sbp_laws.specs.SentLaw.{AgentsRun, IsAtRest, ManagerRuns, Runs, RunsBy}
 use Rattle.sbp_laws.specs.Targets.{Agent, Target, agent_at, new_agent, over, target_at}
 use Rattle.sbp_world.specs.Agents.Crews.{IsOf}
 use Rattle.sbp_world.specs.Agents.Management.Terms.{Awaits, HasRequest}
@@ -23,32 +23,31 @@ use Rattle.sbp_target.specs.Nodes.{desk_at}
 use Rattle.sbp_world.proofs.Agents.Management.Holding.{past_terms}
 use Rattle.sbp_world.proofs.Agents.Management.Still.{hist}
 use Rattle.sbp_world.proofs.Common.{itself, untrue}
-use Rattle.turn_laws.specs.UnderWay.{AgentsWait, TargetWaits, TargetWaitsLaw, WaitsBy}
+use Rattle.turn_laws.specs.UnderWay.{TargetWaits, TargetWaitsLaw}
 use Rattle.turn_laws.proofs.AgentHere.{desk_fits}
 use Rattle.turn_laws.proofs.BehindTurns.{behind_every_turn}
 use Rattle.turn_laws.proofs.DeathAnswers.{asked_here}
+use Rattle.sbp_world.proofs.Wire.Starts.{laws_of}
 use Rattle.turn_laws.proofs.Places.{Place}
+use Rattle.turn_laws.proofs.RestSteps.{is_suspended}
+use Rattle.turn_laws.proofs.Rests.{rests_before}
 
--- each agent of a list
-abbrev Waits : Terms → Agent → Type 0
-Waits wire a = WaitsBy (state_in a.machine.phase) wire a
+-- an ACTIVE agent has sent a main request, and a SUSPENDED one has none, and rests
+by_phase : (phase : Phase) (start : List Disk) (past : List Moment) (place : ℕ) (a : Agent) → (is_sent phase ≡ true → Runs (terms past) a.main) → (is_suspended phase ≡ true → IsAtRest start past place a) → RunsBy (state_in phase) start past place a
+by_phase phases.Reset start past place a h k = tt
+by_phase phases.Suspended start past place a h k = k refl
+by_phase phases.WritingLastStatus start past place a h k = tt
+by_phase phases.Dead start past place a h k = tt
+by_phase phases.Fetching start past place a h k = h refl
+by_phase phases.ReadingTable start past place a h k = h refl
+by_phase (phases.ReadingData wanted) start past place a h k = h refl
+by_phase phases.Answering start past place a h k = h refl
+by_phase phases.WritingStatus start past place a h k = h refl
+by_phase phases.ReadingNext start past place a h k = h refl
 
-each_waits : (wire : Terms) (agents : List Agent) → ((place : ℕ) → place < length agents → Waits wire (slice_index_or agents place new_agent)) → AgentsWait wire agents
-each_waits wire [] h = tt
-each_waits wire (a ∷ agents) h = (h zero (omega arith), each_waits wire agents (λ place b. h (suc place) (omega (arith, b))))
-
--- an ACTIVE agent has sent a main request, and a SUSPENDED one has none
-by_phase : (phase : Phase) (wire : Terms) (a : Agent) → (is_sent phase ≡ true → Runs wire a.main) → (is_sent phase ≡ false → a.main ≡ None) → WaitsBy (state_in phase) wire a
-by_phase phases.Reset wire a h k = tt
-by_phase phases.Suspended wire a h k = k refl
-by_phase phases.WritingLastStatus wire a h k = tt
-by_phase phases.Dead wire a h k = tt
-by_phase phases.Fetching wire a h k = h refl
-by_phase phases.ReadingTable wire a h k = h refl
-by_phase (phases.ReadingData wanted) wire a h k = h refl
-by_phase phases.Answering wire a h k = h refl
-by_phase phases.WritingStatus wire a h k = h refl
-by_phase phases.ReadingNext wire a h k = h refl
+unsent : (phase : Phase) → is_suspended phase ≡ true → is_sent phase ≡ false
+unsent phases.Suspended e = refl
+unsent phase e = untrue e
 
 none_by : (main : Option ℕ) → is_some main ≡ false → main ≡ None
 none_by None e = refl
@@ -71,15 +70,28 @@ module _ (units ready : ℕ) (has : 0 < units) (start : List Disk) (past : List 
   abbrev T : Target
   T = over (target_at start ms)
 
+  -- each agent of a list
+  abbrev Goes : ℕ → Agent → Type 0
+  Goes place a = RunsBy (state_in a.machine.phase) start ms place a
+
+  each_goes : (from : ℕ) (agents : List Agent) → ((k : ℕ) → k < length agents → Goes (from + k) (slice_index_or agents k new_agent)) → AgentsRun start ms from agents
+  each_goes from [] h = tt
+  each_goes from (a ∷ agents) h = (
+    subst (λ n. Goes n a) (let e : from + 0 ≡ from = omega arith in e) (h 0 (omega arith)),
+    each_goes (from + 1) agents (λ k b. subst (λ n. Goes n (slice_index_or agents k new_agent)) (let e : from + suc k ≡ from + 1 + k = omega arith in e) (h (suc k) (omega (arith, b)))),
+  )
+
   -- ---- an agent
-  agent_waits : (place : ℕ) → place < 8 → Waits t (agent_at T place)
+  agent_waits : (place : ℕ) → place < 8 → Goes place (agent_at T place)
   agent_waits place b =
       let a = agent_at T place in
       let of : IsOf here.agents.requests a (desk_at s.world.target place) = here.agents.are.each place b in
       let sent_is : is_some a.main ≡ is_sent a.machine.phase = of.main ∙ (desk_fits units ready has start past s here place b).main ∙ sym (ap is_sent of.machine.phase) in
-      by_phase a.machine.phase t a
+      by_phase a.machine.phase start ms place a
       (λ sent. runs_by t a.main (sent_is ∙ sent) (λ serial e. (((asked_here units ready has start past s here).all place b).main serial e).under_way))
-      (λ unsent. none_by a.main (sent_is ∙ unsent))
+      (λ rests.
+      let r = rests_before start ms (laws_of past s.world here.holds.sound.stands).serials place rests in
+      record { ended = none_by a.main (sent_is ∙ unsent a.machine.phase rests); answered = r.0; ends = r.1.0; unrung = r.1.1 })
 
   -- ---- the operation
   under_way : (source : ℕ) (r : HasRequest t s.world.target.layer source manages) → is_under_way t r.serial ≡ true
@@ -104,7 +116,7 @@ module _ (units ready : ℕ) (has : 0 < units) (start : List Disk) (past : List 
 
   target_waits : TargetWaits start ms
   target_waits = record {
-    agents = each_waits t T.agents (λ place b. agent_waits place (omega (arith, b, here.agents.are.size)));
+    agents = each_goes 0 T.agents (λ k b. subst (λ n. Goes n (slice_index_or T.agents k new_agent)) (let e : k ≡ 0 + k = omega arith in e) (agent_waits k (omega (arith, b, here.agents.are.size))));
     management = operation_waits (target_at start ms).manager.operation refl;
   }
 

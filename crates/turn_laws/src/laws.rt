@@ -220,9 +220,9 @@ pub fn statuses_and_resets_end_operations()
 {}
 
 /// Behind each turn of every run, whatever anybody injected, an agent that is ACTIVE has its main request under way,
-/// one that is SUSPENDED none, and an operation of the management its one request, each under the serial that the
-/// history has for it: what the sent law asks behind each turn of the operation (`management`), and of agents all
-/// but what one that rests has read (`agents`).
+/// and an operation of the management its one request, each under the serial that the history has for it. One that
+/// is SUSPENDED has none: its last ORB's status is answered, the next pointer that was got last is null, and no
+/// DOORBELL came since its read was sent. It is `agents` and `management` of what the sent law asks behind each turn.
 #[tactic(auto, using(crate::proofs::TargetWaits::target_waits_law))]
 pub fn what_is_active_waits_for_a_request()
     ensures { TargetWaitsLaw }

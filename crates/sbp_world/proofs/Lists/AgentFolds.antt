@@ -60,7 +60,7 @@ set_agent (a ∷ agents) (suc k) x (suc q) = by (set_agent agents k x q)
     by (is_none e f) = is_none e f
 
 -- ---- all are
-map_at : (f : Agent → Agent) → f new_agent ≡ new_agent → (agents : List Agent) (q : ℕ) → at_place (map f agents) q ≡ f (at_place agents q)
+pub map_at : (f : Agent → Agent) → f new_agent ≡ new_agent → (agents : List Agent) (q : ℕ) → at_place (map f agents) q ≡ f (at_place agents q)
 map_at f e [] q = sym e
 map_at f e (a ∷ agents) zero = refl
 map_at f e (a ∷ agents) (suc q) = map_at f e agents q
