@@ -80,7 +80,7 @@ plain_more : (told : List Side) (side : Side) → ArePlain told → is_change si
 plain_more [] side p e = (e, tt)
 plain_more (first ∷ told) side p e = (p.0, plain_more told side p.1 e)
 
-plain_tells : Tells ArePlain
+pub plain_tells : Tells ArePlain
 plain_tells = record { tells = λ told side e p. plain_more told side p e }
 
 first_more : (changes told : List Side) (side : Side) → is_change side ≡ false → AreFirst changes told → AreFirst changes (told ++ side ∷ [])
@@ -411,10 +411,10 @@ same_operation (Some source) answer node layer told h = same_step (management.re
 
 -- ---- a reply to an agent
 -- what a disc's announcement reads is as before
-record Apart (before now : NodeState) : Type 0 where
-  logins : now.logins ≡ before.logins
-  pending : now.pending ≡ before.pending
-  enabled : (place : ℕ) → (desk_at now place).is_enabled ≡ (desk_at before place).is_enabled
+pub record Apart (before now : NodeState) : Type 0 where
+  pub logins : now.logins ≡ before.logins
+  pub pending : now.pending ≡ before.pending
+  pub enabled : (place : ℕ) → (desk_at now place).is_enabled ≡ (desk_at before place).is_enabled
 
 picked : (b : Bool) (d e : Desk) (x : Bool) → d.is_enabled ≡ x → e.is_enabled ≡ x → (cond b d e).is_enabled ≡ x
 picked true d e x f g = f
@@ -438,21 +438,21 @@ desk_enabled_in false node place other d i e =
 desk_enabled : (node : NodeState) (place other : ℕ) (d : Desk) → d.is_enabled ≡ (desk_at node place).is_enabled → (desk_at (with_desk node place d) other).is_enabled ≡ (desk_at node other).is_enabled
 desk_enabled node place other d e = desk_enabled_in (nat_lt place (length node.desks)) node place other d refl e
 
-keeps_apart : (before : NodeState) → framed.Keeps (Apart before)
+pub keeps_apart : (before : NodeState) → framed.Keeps (Apart before)
 keeps_apart before = record {
   layers = λ node layer h. record { logins = h.logins; pending = h.pending; enabled = h.enabled };
   desks = λ node place d e h. record { logins = h.logins; pending = h.pending; enabled = λ other. desk_enabled node place other d e ∙ h.enabled other };
 }
 
 -- ---- what is announced, place by place
-record Tells_on (before : NodeState) (s : Scene) (from : ℕ) : Type 0 where
-  logins : s.node.logins ≡ before.logins
-  enabled : (place : ℕ) → from ≤ place → (desk_at s.node place).is_enabled ≡ (desk_at before place).is_enabled
+pub record Tells_on (before : NodeState) (s : Scene) (from : ℕ) : Type 0 where
+  pub logins : s.node.logins ≡ before.logins
+  pub enabled : (place : ℕ) → from ≤ place → (desk_at s.node place).is_enabled ≡ (desk_at before place).is_enabled
 
 -- the sides and packets behind those of a scene are these
-record Adds (s t : Scene) (more : Announced) : Type 0 where
-  told_is : t.outbox.sides ≡ s.outbox.sides ++ more.0
-  packets_are : t.outbox.packets ≡ s.outbox.packets ++ more.1
+pub record Adds (s t : Scene) (more : Announced) : Type 0 where
+  pub told_is : t.outbox.sides ≡ s.outbox.sides ++ more.0
+  pub packets_are : t.outbox.packets ≡ s.outbox.packets ++ more.1
 
 -- what was announced of a place, and what is told behind it
 record Announces_at (before : NodeState) (s t : Scene) (place : ℕ) (at : (Layer Purpose → List ℕ → Announced) → Announced) : Type 0 where
@@ -520,7 +520,7 @@ at_adds unit from before s place o =
     subst (λ (t : Table). Announces_at before s (announce_in unit from place (login_at s.node place) s) place (λ rest. announced_at unit from place (desk_at before place) (place_at t.places place) s.node.layer s.node.pending rest)) o.logins
     (in_adds unit from before s place (login_at s.node place) o)
 
-from_adds : (left place unit from : ℕ) (before : NodeState) (s : Scene) → Tells_on before s place → Adds s (announce_from left place unit from s) (announced_from left place unit from before s.node.layer s.node.pending)
+pub from_adds : (left place unit from : ℕ) (before : NodeState) (s : Scene) → Tells_on before s place → Adds s (announce_from left place unit from s) (announced_from left place unit from before s.node.layer s.node.pending)
 unfolding announce_from
 from_adds zero place unit from before s o = record { told_is = sym (append-nil s.outbox.sides); packets_are = sym (append-nil s.outbox.packets) }
 from_adds (suc left) place unit from before s o =
