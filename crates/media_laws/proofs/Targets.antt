@@ -27,9 +27,6 @@ use Rattle.mgmt_agent.specs.declared.decision.Effect.{Effect}
 use Rattle.mgmt_agent.specs.declared.decision.Effect.TheVariants as effects
 use Rattle.mgmt_agent.specs.declared.decision.ManagerStep.{ManagerStep}
 use Rattle.mgmt_agent.specs.declared.operation.Busy.{Busy}
-use Rattle.mgmt_agent.specs.declared.operation.Operation.{Operation}
-use Rattle.mgmt_agent.specs.declared.operation.Phase.{Phase}
-use Rattle.mgmt_agent.specs.declared.operation.Phase.TheVariants as phases
 use Rattle.mgmt_agent.specs.Machine as management
 use Rattle.sbp_journal.specs.declared.cause.CutCause.TheVariants as cuts
 use Rattle.sbp_journal.specs.declared.cause.Judged.{Judged}
@@ -58,6 +55,7 @@ use Rattle.media_laws.proofs.Ledgers.{Ledger, after_sides, ledger}
 use Rattle.media_laws.proofs.Seats.{Seat, without}
 use Rattle.media_laws.proofs.Tables.{left_seats, logins_held, seats_of}
 use Rattle.media_laws.proofs.Ticks.{after_expired, logins_tick}
+use Rattle.sbp_target.proofs.Histories.Views.{lost_logins}
 
 -- What was told since makes of the logins and the media at first those of now.
 pub record Tracks (first : Ledger) (media : Held) (s : Scene) : Type 0 where
@@ -114,22 +112,7 @@ failed_tells : (first l : Ledger) (source : ℕ) (x : Option FailCause) (o : Out
 failed_tells first l source None o h = h
 failed_tells first l source (Some cause) o h = tells first l (sides.ManageFailed source cause) o h
 
--- a request that finds no label leaves the logins
-lost_phase : (phase : Phase) (m : management.Machine) (operation : Operation) (table : Table) (keys : List (List ℕ)) → (management.reply_in phase m operation table keys NoLabel).1.1 ≡ table
-lost_phase phases.Orb m operation table keys = refl
-lost_phase (phases.HighEui orb) m operation table keys = refl
-lost_phase (phases.LowEui orb high) m operation table keys = refl
-lost_phase (phases.Response fifo) m operation table keys = refl
-lost_phase phases.Status m operation table keys = refl
-
-lost_by : (operation : Option Operation) (m : management.Machine) (table : Table) (keys : List (List ℕ)) → (management.reply_to operation m table keys NoLabel).1.1 ≡ table
-lost_by None m table keys = refl
-lost_by (Some operation) m table keys = lost_phase operation.phase m operation table keys
-
-lost_logins : (m : management.Machine) (table : Table) (keys : List (List ℕ)) → (management.reply_step m table keys NoLabel).1.1 ≡ table
-unfolding management.reply_step
-lost_logins m table keys = lost_by m.operation m table keys
-
+-- a request that finds no label
 lost_with : (first l : Ledger) (table : Table) (source : ℕ) (s : Scene) (r : ManagerStep × (management.Machine × Table)) → r.1.1 ≡ table → In first l table s → In first l table (manager_lost source s r)
 lost_with first l table source s (step, (m, now)) e h = record { told = failed_tells first l source step.failed s.outbox h.told; fits = record { logins = e; desks = h.fits.desks } }
 

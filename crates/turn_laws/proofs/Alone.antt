@@ -87,7 +87,7 @@ use Rattle.turn_laws.proofs.PendingOwn.{act_turn, brought_kept, end_kept, heard_
 use Rattle.turn_laws.proofs.PendingTurns.{Kept, begun_kept}
 use Rattle.turn_laws.proofs.Places.{Place}
 use Rattle.turn_laws.proofs.PushSerials.{Apart, Has}
-use Rattle.turn_laws.proofs.PushSides.{AreSilent, NoPushes, announced_pushes, ArePushes, decision_silent, first_none, last_noted, plain_none, pushes_in, pushes_none, quiet_before, request_silent, silent_none, sight_silent, expired_silent}
+use Rattle.turn_laws.proofs.PushSides.{AreSilent, NoPushes, if_pushes, decision_silent, first_none, last_noted, plain_none, pushes_in, pushes_none, quiet_before, request_silent, silent_none, sight_silent, expired_silent}
 use Rattle.turn_laws.proofs.SerialsStay.{IsNoSent, ends_turn}
 use Rattle.turn_laws.proofs.StatusOnce.{keeps_pending}
 use Rattle.turn_laws.proofs.Cuts.{marked_holder}
@@ -209,10 +209,6 @@ module _ (units ready : ℕ) (has : 0 < units) (start : List Disk) (past : List 
         ∙ any_none (is_pending (terms (said (notes.Got serial) ∷ ms)) (suc (holder w p).initiator)) (Pushes start ms)
         (λ r q z. untrue (sym f ∙ (ap (λ n. is_listed n node.pending) (sym id) ∙ k.pends (suc i) r inside q (less.pends (suc i) r q (ap (λ j. is_pending (terms (said (notes.Got serial) ∷ ms)) (suc j) r) (sym (ap (λ o. (or_nobody o).initiator) h.there)) ∙ z)))))
 
-    if_pushes : (b : Bool) (unit from : ℕ) (layer : Layer Purpose) → ArePushes (announced_if b unit from node layer).0
-    if_pushes true unit from layer = announced_pushes 8 0 unit from node layer node.pending
-    if_pushes false unit from layer = tt
-
     announced_due : (b : Bool) (unit place : ℕ) (first : List (wire_calls.Call Purpose)) (outbox : OutboxState) → AreQuiet outbox.sides → Announces b unit place node first outbox → Due judgements.Got outbox
     announced_due b unit place first outbox quiet tells =
         let behind = layer_after node.layer (tells.steps ++ first) in
@@ -221,7 +217,7 @@ module _ (units ready : ℕ) (has : 0 < units) (start : List Disk) (past : List 
         subst (AreAlone (terms (said (notes.Got serial) ∷ ms)) (over (target_at start ms)).pushes)
         (sym (kind_handed is_push_note push_kind 0 0 outbox v
         ∙ (ap (λ told. of_kind is_push_note (notes_told 0 told v)) tells.told.told_is
-        ∙ last_noted (λ p. holder w p) 0 front pushes v same (quiet_before front pushes (subst AreQuiet tells.told.told_is quiet)) tells.told.plain (if_pushes b unit place behind))))
+        ∙ last_noted (λ p. holder w p) 0 front pushes v same (quiet_before front pushes (subst AreQuiet tells.told.told_is quiet)) tells.told.plain (if_pushes b unit place node behind))))
         (fine_if node (λ p. holder w p) (terms (said (notes.Got serial) ∷ ms)) (over (target_at start ms)).pushes unit place spared b behind)
 
     agent_due : (there : Option Login) (place : ℕ) (outbox : OutboxState) → AreOthers outbox.sides → AreQuiet outbox.sides → (first : List (wire_calls.Call Purpose)) (left : List Disk) → agent_tells there place node first disks left outbox → Due judgements.Got outbox

@@ -96,7 +96,7 @@ use Rattle.turn_laws.proofs.KindNotes.{IsToldKind, kind_handed, own_handed}
 use Rattle.turn_laws.proofs.ManagedSides.{begins, from_self}
 use Rattle.turn_laws.proofs.Pass.{of_every_run}
 use Rattle.turn_laws.proofs.Places.{Place}
-use Rattle.turn_laws.proofs.PushSides.{ArePushes, AreSilent, NoPushes, announced_pushes, decision_silent, expired_silent, first_none, is_ran_note, last_noted, plain_none, pushes_in, pushes_none, quiet_before, request_silent, run_noted, runs_none, sight_silent, silent_none, silent_runless}
+use Rattle.turn_laws.proofs.PushSides.{AreSilent, NoPushes, if_pushes, decision_silent, expired_silent, first_none, is_ran_note, last_noted, plain_none, pushes_in, pushes_none, quiet_before, request_silent, run_noted, runs_none, sight_silent, silent_none, silent_runless}
 use Rattle.sbp_world.proofs.Wire.Kept.{and_false}
 use Rattle.sbp_laws.proofs.Going.{from_same}
 use Rattle.turn_laws.proofs.Cuts.{marked_holder}
@@ -334,10 +334,6 @@ module _ (units ready : ℕ) (has : 0 < units) (start : List Disk) (past : List 
         let size : length T.table.places ≡ 8 = ap (λ (x : Table). length x.places) agreed.table ∙ good.table.sound.size in
         told_from_places layer node.pending T.table.places 8 0 size refl (λ n. ap (λ (x : Table). place_at x.places n) agreed.table ∙ ap (λ m. login_at node m) (let z : n ≡ 0 + n = omega arith in z))
 
-  if_pushes : (b : Bool) (unit from : ℕ) (layer : Layer Purpose) → ArePushes (announced_if b unit from node layer).0
-  if_pushes true unit from layer = announced_pushes 8 0 unit from node layer node.pending
-  if_pushes false unit from layer = tt
-
   -- ---- a packet comes to the target
   module _ (serial : ℕ) (one : Sent) (found : found_sent serial w.store.kept ≡ Some one) (run : Option Told) where
     abbrev all : Whole
@@ -516,7 +512,7 @@ module _ (units ready : ℕ) (has : 0 < units) (start : List Disk) (past : List 
               ap (map hearer)
               (kind_handed is_push_note push_kind 0 0 outbox v
               ∙ (ap (λ told. of_kind is_push_note (notes_told 0 told v)) tells.told.told_is
-              ∙ last_noted H 0 front pushes v same (quiet_before front pushes (subst AreQuiet tells.told.told_is quiet)) tells.told.plain (if_pushes is_new login.unit place behind)))
+              ∙ last_noted H 0 front pushes v same (quiet_before front pushes (subst AreQuiet tells.told.told_is quiet)) tells.told.plain (if_pushes is_new login.unit place node behind)))
               ∙ (told_if serial login.unit place is_new behind
               ∙ sym (ap (λ load. names serial login.unit place (logins_for T load)) (load_of runs)))
 

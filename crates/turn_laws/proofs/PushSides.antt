@@ -28,7 +28,7 @@ use Rattle.sbp_journal.specs.declared.side.Side.{Side}
 use Rattle.sbp_journal.specs.declared.side.Side.TheVariants as sides
 use Rattle.sbp_laws.specs.MediaLaw.{is_push_note}
 use Rattle.sbp_laws.specs.NoteKinds.{of_kind}
-use Rattle.sbp_target.specs.Histories.Sides.{Announced, AreFirst, ArePlain, announced_as, announced_at, announced_from, announced_to, by_place, cleared_of, cut_for, cut_in, cut_of, decision_changes, demand_changes, effect_changes, held_login, held_of, is_change, left_for, of_place, of_unit, opened_at, opened_in, request_changes, reset_changes, told_from, unsent_then}
+use Rattle.sbp_target.specs.Histories.Sides.{Announced, AreFirst, ArePlain, announced_as, announced_at, announced_from, announced_if, announced_to, by_place, cleared_of, cut_for, cut_in, cut_of, decision_changes, demand_changes, effect_changes, held_login, held_of, is_change, left_for, of_place, of_unit, opened_at, opened_in, request_changes, reset_changes, told_from, unsent_then}
 use Rattle.sbp_target.specs.Nodes.{NodeState, desk_at, login_at}
 use Rattle.sbp_target.specs.Units.{hears, is_pending}
 use Rattle.sbp_target.specs.declared.desk.Desk.{Desk}
@@ -247,6 +247,10 @@ pub announced_pushes : (left place unit from : ℕ) (node : NodeState) (layer : 
 announced_pushes zero place unit from node layer pending = tt
 announced_pushes (suc left) place unit from node layer pending =
     announced_at_pushes unit from place (desk_at node place) (login_at node place) layer pending (announced_from left (place + 1) unit from node) (announced_pushes left (place + 1) unit from node)
+
+pub if_pushes : (b : Bool) (unit from : ℕ) (node : NodeState) (layer : Layer Purpose) → ArePushes (announced_if b unit from node layer).0
+if_pushes true unit from node layer = announced_pushes 8 0 unit from node layer node.pending
+if_pushes false unit from node layer = tt
 
 -- their notes, by who has the places
 module _ (H : ℕ → Holder) where

@@ -105,7 +105,7 @@ use Rattle.turn_laws.proofs.PendingTurns.{Kept, note_pushes}
 use Rattle.turn_laws.proofs.Places.{Place}
 use Rattle.turn_laws.proofs.PushNotes.{Holds, notes_from}
 use Rattle.turn_laws.proofs.PushSerials.{Apart, Has}
-use Rattle.turn_laws.proofs.PushSides.{ArePushes, AreSilent, NoPushes, announced_pushes, decision_silent, expired_silent, first_none, last_noted, plain_none, pushes_in, pushes_none, quiet_before, request_silent, sight_silent, silent_none}
+use Rattle.turn_laws.proofs.PushSides.{AreSilent, NoPushes, if_pushes, decision_silent, expired_silent, first_none, last_noted, plain_none, pushes_in, pushes_none, quiet_before, request_silent, sight_silent, silent_none}
 use Rattle.turn_laws.proofs.SerialsStay.{ends_turn}
 use Rattle.turn_laws.proofs.StatusCalls.{Got, Hears, hears as hears_all}
 use Rattle.turn_laws.proofs.TurnWires.{Judges, alone, judged_stands, repeated}
@@ -424,16 +424,12 @@ module _ (units ready : ℕ) (has : 0 < units) (start : List Disk) (past : List 
         abbrev is_new : Bool
         is_new = came (disk_at s.media.disks login.unit) (disk_at Left.disks login.unit)
 
-        if_pushes : (b : Bool) (l : Layer Purpose) → ArePushes (announced_if b login.unit place node l).0
-        if_pushes true l = announced_pushes 8 0 login.unit place node l node.pending
-        if_pushes false l = tt
-
         notes_are : (l : Layer Purpose) → AreLast (announced_if is_new login.unit place node l).0 Left.outbox.sides → of_kind is_push_note Noted ≡ pushes_in H (announced_if is_new login.unit place node l).0
         notes_are l told =
             let pushes = (announced_if is_new login.unit place node l).0 in
             kind_handed is_push_note push_kind 0 0 Left.outbox v
             ∙ (ap (λ sides. of_kind is_push_note (notes_told 0 sides v)) told.told_is
-            ∙ last_noted H 0 told.before pushes v same (quiet_before told.before pushes (subst AreQuiet told.told_is quiet)) told.plain (if_pushes is_new l))
+            ∙ last_noted H 0 told.before pushes v same (quiet_before told.before pushes (subst AreQuiet told.told_is quiet)) told.plain (if_pushes is_new login.unit place node l))
 
         announced_there : (live : is_live login ≡ true) → AnnouncesOn (Z login (served_there node place login served) live) node is_new login.unit place Left.outbox
         unfolding concluded

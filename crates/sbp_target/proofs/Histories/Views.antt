@@ -59,7 +59,7 @@ lost_operation : (operation : Option Operation) (m : management.Machine) (logins
 lost_operation None m logins keys = refl
 lost_operation (Some operation) m logins keys = lost_phase operation.phase m operation logins keys
 
-lost_logins : (m : management.Machine) (logins : Table) (keys : List (List ℕ)) → (management.reply_step m logins keys NoLabel).1.1 ≡ logins
+pub lost_logins : (m : management.Machine) (logins : Table) (keys : List (List ℕ)) → (management.reply_step m logins keys NoLabel).1.1 ≡ logins
 unfolding management.reply_step
 lost_logins m logins keys = lost_operation m.operation m logins keys
 
