@@ -1,6 +1,5 @@
 -- By the terms of every history in which serials count, nothing was got yet of an ORB that is still to be read, once its read was sent: neither it nor what its agent has of it names a next pointer.
-use Rattle.std.proofs.Common.{◌≡◌, ◌∙◌, refl, sym, ap, subst, ℕ, zero, suc, ◌+◌, ◌<◌, ◌==◌, ◌||◌, not, nat_eq, is_some, Bool, true, false, cond, List, [], ◌∷◌, Option, Some, None, Result, Ok, Err, arith}
-use Rattle.std.specs.Prelude.{is_none, position, unwrap_or}
+use Rattle.std.proofs.Common.{◌≡◌, ◌∙◌, refl, sym, ap, subst, ℕ, ◌==◌, ◌||◌, not, is_some, Bool, true, false, cond, List, Option, Some, None, Result, Ok, Err}
 use Rattle.bus_transactions.specs.Packets.{SerialsCount}
 use Rattle.command_agent.specs.declared.phase.Phase.{Phase}
 use Rattle.command_agent.specs.declared.phase.Phase.TheVariants as phases
@@ -10,44 +9,26 @@ use Rattle.command_agent.specs.declared.step.Which.{Which}
 use Rattle.command_agent.specs.declared.step.Which.TheVariants.{Ahead, Main}
 use Rattle.command_agent.specs.Machine.{Machine, is_ahead, is_sent, new_machine}
 use Rattle.command_agent.specs.Steps.{abort_step, doorbell_step, lost_step, point_step, reply_step, reset_step}
-use Rattle.mgmt_agent.specs.declared.operation.Busy.{Busy}
-use Rattle.mgmt_agent.specs.Machine as manager
 use Rattle.orb_layout.specs.declared.ask.Ask.{Ask}
 use Rattle.orb_layout.specs.declared.ask.Ask.TheVariants.{Nothing, Read, Write}
 use Rattle.orb_layout.specs.declared.ask.FailCause.TheVariants as causes
 use Rattle.orb_layout.specs.declared.pointer.OrbPointer.TheVariants.{Null}
 use Rattle.orb_layout.specs.declared.status.StatusKind.{StatusKind}
 use Rattle.orb_layout.specs.Pointers.{offset_at, pointer_at}
-use Rattle.orb_layout.specs.Replies.{Answer, Done, Expired, NoLabel, Payload, Refused}
+use Rattle.orb_layout.specs.Replies.{Answer}
 use Rattle.rbc_disk.specs.Disk.{Disk}
 use Rattle.rbc_disk.specs.Runs.{Told}
 use Rattle.rbc_disk.specs.Units.{PlainDisk}
-use Rattle.sbp_journal.specs.Addresses.{Access, Register, Start, agent_reset, agent_state, doorbell, management_agent, no_start, orb_pointer, register, rom_start, start_at, start_serves, unsolicited_enable}
-use Rattle.sbp_journal.specs.Run.{Moment, asked, said}
-use Rattle.sbp_journal.specs.Transactions.{Part, no_packet, part_of, request, response}
-use Rattle.sbp_journal.specs.Wire.{Terms, terms}
-use Rattle.sbp_journal.specs.declared.note.Note.{Note}
-use Rattle.sbp_journal.specs.declared.note.Note.TheVariants as notes
-use Rattle.sbp_journal.specs.declared.operation.FunctionWord.TheVariants as functions
-use Rattle.sbp_laws.specs.Agents.{Event, got_in, nothing, replies, reply_to, write_in}
-use Rattle.sbp_laws.specs.Packets.{access_at, access_in_bytes, answer_in, answered_at, id_for, packet_at, receiver_in, sender_in}
-use Rattle.sbp_laws.specs.Progress.{Progress, gets, gets_ahead, gets_by, gets_main, no_progress, progress, reads_main, sends as progress_sends}
-use Rattle.sbp_laws.specs.Targets.{Agent, Decided, Purpose, Reply, Target, agent_at, agent_over, ahead_lost, closed, cut_agent, entered_by, enters_in, for_agent, for_manager, for_nobody, got_by, is_nothing, is_serial, is_write_access, known_at, main_lost, manager_step, moved, new_agent, over, pointed_by, points, purpose_of, register_got, replied, replied_to, request_got, rings, sends_of, sent_as, sent_for, start_got, started_by, taken_on, target_at, target_by, wants, wants_it, with_agent}
-use Rattle.sbp_world.proofs.Agents.Management.Firsts.{wire_is}
-use Rattle.sbp_world.proofs.Common.{none_is, same_number, untrue}
+use Rattle.sbp_journal.specs.Run.{Moment}
+use Rattle.sbp_laws.specs.Progress.{Progress, gets_ahead, gets_by, gets_main, progress, reads_main, sends as progress_sends}
+use Rattle.sbp_laws.specs.Targets.{Agent, agent_at, agent_over, ahead_lost, closed, cut_agent, is_nothing, is_serial, main_lost, moved, new_agent, over, pointed_by, sends_of, target_at, wants}
+use Rattle.sbp_world.proofs.Common.{same_number, untrue}
 use Rattle.sbp_world.proofs.Lists.MainStays.{wanted}
-use Rattle.sbp_world.proofs.Lists.OrbFolds.{new_there}
-use Rattle.turn_laws.proofs.AgentFolds.{AreKept, AreLasting, AreSo, AreStill, Pends, cut_still, over_still, set_so, set_still, settles, so, stand, stand_still}
-use Rattle.turn_laws.proofs.AgentNotes.{managed_kept, note_kept, pick}
-use Rattle.turn_laws.proofs.DeathAnswers.{write_no}
 use Rattle.turn_laws.proofs.EndShapes.{IsShapedStep, IsUnderWay, lost_shaped, reply_shaped}
 use Rattle.turn_laws.proofs.FetchSteps.{Brings, Leaves, Points, Rings, ahead_leaves, is_fetching, lost_leaves, lost_plain, main_brings, point_so, ring_so}
-use Rattle.turn_laws.proofs.LaterNotes.{one_count}
-use Rattle.turn_laws.proofs.NextSteps.{Unread}
+use Rattle.turn_laws.proofs.NextSteps.{Unread, ahead_next}
 use Rattle.turn_laws.proofs.Progresses.{IsWhole}
-use Rattle.turn_laws.proofs.ProgressFolds.{AreFollowed, followed_before}
-use Rattle.turn_laws.proofs.PushSerials.{Apart, apart_of, counted}
-use Rattle.turn_laws.proofs.SerialsStay.{All, takes_on}
+use Rattle.turn_laws.proofs.ProgressFolds.{AreFollowed, followed_before, still_progress}
 
 -- ---- of one agent
 -- An ORB that is still to be read has no next pointer, and where its read was sent none was got. Nothing was got of a read ahead. An agent that asks, or is not active, has no main
@@ -113,7 +94,7 @@ left_none true y s e = refl
 left_none false true s e = untrue (sym e)
 left_none false false s e = refl
 
-false_if : (b : Bool) → (b ≡ true → ⊥) → b ≡ false
+pub false_if : (b : Bool) → (b ≡ true → ⊥) → b ≡ false
 false_if true f = absurd (f refl)
 false_if false f = refl
 
@@ -219,13 +200,6 @@ aborts p a orb h =
     (record { phase = s.0; next = s.1; main = refl; ahead = λ e. e; asks = λ e. e; looks = λ e. e; got = refl; got_ahead = λ e. refl }) h
 
 -- ---- a reply
-ahead_next : (p : Progress) (answer : Answer) → (gets_ahead answer p).next ≡ p.next
-ahead_next p (Payload bytes) = refl
-ahead_next p Done = refl
-ahead_next p (Refused rcode) = refl
-ahead_next p Expired = refl
-ahead_next p NoLabel = refl
-
 closed_step : (p now : Progress) (s : AgentStep × Machine) (a : Agent) → Leaves a.machine s → now.next ≡ p.next → IsFetched p a → IsFetched now (moved s (closed Ahead a))
 closed_step p now (step, m) a l e h =
     let promoted : step.promoted ≡ false = ap (λ (x : AgentStep). x.promoted) l.quiet_is in
@@ -262,12 +236,8 @@ as_before p now a e f h = same_fetched p now a a (record { phase = refl; next = 
 
 -- ---- a packet is sent, with a serial that nobody waits for yet
 module _ (p : Progress) (serial : ℕ) where
-  still_progress : (a : Agent) → is_serial a.main serial ≡ false → is_serial a.ahead serial ≡ false → progress_sends a serial p ≡ p
-  still_progress a e f =
-      ap (λ b. cond b (record p { ahead = Some Null; rung = false }) (cond (is_serial a.main serial) (reads_main a.machine.phase p) p)) f ∙ ap (λ b. cond b (reads_main a.machine.phase p) p) e
-
   sent_still : (a : Agent) → is_serial a.main serial ≡ false → is_serial a.ahead serial ≡ false → IsFetched p a → IsFetched (progress_sends a serial p) a
-  sent_still a e f h = subst (λ (x : Progress). IsFetched x a) (sym (still_progress a e f)) h
+  sent_still a e f h = subst (λ (x : Progress). IsFetched x a) (sym (still_progress p serial a e f)) h
 
   -- the main request
   main_sent : (a : Agent) (phase : Phase) → a.machine.phase ≡ phase → is_nothing a.asks ≡ false → IsFetched p a → IsFetched (reads_main phase p) (record a { main = Some serial; asks = Nothing })
@@ -299,12 +269,12 @@ module _ (p : Progress) (serial : ℕ) where
     looks = h.looks;
   }
 
-  main_progress : (a : Agent) → is_serial a.ahead serial ≡ false → progress_sends (record a { main = Some serial; asks = Nothing }) serial p ≡ reads_main a.machine.phase p
+  pub main_progress : (a : Agent) → is_serial a.ahead serial ≡ false → progress_sends (record a { main = Some serial; asks = Nothing }) serial p ≡ reads_main a.machine.phase p
   main_progress a f =
       ap (λ b. cond b (record p { ahead = Some Null; rung = false }) (cond (serial == serial) (reads_main a.machine.phase p) p)) f
       ∙ ap (λ b. cond b (reads_main a.machine.phase p) p) (same_number serial)
 
-  ahead_progress : (a : Agent) → progress_sends (record a { ahead = Some serial; asks_ahead = Nothing }) serial p ≡ record p { ahead = Some Null; rung = false }
+  pub ahead_progress : (a : Agent) → progress_sends (record a { ahead = Some serial; asks_ahead = Nothing }) serial p ≡ record p { ahead = Some Null; rung = false }
   ahead_progress a = ap (λ b. cond b (record p { ahead = Some Null; rung = false }) (cond (is_serial a.main serial) (reads_main a.machine.phase p) p)) (same_number serial)
 
   sends_fetched : (is_write : Bool) (a : Agent) → is_serial a.main serial ≡ false → is_serial a.ahead serial ≡ false → IsFetched p a → (let now = sends_of is_write serial a in IsFetched (progress_sends now serial p) now)

@@ -1,21 +1,18 @@
 -- What is so of an agent of the terms and of its progress together is so at each moment of every history in which serials count, where each step that is taken of both keeps it.
-use Rattle.std.proofs.Common.{◌≡◌, ◌∙◌, refl, sym, ap, subst, ℕ, zero, suc, ◌+◌, ◌<◌, ◌==◌, ◌||◌, not, nat_eq, is_some, Bool, true, false, cond, List, [], ◌∷◌, Option, Some, None, Result, Ok, Err, arith}
+use Rattle.std.proofs.Common.{◌≡◌, ◌∙◌, refl, sym, ap, subst, ℕ, zero, suc, ◌+◌, ◌<◌, ◌==◌, not, nat_eq, is_some, Bool, true, false, cond, List, [], ◌∷◌, Option, Some, None, Result, Ok, Err, arith}
 use Rattle.std.specs.Prelude.{◌&&◌, is_none as option_none, position, unwrap_or}
 use Rattle.bus_transactions.specs.Packets.{SerialsCount}
-use Rattle.command_agent.specs.declared.step.AgentStep.{AgentStep}
-use Rattle.command_agent.specs.declared.step.PointRefusal.{PointRefusal}
 use Rattle.command_agent.specs.declared.step.Which.{Which}
-use Rattle.command_agent.specs.declared.step.Which.TheVariants.{Ahead, Main}
-use Rattle.command_agent.specs.Machine.{Machine, is_ahead, is_sent, new_machine}
-use Rattle.command_agent.specs.Steps.{abort_step, doorbell_step, lost_step, point_step, reply_step, reset_step}
+use Rattle.command_agent.specs.declared.step.Which.TheVariants.{Ahead}
+use Rattle.command_agent.specs.Machine.{new_machine}
+use Rattle.command_agent.specs.Steps.{abort_step, lost_step, reply_step}
 use Rattle.mgmt_agent.specs.declared.operation.Busy.{Busy}
 use Rattle.mgmt_agent.specs.Machine as manager
 use Rattle.orb_layout.specs.declared.ask.Ask.{Ask}
-use Rattle.orb_layout.specs.declared.ask.Ask.TheVariants.{Nothing, Read, Write}
+use Rattle.orb_layout.specs.declared.ask.Ask.TheVariants.{Nothing}
 use Rattle.orb_layout.specs.declared.ask.FailCause.TheVariants as causes
 use Rattle.orb_layout.specs.declared.pointer.OrbPointer.TheVariants.{Null}
-use Rattle.orb_layout.specs.declared.status.StatusKind.{StatusKind}
-use Rattle.orb_layout.specs.Pointers.{offset_at, pointer_at}
+use Rattle.orb_layout.specs.Pointers.{offset_at}
 use Rattle.orb_layout.specs.Replies.{Answer, Done, Expired, NoLabel, Payload, Refused}
 use Rattle.rbc_disk.specs.Disk.{Disk}
 use Rattle.rbc_disk.specs.Runs.{Told}
@@ -31,8 +28,8 @@ use Rattle.sbp_journal.specs.declared.operation.FunctionWord.TheVariants as func
 use Rattle.byteorder.specs.Endian.{big_bytes}
 use Rattle.sbp_laws.specs.Agents.{Event, got_in, nothing, replies, reply_to, write_in, write_of, writes}
 use Rattle.sbp_laws.specs.Packets.{access_at, access_in_bytes, answer_in, answer_of, answered_at, id_for, packet_at, receiver_in, sender_in}
-use Rattle.sbp_laws.specs.Progress.{Progress, gets, gets_ahead, gets_by, gets_main, no_progress, progress, reads_main, sends as progress_sends}
-use Rattle.sbp_laws.specs.Targets.{Agent, Decided, Purpose, Reply, Target, agent_at, agent_over, ahead_lost, closed, cut_agent, entered_by, enters_in, for_agent, for_manager, for_nobody, got_by, is_nothing, is_serial, is_write_access, known_at, main_lost, manager_step, moved, new_agent, over, pointed_by, points, purpose_of, register_got, replied, replied_to, request_got, rings, sends_of, sent_as, sent_for, start_got, started_by, taken_on, target_at, target_by, wants, wants_it, with_agent}
+use Rattle.sbp_laws.specs.Progress.{Progress, gets, gets_by, no_progress, progress, reads_main, sends as progress_sends}
+use Rattle.sbp_laws.specs.Targets.{Agent, Decided, Purpose, Reply, Target, agent_at, agent_over, ahead_lost, closed, cut_agent, entered_by, enters_in, for_agent, for_manager, for_nobody, got_by, is_nothing, is_serial, is_write_access, known_at, main_lost, manager_step, moved, new_agent, over, points, purpose_of, register_got, replied, replied_to, request_got, rings, sends_of, sent_as, sent_for, start_got, started_by, taken_on, target_at, target_by, wants, wants_it, with_agent}
 use Rattle.sbp_world.proofs.Agents.Management.Firsts.{wire_is}
 use Rattle.sbp_world.proofs.Common.{and_first, and_second, none_is, same_number, untrue}
 use Rattle.sbp_world.proofs.Lists.OrbFolds.{at_place, new_there}
@@ -46,6 +43,12 @@ use Rattle.turn_laws.proofs.SerialsStay.{All, takes_on}
 -- it asks for nothing more in this turn
 abbrev pub IsQuiet : Agent → Type 0
 IsQuiet a = (is_nothing a.asks ≡ true) × (is_nothing a.asks_ahead ≡ true)
+
+-- a packet that it does not wait for leaves its progress
+module _ (p : Progress) (serial : ℕ) where
+  pub still_progress : (a : Agent) → is_serial a.main serial ≡ false → is_serial a.ahead serial ≡ false → progress_sends a serial p ≡ p
+  still_progress a e f =
+      ap (λ b. cond b (record p { ahead = Some Null; rung = false }) (cond (is_serial a.main serial) (reads_main a.machine.phase p) p)) f ∙ ap (λ b. cond b (reads_main a.machine.phase p) p) e
 
 -- what may come of a request
 abbrev pub IsTold : Answer → Type 0
@@ -257,9 +260,7 @@ module _ (F : Progress → Agent → Type 0) (k : AreFollowed F) where
 
       sent_still : (q : ℕ) (a : Agent) → is_serial a.main serial ≡ false → is_serial a.ahead serial ≡ false → F (p q) a → Sent q a
       sent_still q a e f h =
-          let same : progress_sends a serial (p q) ≡ p q =
-          ap (λ b. cond b (record (p q) { ahead = Some Null; rung = false }) (cond (is_serial a.main serial) (reads_main a.machine.phase (p q)) (p q))) f ∙ ap (λ b. cond b (reads_main a.machine.phase (p q)) (p q)) e in
-          subst (λ (x : Progress). F x a) (sym same) h
+          subst (λ (x : Progress). F x a) (sym (still_progress (p q) serial a e f)) h
 
       either_sent : (b : Bool) (x y : Target) → AreStill Sent x → AreStill Sent y → AreStill Sent (cond b x y)
       either_sent true x y h k = h
