@@ -15,7 +15,7 @@ use Rattle.orb_layout.specs.declared.ask.FailCause.TheVariants as causes
 use Rattle.orb_layout.specs.declared.pointer.OrbPointer.TheVariants.{Null}
 use Rattle.orb_layout.specs.declared.status.StatusKind.{StatusKind}
 use Rattle.orb_layout.specs.Pointers.{offset_at, pointer_at}
-use Rattle.orb_layout.specs.Replies.{Answer, Done, Expired, NoLabel, Payload, Refused}
+use Rattle.orb_layout.specs.Replies.{Answer}
 use Rattle.rbc_disk.specs.Disk.{Disk}
 use Rattle.rbc_disk.specs.Runs.{Told}
 use Rattle.rbc_disk.specs.Units.{PlainDisk}
@@ -27,9 +27,9 @@ use Rattle.sbp_world.proofs.Common.{same_number, untrue}
 use Rattle.sbp_world.proofs.Lists.MainStays.{wanted}
 use Rattle.turn_laws.proofs.EndShapes.{IsShapedStep, IsUnderWay, lost_shaped, reply_shaped}
 use Rattle.turn_laws.proofs.FetchSteps.{Brings, Leaves, Points, Rings, ahead_leaves, is_fetching, lost_leaves, lost_plain, main_brings, point_so, ring_so}
-use Rattle.turn_laws.proofs.NextSteps.{Unread}
+use Rattle.turn_laws.proofs.NextSteps.{Unread, ahead_next}
 use Rattle.turn_laws.proofs.Progresses.{IsWhole}
-use Rattle.turn_laws.proofs.ProgressFolds.{AreFollowed, followed_before}
+use Rattle.turn_laws.proofs.ProgressFolds.{AreFollowed, followed_before, still_progress}
 
 -- ---- of one agent
 -- An ORB that is still to be read has no next pointer, and where its read was sent none was got. Nothing was got of a read ahead. An agent that asks, or is not active, has no main
@@ -95,7 +95,7 @@ left_none true y s e = refl
 left_none false true s e = untrue (sym e)
 left_none false false s e = refl
 
-false_if : (b : Bool) → (b ≡ true → ⊥) → b ≡ false
+pub false_if : (b : Bool) → (b ≡ true → ⊥) → b ≡ false
 false_if true f = absurd (f refl)
 false_if false f = refl
 
@@ -201,13 +201,6 @@ aborts p a orb h =
     (record { phase = s.0; next = s.1; main = refl; ahead = λ e. e; asks = λ e. e; looks = λ e. e; got = refl; got_ahead = λ e. refl }) h
 
 -- ---- a reply
-ahead_next : (p : Progress) (answer : Answer) → (gets_ahead answer p).next ≡ p.next
-ahead_next p (Payload bytes) = refl
-ahead_next p Done = refl
-ahead_next p (Refused rcode) = refl
-ahead_next p Expired = refl
-ahead_next p NoLabel = refl
-
 closed_step : (p now : Progress) (s : AgentStep × Machine) (a : Agent) → Leaves a.machine s → now.next ≡ p.next → IsFetched p a → IsFetched now (moved s (closed Ahead a))
 closed_step p now (step, m) a l e h =
     let promoted : step.promoted ≡ false = ap (λ (x : AgentStep). x.promoted) l.quiet_is in
@@ -244,12 +237,8 @@ as_before p now a e f h = same_fetched p now a a (record { phase = refl; next = 
 
 -- ---- a packet is sent, with a serial that nobody waits for yet
 module _ (p : Progress) (serial : ℕ) where
-  still_progress : (a : Agent) → is_serial a.main serial ≡ false → is_serial a.ahead serial ≡ false → progress_sends a serial p ≡ p
-  still_progress a e f =
-      ap (λ b. cond b (record p { ahead = Some Null; rung = false }) (cond (is_serial a.main serial) (reads_main a.machine.phase p) p)) f ∙ ap (λ b. cond b (reads_main a.machine.phase p) p) e
-
   sent_still : (a : Agent) → is_serial a.main serial ≡ false → is_serial a.ahead serial ≡ false → IsFetched p a → IsFetched (progress_sends a serial p) a
-  sent_still a e f h = subst (λ (x : Progress). IsFetched x a) (sym (still_progress a e f)) h
+  sent_still a e f h = subst (λ (x : Progress). IsFetched x a) (sym (still_progress p serial a e f)) h
 
   -- the main request
   main_sent : (a : Agent) (phase : Phase) → a.machine.phase ≡ phase → is_nothing a.asks ≡ false → IsFetched p a → IsFetched (reads_main phase p) (record a { main = Some serial; asks = Nothing })
@@ -281,12 +270,12 @@ module _ (p : Progress) (serial : ℕ) where
     looks = h.looks;
   }
 
-  main_progress : (a : Agent) → is_serial a.ahead serial ≡ false → progress_sends (record a { main = Some serial; asks = Nothing }) serial p ≡ reads_main a.machine.phase p
+  pub main_progress : (a : Agent) → is_serial a.ahead serial ≡ false → progress_sends (record a { main = Some serial; asks = Nothing }) serial p ≡ reads_main a.machine.phase p
   main_progress a f =
       ap (λ b. cond b (record p { ahead = Some Null; rung = false }) (cond (serial == serial) (reads_main a.machine.phase p) p)) f
       ∙ ap (λ b. cond b (reads_main a.machine.phase p) p) (same_number serial)
 
-  ahead_progress : (a : Agent) → progress_sends (record a { ahead = Some serial; asks_ahead = Nothing }) serial p ≡ record p { ahead = Some Null; rung = false }
+  pub ahead_progress : (a : Agent) → progress_sends (record a { ahead = Some serial; asks_ahead = Nothing }) serial p ≡ record p { ahead = Some Null; rung = false }
   ahead_progress a = ap (λ b. cond b (record p { ahead = Some Null; rung = false }) (cond (is_serial a.main serial) (reads_main a.machine.phase p) p)) (same_number serial)
 
   sends_fetched : (is_write : Bool) (a : Agent) → is_serial a.main serial ≡ false → is_serial a.ahead serial ≡ false → IsFetched p a → (let now = sends_of is_write serial a in IsFetched (progress_sends now serial p) now)

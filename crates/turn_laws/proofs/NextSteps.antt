@@ -282,7 +282,7 @@ unfolding reply_step
 main_tracked p m place plain told answer t = let r = advanced m.phase m answer in serves (gets_main m.phase answer p) (Unread p m) place plain (told_or told) r (main_moves p m.phase m answer refl t)
 
 -- ---- and to the read ahead, which is under way
-ahead_next : (p : Progress) (answer : Answer) → (gets_ahead answer p).next ≡ p.next
+pub ahead_next : (p : Progress) (answer : Answer) → (gets_ahead answer p).next ≡ p.next
 ahead_next p (Payload bytes) = refl
 ahead_next p Done = refl
 ahead_next p (Refused rcode) = refl

@@ -43,6 +43,12 @@ use Rattle.turn_laws.proofs.SerialsStay.{All, takes_on}
 abbrev pub IsQuiet : Agent → Type 0
 IsQuiet a = (is_nothing a.asks ≡ true) × (is_nothing a.asks_ahead ≡ true)
 
+-- a packet that it does not wait for leaves its progress
+module _ (p : Progress) (serial : ℕ) where
+  pub still_progress : (a : Agent) → is_serial a.main serial ≡ false → is_serial a.ahead serial ≡ false → progress_sends a serial p ≡ p
+  still_progress a e f =
+      ap (λ b. cond b (record p { ahead = Some Null; rung = false }) (cond (is_serial a.main serial) (reads_main a.machine.phase p) p)) f ∙ ap (λ b. cond b (reads_main a.machine.phase p) p) e
+
 -- what may come of a request
 abbrev pub IsTold : Answer → Type 0
 IsTold NoLabel = ⊥
@@ -253,9 +259,7 @@ module _ (F : Progress → Agent → Type 0) (k : AreFollowed F) where
 
       sent_still : (q : ℕ) (a : Agent) → is_serial a.main serial ≡ false → is_serial a.ahead serial ≡ false → F (p q) a → Sent q a
       sent_still q a e f h =
-          let same : progress_sends a serial (p q) ≡ p q =
-          ap (λ b. cond b (record (p q) { ahead = Some Null; rung = false }) (cond (is_serial a.main serial) (reads_main a.machine.phase (p q)) (p q))) f ∙ ap (λ b. cond b (reads_main a.machine.phase (p q)) (p q)) e in
-          subst (λ (x : Progress). F x a) (sym same) h
+          subst (λ (x : Progress). F x a) (sym (still_progress (p q) serial a e f)) h
 
       either_sent : (b : Bool) (x y : Target) → AreStill Sent x → AreStill Sent y → AreStill Sent (cond b x y)
       either_sent true x y h k = h

@@ -46,9 +46,6 @@ module _ (places : List (Option Login)) (unit from : ℕ) where
   one_more [] packet h p = (p, tt)
   one_more (one ∷ later) packet h p = (h.0, one_more later packet h.1 p)
 
-  none_pushed : (first : List Outgoing) → Pushes places unit from first first
-  none_pushed first = record { more = []; is = sym (append-nil first); pushes = tt }
-
   module _ (first : List Outgoing) where
     record At (s : Scene) : Type 0 where
       logins : s.node.logins.places ≡ places

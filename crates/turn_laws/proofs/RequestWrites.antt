@@ -100,7 +100,7 @@ none_lower (suc tries) label test other h e = by (none_lower tries (label + 1) t
     by more true f false g k = untrue (sym g ∙ h label f)
     by more false f false g k = more k
 
-no_some : (o : Option ℕ) → is_some o ≡ false → o ≡ None
+pub no_some : (o : Option ℕ) → is_some o ≡ false → o ≡ None
 no_some None e = refl
 no_some (Some x) e = untrue (sym e)
 

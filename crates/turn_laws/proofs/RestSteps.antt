@@ -1,6 +1,6 @@
 -- How a reply to its main transaction leaves an agent that may come to rest, beside its progress: the doorbell mark is the one that rang since the latest read was sent, an agent is SUSPENDED only where its last
 -- ORB's status is answered, with a null next pointer and no mark, and of a read ahead that is over nothing is left.
-use Rattle.std.proofs.Common.{◌≡◌, ◌∙◌, refl, sym, ap, subst, ℕ, ◌+◌, ◌*◌, ◌==◌, ◌&&◌, ◌||◌, not, is_some, Bool, true, false, cond, List, ◌++◌, length, Option, Some, None, Result, Ok, Err}
+use Rattle.std.proofs.Common.{◌≡◌, ◌∙◌, refl, sym, ap, subst, ℕ, ◌+◌, ◌*◌, ◌==◌, ◌&&◌, ◌||◌, not, Bool, true, false, cond, List, ◌++◌, length, Option, Some, None, Result, Ok, Err}
 use Rattle.orb_layout.specs.declared.ask.Ask.{Ask}
 use Rattle.orb_layout.specs.declared.ask.Ask.TheVariants.{Nothing, Read}
 use Rattle.orb_layout.specs.declared.ask.FailCause.{FailCause}
@@ -21,23 +21,20 @@ use Rattle.rbc_disk.specs.declared.command.Outcome.TheVariants as outcomes
 use Rattle.rbc_disk.specs.Runs.{Told, need_of}
 use Rattle.rbc_disk.specs.Units.{PlainDisk}
 use Rattle.command_agent.specs.Checks.{death_by, reads_table, verdict}
-use Rattle.command_agent.specs.Machine.{Machine, chunk_of, is_ahead, new_machine, plan_of, rung_in, state_in}
-use Rattle.command_agent.specs.Steps.{abort_step, advanced, ahead_lost, ahead_of, ahead_read, ahead_step, answer_chunk, answer_step, asks, check_step, checked, chunk_written, data_grown, data_read, data_step, dead_step, doorbell_in, doorbell_step, elements_read, end_step, fetch_step, follow_step, judge_step, judged, lost_step, main_lost, next_read, orb_read, point_in, point_step, pointed, quiet, ran_as, reply_step, reread_step, reset_step, run_step, sent, served, status_written, table_read, told_or, turn_step, unread_buffer, wait_step}
+use Rattle.command_agent.specs.Machine.{Machine, chunk_of, is_ahead, plan_of, rung_in}
+use Rattle.command_agent.specs.Steps.{advanced, ahead_of, answer_chunk, answer_step, asks, check_step, checked, chunk_written, data_grown, data_read, data_step, dead_step, elements_read, end_step, fetch_step, follow_step, judge_step, judged, next_read, orb_read, quiet, ran_as, reply_step, reread_step, run_step, sent, served, status_written, table_read, told_or, turn_step, unread_buffer, wait_step}
 use Rattle.command_agent.specs.declared.phase.Phase.{Phase}
 use Rattle.command_agent.specs.declared.phase.Phase.TheVariants as phases
 use Rattle.command_agent.specs.declared.phase.ReadAhead.{ReadAhead}
 use Rattle.command_agent.specs.declared.phase.ReadAhead.TheVariants as aheads
-use Rattle.command_agent.specs.declared.step.AgentState.{AgentState}
-use Rattle.command_agent.specs.declared.step.AgentState.TheVariants as states
 use Rattle.command_agent.specs.declared.step.AgentStep.{AgentStep}
 use Rattle.command_agent.specs.declared.step.Move.{Move}
 use Rattle.command_agent.specs.declared.step.Move.TheVariants as moves
-use Rattle.command_agent.specs.declared.step.Which.{Which}
-use Rattle.command_agent.specs.declared.step.Which.TheVariants.{Ahead, Main}
-use Rattle.sbp_laws.specs.Progress.{Progress, first_pointer, gets_ahead, gets_main, turns, with_next}
+use Rattle.command_agent.specs.declared.step.Which.TheVariants.{Main}
+use Rattle.sbp_laws.specs.Progress.{Progress, first_pointer, gets_main, turns, with_next}
 use Rattle.sbp_laws.specs.Targets.{is_nothing}
 use Rattle.sbp_world.proofs.Common.{some_none, untrue}
-use Rattle.sbp_world.proofs.Lists.OrbSteps.{has_read, holds_read, yes}
+use Rattle.sbp_world.proofs.Lists.OrbSteps.{has_read, holds_read}
 use Rattle.turn_laws.proofs.NextSteps.{AheadIs, IsTracked, NamesKept, null_idle, orb_first}
 use Rattle.turn_laws.proofs.FetchSteps.{is_fetching}
 

@@ -17,7 +17,6 @@ use Rattle.orb_layout.specs.declared.ask.Ask.{Ask}
 use Rattle.orb_layout.specs.declared.ask.Ask.TheVariants.{Nothing}
 use Rattle.orb_layout.specs.declared.ask.FailCause.{FailCause}
 use Rattle.orb_layout.specs.declared.ask.FailCause.TheVariants as causes
-use Rattle.orb_layout.specs.declared.command.CommandOrb.{CommandOrb}
 use Rattle.orb_layout.specs.declared.pointer.OrbPointer.{OrbPointer}
 use Rattle.orb_layout.specs.declared.pointer.OrbPointer.TheVariants.{At, Null}
 use Rattle.orb_layout.specs.Pointers.{offset_at, pointer_at}
@@ -27,17 +26,17 @@ use Rattle.rbc_disk.specs.Runs.{Told}
 use Rattle.rbc_disk.specs.Units.{PlainDisk}
 use Rattle.sbp_journal.specs.Addresses.{Access}
 use Rattle.sbp_journal.specs.Run.{Moment}
-use Rattle.sbp_laws.specs.Progress.{Progress, first_pointer, gets_ahead, gets_by, gets_main, no_progress, progress, reads_main, sends as progress_sends}
+use Rattle.sbp_laws.specs.Progress.{Progress, gets_ahead, gets_by, gets_main, progress, reads_main, sends as progress_sends}
 use Rattle.sbp_laws.specs.Targets.{Agent, agent_at, agent_over, ahead_lost, closed, cut_agent, is_nothing, is_serial, main_lost, moved, new_agent, over, pointed_by, points, rings, sends_of, target_at, wants}
-use Rattle.sbp_world.proofs.Common.{same_number, untrue}
+use Rattle.sbp_world.proofs.Common.{untrue}
 use Rattle.sbp_world.proofs.Lists.MainStays.{wanted}
 use Rattle.sbp_world.proofs.Lists.OrbSteps.{has_read}
 use Rattle.turn_laws.proofs.FetchSteps.{is_fetching}
-use Rattle.turn_laws.proofs.Fetches.{IsFetched, clash, fetched_steps, some_left}
-use Rattle.turn_laws.proofs.NextSteps.{IsTracked}
-use Rattle.turn_laws.proofs.ProgressFolds.{AreFollowed, IsQuiet, IsTold, followed_before}
+use Rattle.turn_laws.proofs.Fetches.{IsFetched, ahead_progress, clash, false_if, fetched_steps, main_progress, some_left}
+use Rattle.turn_laws.proofs.NextSteps.{abort_ahead}
+use Rattle.turn_laws.proofs.ProgressFolds.{AreFollowed, IsQuiet, IsTold, followed_before, still_progress}
 use Rattle.turn_laws.proofs.Progresses.{IsWhole}
-use Rattle.turn_laws.proofs.RestSteps.{IsHeld, IsPaced, Paces, fetches, idly, is_again, is_idle, is_status, is_suspended, main_paces, mark, off, plain_mark, reads_list}
+use Rattle.turn_laws.proofs.RestSteps.{IsHeld, IsPaced, Paces, fetches, idly, is_again, is_idle, is_status, is_suspended, main_paces, off, plain_mark, reads_list}
 
 -- ---- of one agent, beside what is so of the ORB that it reads
 pub record IsPacing (p : Progress) (a : Agent) : Type 0 where
@@ -95,12 +94,8 @@ module _ (p : Progress) where
   lost_reads m = lost_list m.phase m refl
 
   -- one that asks is not suspended
-  false_by : (b : Bool) → (b ≡ true → ⊥) → b ≡ false
-  false_by true f = absurd (f refl)
-  false_by false f = refl
-
   no_rest : (a : Agent) → is_nothing a.asks ≡ false → IsPaced p a.asks a.asks_ahead a.machine → is_suspended a.machine.phase ≡ false
-  no_rest a e h = false_by (is_suspended a.machine.phase) (λ x. clash (is_nothing a.asks) (h.rest x).1.1.1 e)
+  no_rest a e h = false_if (is_suspended a.machine.phase) (λ x. clash (is_nothing a.asks) (h.rest x).1.1.1 e)
 
   moved_waits : (s : AgentStep × Machine) (a : Agent) → is_some (moved s a).ahead ≡ true → is_ahead s.1.ahead ≡ true
   moved_waits (step, m) a x = (some_left step.promoted (is_ahead m.ahead) a.ahead x).1.0
@@ -209,15 +204,11 @@ module _ (p : Progress) where
   unfolding abort_step
   abort_paced ask ahead m orb h = same_paced p ask ahead m (abort_step m orb) refl refl refl refl h
 
-  abort_waits : (m : Machine) (orb : ℕ) → (abort_step m orb).ahead ≡ m.ahead
-  unfolding abort_step
-  abort_waits m orb = refl
-
   aborts : (a : Agent) (orb : ℕ) → IsPacing p a → IsPacing p (record a { machine = abort_step a.machine orb })
   aborts a orb h = record {
     fetched = fetched_steps.aborts p a orb h.fetched;
     paced = abort_paced a.asks a.asks_ahead a.machine orb h.paced;
-    waits = λ x. ap is_ahead (abort_waits a.machine orb) ∙ h.waits x;
+    waits = λ x. ap is_ahead (abort_ahead a.machine orb) ∙ h.waits x;
   }
 
   abbrev Points : Result Ask PointRefusal × Machine → Type 0
@@ -361,17 +352,6 @@ ahead_sent p ask ahead m q h =
     idle_none (aheads.Kept orb) e f = untrue e
 
 module _ (p : Progress) (serial : ℕ) where
-  still_progress : (a : Agent) → is_serial a.main serial ≡ false → is_serial a.ahead serial ≡ false → progress_sends a serial p ≡ p
-  still_progress a e f =
-      ap (λ b. cond b (record p { ahead = Some Null; rung = false }) (cond (is_serial a.main serial) (reads_main a.machine.phase p) p)) f ∙ ap (λ b. cond b (reads_main a.machine.phase p) p) e
-
-  main_progress : (a : Agent) → is_serial a.ahead serial ≡ false → progress_sends (record a { main = Some serial; asks = Nothing }) serial p ≡ reads_main a.machine.phase p
-  main_progress a f =
-      ap (λ b. cond b (record p { ahead = Some Null; rung = false }) (cond (serial == serial) (reads_main a.machine.phase p) p)) f ∙ ap (λ b. cond b (reads_main a.machine.phase p) p) (same_number serial)
-
-  ahead_progress : (a : Agent) → progress_sends (record a { ahead = Some serial; asks_ahead = Nothing }) serial p ≡ record p { ahead = Some Null; rung = false }
-  ahead_progress a = ap (λ b. cond b (record p { ahead = Some Null; rung = false }) (cond (is_serial a.main serial) (reads_main a.machine.phase p) p)) (same_number serial)
-
   -- what is so beside the ORB
   record Goes (now : Progress) (a : Agent) : Type 0 where
     paced : IsPaced now a.asks a.asks_ahead a.machine
@@ -384,12 +364,12 @@ module _ (p : Progress) (serial : ℕ) where
           → (let now = cond x (record a { main = Some serial; asks = Nothing }) (cond y (record a { ahead = Some serial; asks_ahead = Nothing }) a) in Goes (progress_sends now serial p) now)
       by true g y k =
           let now = record a { main = Some serial; asks = Nothing } in
-          subst (λ (x : Progress). Goes x now) (sym (main_progress a f)) (record { paced = main_sent p a.asks a.asks_ahead a.machine a.machine.phase refl (wanted a.asks is_write g) h.paced; waits = h.waits })
+          subst (λ (x : Progress). Goes x now) (sym (main_progress p serial a f)) (record { paced = main_sent p a.asks a.asks_ahead a.machine a.machine.phase refl (wanted a.asks is_write g) h.paced; waits = h.waits })
       by false g true k =
           let now = record a { ahead = Some serial; asks_ahead = Nothing } in
           let asked = wanted a.asks_ahead is_write k in
-          subst (λ (x : Progress). Goes x now) (sym (ahead_progress a)) (record { paced = ahead_sent p a.asks a.asks_ahead a.machine asked h.paced; waits = λ x. (h.paced.looks asked).1.1.0 })
-      by false g false k = subst (λ (x : Progress). Goes x a) (sym (still_progress a e f)) (record { paced = h.paced; waits = h.waits })
+          subst (λ (x : Progress). Goes x now) (sym (ahead_progress p serial a)) (record { paced = ahead_sent p a.asks a.asks_ahead a.machine asked h.paced; waits = λ x. (h.paced.looks asked).1.1.0 })
+      by false g false k = subst (λ (x : Progress). Goes x a) (sym (still_progress p serial a e f)) (record { paced = h.paced; waits = h.waits })
 
   sends_paced : (is_write : Bool) (a : Agent) → is_serial a.main serial ≡ false → is_serial a.ahead serial ≡ false → IsPacing p a → (let now = sends_of is_write serial a in IsPacing (progress_sends now serial p) now)
   sends_paced is_write a e f h =

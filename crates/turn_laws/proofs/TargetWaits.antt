@@ -29,6 +29,7 @@ use Rattle.turn_laws.proofs.BehindTurns.{behind_every_turn}
 use Rattle.turn_laws.proofs.DeathAnswers.{asked_here}
 use Rattle.sbp_world.proofs.Wire.Starts.{laws_of}
 use Rattle.turn_laws.proofs.Places.{Place}
+use Rattle.turn_laws.proofs.RequestWrites.{no_some}
 use Rattle.turn_laws.proofs.RestSteps.{is_suspended}
 use Rattle.turn_laws.proofs.Rests.{rests_before}
 
@@ -48,10 +49,6 @@ by_phase phases.ReadingNext start past place a h k = h refl
 unsent : (phase : Phase) → is_suspended phase ≡ true → is_sent phase ≡ false
 unsent phases.Suspended e = refl
 unsent phase e = untrue e
-
-none_by : (main : Option ℕ) → is_some main ≡ false → main ≡ None
-none_by None e = refl
-none_by (Some serial) e = untrue (sym e)
 
 runs_by : (wire : Terms) (main : Option ℕ) → is_some main ≡ true → ((serial : ℕ) → main ≡ Some serial → is_under_way wire serial ≡ true) → Runs wire main
 runs_by wire None some h = untrue some
@@ -91,7 +88,7 @@ module _ (units ready : ℕ) (has : 0 < units) (start : List Disk) (past : List 
       (λ sent. runs_by t a.main (sent_is ∙ sent) (λ serial e. (((asked_here units ready has start past s here).all place b).main serial e).under_way))
       (λ rests.
       let r = rests_before start ms (laws_of past s.world here.holds.sound.stands).serials place rests in
-      record { ended = none_by a.main (sent_is ∙ unsent a.machine.phase rests); answered = r.0; ends = r.1.0; unrung = r.1.1 })
+      record { ended = no_some a.main (sent_is ∙ unsent a.machine.phase rests); answered = r.0; ends = r.1.0; unrung = r.1.1 })
 
   -- ---- the operation
   under_way : (source : ℕ) (r : HasRequest t s.world.target.layer source manages) → is_under_way t r.serial ≡ true
