@@ -425,9 +425,9 @@ module _ (units ready : ℕ) (has : 0 < units) (start : List Disk) (past : List 
 
   pub brought_kept : (line : ℕ) (event : Event) (rest : List Note) (behind : Scene) → Brings line s event rest → behind.world.fresh ≡ onto rest [] → Place units ready start (asked line event ∷ ms) behind → Stays w behind.world → Kept start (hist (asked line event ∷ ms) behind.world) behind
   brought_kept line event rest behind (calls is_event c) fresh there stays = moved_kept line event [] behind fresh there stays (line_kept line event)
-  brought_kept line event rest behind (refuses is_event number) fresh there stays =
-      moved_kept line event (notes.Refused line number ∷ []) behind fresh there stays
-      (noted_so line event (notes.Refused line number ∷ []) behind fresh there stays (notes.Refused line number) tt refl refl refl (λ n r. refl))
+  brought_kept line event rest behind (refuses is_event refusal) fresh there stays =
+      moved_kept line event (notes.Refused line refusal.number ∷ []) behind fresh there stays
+      (noted_so line event (notes.Refused line refusal.number ∷ []) behind fresh there stays (notes.Refused line refusal.number) tt refl refl refl (λ n r. refl))
   brought_kept line event rest behind (refuses_action i action number e) fresh there stays =
       moved_kept line (events.Act i action) (notes.Refused line number ∷ []) behind fresh there stays
       (noted_so line (events.Act i action) (notes.Refused line number ∷ []) behind fresh there stays (notes.Refused line number) tt refl refl refl (λ n r. refl))
