@@ -22,7 +22,7 @@ use Rattle.sbp_journal.specs.declared.event.Action.{Action}
 use Rattle.sbp_journal.specs.declared.event.Action.TheVariants as actions
 use Rattle.sbp_laws.specs.Actions.{action_body, address_bytes, first_slot, lacks_label, management_body, pointer_for, register_of, ring_body}
 use Rattle.sbp_laws.specs.Hosts.{Host, host_at, operation_of}
-use Rattle.sbp_laws.specs.Lists.{lowest_vacant, present_list, slot_at, slots}
+use Rattle.sbp_laws.specs.Lists.{lowest_vacant, present_list, slot_at}
 use Rattle.sbp_laws.specs.Operations.{management_offset}
 use Rattle.sbp_laws.specs.Packets.{finds_label}
 use Rattle.sbp_session.specs.Laws.{carried}
