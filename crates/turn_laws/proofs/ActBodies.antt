@@ -22,7 +22,7 @@ use Rattle.sbp_journal.specs.declared.event.Action.{Action}
 use Rattle.sbp_journal.specs.declared.event.Action.TheVariants as actions
 use Rattle.sbp_laws.specs.Actions.{action_body, address_bytes, first_slot, lacks_label, management_body, pointer_for, register_of, ring_body}
 use Rattle.sbp_laws.specs.Hosts.{Host, host_at, operation_of}
-use Rattle.sbp_laws.specs.Lists.{lowest_vacant, present_list, slot_at, slots}
+use Rattle.sbp_laws.specs.Lists.{lowest_vacant, present_list, slot_at}
 use Rattle.sbp_laws.specs.Operations.{management_offset}
 use Rattle.sbp_laws.specs.Packets.{finds_label}
 use Rattle.sbp_session.specs.Laws.{carried}
@@ -178,16 +178,20 @@ module _ (past : List Moment) (i : ℕ) (s : InitiatorState) (own : IsHost past 
   sends_some (actions.Dummy orb) demand e = none_is demand e
   sends_some _ demand e = refl
 
+  -- a request of its own finds one as the terms say
+  abbrev pub Finds : Action → Type 0
+  Finds action = (demand : Demand) → demand_of action s ≡ Some demand → is_some (asked_for demand s).0 ≡ finds_label (terms past) (suc i) 0 (wanted_body demand.wanted)
+
   none_lacks : (b : Bool) → (b && false) ≡ false
   none_lacks true = refl
   none_lacks false = refl
 
-  lacks_by : (action : Action) → ((demand : Demand) → demand_of action s ≡ Some demand → is_some (asked_for demand s).0 ≡ finds_label (terms past) (suc i) 0 (wanted_body demand.wanted)) → (d : Option Demand) → demand_of action s ≡ d
+  lacks_by : (action : Action) → Finds action → (d : Option Demand) → demand_of action s ≡ d
       → lacks_label (terms past) i (body_in d) ≡ (sends action && not (finds_for d s))
   lacks_by action finds None e = sym (none_lacks (sends action))
   lacks_by action finds (Some demand) e =
       ap not (sym (finds demand e)) ∙ ap (λ b. b && not (is_some (asked_for demand s).0)) (sym (sends_some action demand e))
 
-  pub label_row : (action : Action) (has_label : Bool) → (manages (operation_of action) ≡ true → Offset) → ((demand : Demand) → demand_of action s ≡ Some demand → is_some (asked_for demand s).0 ≡ finds_label (terms past) (suc i) 0 (wanted_body demand.wanted)) → NoRow (rows_of action (facts_with has_label s action))
+  pub label_row : (action : Action) (has_label : Bool) → (manages (operation_of action) ≡ true → Offset) → Finds action → NoRow (rows_of action (facts_with has_label s action))
       → lacks_label (terms past) i (action_body action past i host) ≡ (sends action && not (finds_for (demand_of action s) s))
   label_row action b f finds n = ap (lacks_label (terms past) i) (bodies action b f n) ∙ lacks_by action finds (demand_of action s) refl

@@ -15,7 +15,7 @@ use Rattle.sbp_journal.specs.declared.event.Action.{Action}
 use Rattle.sbp_journal.specs.declared.event.Action.TheVariants as actions
 use Rattle.sbp_journal.specs.declared.operation.Operation.{Operation}
 use Rattle.sbp_laws.specs.Actions.{cuts_list, is_list_step, is_pointing, is_right_state, needs_rom, prepares, refusal_at, refusals, rings, running_operation}
-use Rattle.sbp_laws.specs.Hosts.{Host, Underway, host_at, is_stuck, operation_of}
+use Rattle.sbp_laws.specs.Hosts.{Host, Underway, host_at, is_stuck}
 use Rattle.sbp_session.specs.Seats.{points}
 use Rattle.sbp_session.specs.declared.seat.Seat.{Seat}
 use Rattle.sbp_session.specs.declared.seat.Seat.TheVariants as seats

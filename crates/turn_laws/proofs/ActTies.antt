@@ -25,7 +25,6 @@ use Rattle.sbp_laws.specs.Lists.{slot_at}
 use Rattle.sbp_laws.specs.Operations.{management_offset}
 use Rattle.sbp_laws.specs.Packets.{label_for, request_bytes}
 use Rattle.sbp_laws.specs.Packets as packets
-use Rattle.sbp_session.specs.Seats.{points}
 use Rattle.sbp_world.specs.Hosts.Core.{Core}
 use Rattle.sbp_world.specs.Hosts.PointerRuns.{PointsByWrites}
 use Rattle.sbp_world.specs.Pointers.Moments.{manages}
