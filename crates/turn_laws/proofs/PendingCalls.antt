@@ -157,7 +157,7 @@ module _ (units ready : ℕ) (has : 0 < units) (start : List Disk) (past : List 
       new_row = row_by its.0 under
 
     -- what waits under a new row of one is an unsolicited status of the terms
-    module _ (layer : Layer Purpose) (count_there : length behind.initiators ≡ nodes) where
+    module _ (layer : Layer Purpose) where
       later : Later start 0 Q base now
       later = turn_later units ready has start past (note ∷ w.fresh) 0 0 outbox v media fresh_is there Q plain clean
 
@@ -176,7 +176,6 @@ module _ (units ready : ℕ) (has : 0 < units) (start : List Disk) (past : List 
           let nobodys = ((are_handed units ready has start behind there.holds).all a.requests n number kind r (Some purposes.Unsolicited) a.are a.known waiting row_now).unsolicited refl in
           let x = goes_on.awaited stands.wire u kind r stands.reached (ap (λ (y : Terms). y.held u) (past_terms behind stands) ∙ waiting) in
           let asks = asked_is x.packet u (begun_asked x.packet u x.begun).1 in
-          let inside : n ≤ length behind.initiators = subst (λ m. n ≤ m) (sym count_there) l in
           let tied = labels units ready has start behind there.holds n number in
           let kind_is : kinds.Write ≡ kind_as kind = same_awaits kinds.Write (kind_as kind) (ap awaits (sym writes) ∙ (sym (ap shape row.waits) ∙ (ap (λ i. shape (state_for behind.target.layer.peers i number)) (sym id_same) ∙ (tied ∙ ap shape_of waiting)))) in
           let sent : t.sent r ≡ Some x.packet = ap (λ (y : Terms). y.sent r) (sym (past_terms behind stands)) ∙ x.sent in
@@ -198,4 +197,4 @@ module _ (units ready : ℕ) (has : 0 < units) (start : List Disk) (past : List 
         turn_kept units ready has start past (note ∷ w.fresh) 0 0 outbox v media fresh_is there Q plain clean nodes count_there layer pending k ties
         (subst (λ (x : NodeState). Rows layer x.layer pending x.pending) (sym alike.target) rows)
         (λ z r h x. (subst (λ n. x.packet.to ≤ n) count_there (to_there r h x), new_row r h x))
-        (all_sent layer count_there)
+        (all_sent layer)

@@ -8,11 +8,9 @@ use Rattle.async_packet.specs.Packet.{Packet, lock, lock_response, read_block, r
 use Rattle.async_packet.specs.Reading.{reading}
 use Rattle.async_packet.specs.declared.fault.PacketFault.{PacketFault}
 use Rattle.bus_transactions.specs.Packets.{SerialsCount}
-use Rattle.command_agent.specs.Steps as steps
 use Rattle.command_agent.specs.declared.step.Which.TheVariants.{Ahead, Main}
 use Rattle.orb_layout.specs.declared.ask.Ask.{Ask}
 use Rattle.orb_layout.specs.declared.ask.Ask.TheVariants.{Nothing}
-use Rattle.orb_layout.specs.declared.ask.FailCause.TheVariants as causes
 use Rattle.rbc_disk.specs.Disk.{Disk}
 use Rattle.sbp_journal.specs.Outgoings.{OutboxState}
 use Rattle.sbp_journal.specs.Run.{Moment, asked, said}
@@ -24,7 +22,7 @@ use Rattle.sbp_journal.specs.declared.outbox.Outgoing.{Outgoing}
 use Rattle.sbp_journal.specs.declared.side.Side.{Side}
 use Rattle.sbp_journal.specs.declared.side.Side.TheVariants as sides
 use Rattle.sbp_laws.specs.Packets.{access_in, access_in_bytes, spelled_by}
-use Rattle.sbp_laws.specs.Targets.{Agent, Reply, Target, agent_at, agent_over, ahead_lost, for_agent, for_manager, for_nobody, is_nothing, is_serial, is_write_access, main_lost, moved, new_agent, over, purpose_among, purpose_of, sends_of, sent_as, sent_for, taken_on, target_at, wants, wants_it}
+use Rattle.sbp_laws.specs.Targets.{Agent, Reply, Target, agent_at, agent_over, for_agent, for_manager, for_nobody, is_serial, is_write_access, new_agent, over, purpose_among, purpose_of, sends_of, sent_as, sent_for, taken_on, target_at, wants, wants_it}
 use Rattle.sbp_world.specs.Agents.Crews.{agent_in}
 use Rattle.sbp_bus.specs.Generations.{node_of}
 use Rattle.sbp_world.specs.Handing.{handed_out}
@@ -34,6 +32,7 @@ use Rattle.sbp_world.specs.Telling.{told, told_all}
 use Rattle.sbp_world.specs.Worlds.{WorldState}
 use Rattle.sbp_world.proofs.Agents.Management.Still.{hist}
 use Rattle.sbp_world.proofs.Common.{untrue}
+use Rattle.sbp_world.proofs.Lists.SentInTurn.{all_over}
 use Rattle.sbp_world.proofs.Hosts.SentMoments.{count_now, sent_now, sent_there}
 use Rattle.turn_laws.proofs.Handed.{handed, handed_fresh, note_of, notes_sent, notes_told, onto, onto_both, packet_note}
 use Rattle.turn_laws.proofs.LaterTerms.{Pushes}
@@ -273,21 +272,6 @@ module _ (start : List Disk) where
   owned (said note ∷ past) c s l m x = absurd (omega (arith, l, m))
 
 -- ---- as the turn is over
-lost_same : (a : Agent) → a.asks ≡ Nothing → (main_lost a).main ≡ a.main
-lost_same a e = ap (λ b. (cond b a (moved (steps.lost_step a.machine Main causes.Label) a)).main) (ap is_nothing e)
-
-ahead_same : (a : Agent) → (ahead_lost a).main ≡ a.main
-ahead_same a = by (is_nothing a.asks_ahead)
-  where
-    by : (b : Bool) → (cond b a (record a { machine = (steps.lost_step a.machine Ahead causes.Label).1; asks_ahead = Nothing })).main ≡ a.main
-    by true = refl
-    by false = refl
-
-all_over : (agents : List Agent) (p s : ℕ) → (agent_in agents p).main ≡ Some s → (agent_in agents p).asks ≡ Nothing → (agent_in (map agent_over agents) p).main ≡ Some s
-all_over [] p s e f = e
-all_over (a ∷ agents) zero s e f = ahead_same (main_lost a) ∙ (lost_same a f ∙ e)
-all_over (a ∷ agents) (suc p) s e f = all_over agents p s e f
-
 among_not : (k : ℕ) (agents : List Agent) (p s : ℕ) → (agent_in agents p).main ≡ Some s → purpose_among k agents s ≡ for_nobody → ⊥
 among_not k [] p s e f = absurd (let no : None ≡ Some s = e in cc)
 among_not k (a ∷ agents) zero s e f =
@@ -310,7 +294,7 @@ owned_not t s none (of_main p e f) g = by (is_serial (over t).manages s) g
     same = ap (λ r. (taken_on None r t).agents) none
 
     there : (agent_in (over t).agents p).main ≡ Some s
-    there = ap (λ (xs : List Agent). (agent_in (map agent_over xs) p).main) same ∙ all_over t.agents p s e f
+    there = ap (λ (xs : List Agent). (agent_in (map agent_over xs) p).main) same ∙ (all_over t.agents p ∙ e)
 
     by : (b : Bool) → cond b for_manager (purpose_among 0 (over t).agents s) ≡ for_nobody → ⊥
     by true h = manager_not h

@@ -78,7 +78,7 @@ ahead_same a = by (is_nothing a.asks_ahead)
 over_same : (a : Agent) → (agent_over a).main ≡ a.main
 over_same a = ahead_same (main_lost a) ∙ lost_same a
 
-all_over : (agents : List Agent) (p : ℕ) → (agent_in (map agent_over agents) p).main ≡ (agent_in agents p).main
+pub all_over : (agents : List Agent) (p : ℕ) → (agent_in (map agent_over agents) p).main ≡ (agent_in agents p).main
 all_over [] p = refl
 all_over (a ∷ agents) zero = over_same a
 all_over (a ∷ agents) (suc p) = all_over agents p
