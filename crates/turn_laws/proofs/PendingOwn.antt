@@ -99,7 +99,6 @@ forgot_more layer packets peer label h = record {
 no_row : (layer : Layer Purpose) (packets : List Outgoing) → Forgot layer packets → (p number : ℕ) → Row layer p number → ⊥
 no_row layer packets f p number r = let l = life_of layer f.lives p number f.known r in f.none p l.label l.kind l.life
 
-
 module _ (units ready : ℕ) (has : 0 < units) (start : List Disk) (past : List Moment) (s : Scene) (here : Place units ready start past s) (k : Kept start (hist past s.world) s) where
   abbrev w : WorldState
   w = s.world
