@@ -145,3 +145,10 @@ pub mod TargetWaits
 pub mod Together
 pub mod RunPlans
 pub mod RunEnds
+pub mod RomEnds
+pub mod RomStays
+pub mod RomTerms
+pub mod RomLabels
+pub mod RomCalls
+pub mod RomTies
+pub mod RomOthers
