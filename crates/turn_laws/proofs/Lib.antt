@@ -168,3 +168,10 @@ pub mod ActEntries
 pub mod Together
 pub mod RunPlans
 pub mod RunEnds
+pub mod RomEnds
+pub mod RomStays
+pub mod RomTerms
+pub mod RomLabels
+pub mod RomCalls
+pub mod RomTies
+pub mod RomOthers
