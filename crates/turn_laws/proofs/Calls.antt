@@ -21,7 +21,7 @@ use Rattle.sbp_journal.specs.declared.event.Event.{Event}
 use Rattle.sbp_journal.specs.declared.event.Event.TheVariants as events
 use Rattle.sbp_journal.specs.declared.note.Note.{Note}
 use Rattle.sbp_journal.specs.declared.note.Note.TheVariants as notes
-use Rattle.sbp_laws.specs.Turns.{Turn, turn}
+use Rattle.sbp_laws.specs.Turns.{Turn, event_of, turn}
 use Rattle.sbp_target.specs.Nodes as target
 use Rattle.sbp_target.specs.Receiving.{expired, received, seen, ticked}
 use Rattle.sbp_world.specs.Delivering.{MayTell, faults_after, marked, whole_of}
@@ -47,6 +47,17 @@ calls_nodes (events.Step count) = true
 calls_nodes events.Settle = true
 calls_nodes events.Tick = true
 calls_nodes event = false
+
+-- the line that is under way calls nodes
+pub record IsCalling (past : List Moment) : Type 0 where
+  pub event : Event
+  pub is : event_of past ≡ Some event
+  pub calls : calls_nodes event ≡ true
+
+-- the first note of a call: it is judged with the notes before it, in a line that calls nodes
+pub record IsNoted (past : List Moment) (w : WorldState) (note : Note) : Type 0 where
+  pub judged : AreJudged (said note ∷ hist past w)
+  pub line : IsCalling past
 
 -- the line is an action
 abbrev pub is_act : Event → Bool
@@ -85,7 +96,7 @@ module _ (units ready : ℕ) (start : List Disk) (R N : Scene → Turn → List 
   -- a call of a node behind the first note of its turn: what it handed out, from a world with this note
   abbrev pub Turned : List Moment → Scene → Note → (node : ℕ) → OutboxState → WorldState → Scene → Type 0
   Turned past s note node outbox w behind =
-      At past s → At past behind → AreJudged (said note ∷ hist past s.world) → R s (turn (hist past s.world) (said note) (handed node 0 outbox w)) (hist past behind.world) behind
+      At past s → At past behind → IsNoted past s.world note → R s (turn (hist past s.world) (said note) (handed node 0 outbox w)) (hist past behind.world) behind
 
   -- the target tells no note of an initiator, and an initiator nothing else
   abbrev pub ByTarget : List Moment → Scene → Note → OutboxState → WorldState → Scene → Type 0
@@ -178,9 +189,9 @@ Begins L line initiators is_ready = L (turn [] (asked line (events.Begin initiat
 abbrev pub Cases : (units ready : ℕ) → List Disk → (Turn → Type 0) → Type 0
 Cases units ready start L = CasesOf units ready start (λ s t now behind. L t) (λ s t now behind. L t) (Begins L)
 
--- where no node is called the target has its transactions and the nodes that an unsolicited status is pending to
+-- where no node is called the target has its transactions and the nodes that an unsolicited status is pending to, and the initiators are as before
 abbrev pub Stays : WorldState → WorldState → Type 0
-Stays w v = (v.target.layer ≡ w.target.layer) × ((v.target.pending ≡ w.target.pending) × (length v.initiators ≡ length w.initiators))
+Stays w v = (v.target.layer ≡ w.target.layer) × ((v.target.pending ≡ w.target.pending) × (v.initiators ≡ w.initiators))
 
 -- a law of turns, where something is carried from place to place
 abbrev pub CarriedCases : (units ready : ℕ) → List Disk → (List Moment → Scene → Type 0) → (Turn → Type 0) → Type 0

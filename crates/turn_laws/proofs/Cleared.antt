@@ -163,8 +163,8 @@ module _ (units ready : ℕ) (has : 0 < units) (start : List Disk) where
 
   pub cleared_cases : Cases units ready start (ClearsWhereDue start)
   cleared_cases = record {
-    heard = λ past s serial again run one found zero_to may others here behind judged.
-        of_target _ _ others ∙ target_due is_cleared_note cleared_side are_kept cleared_by effects_clear units ready has start past s here serial one found run zero_to judged;
+    heard = λ past s serial again run one found zero_to may others here behind noted.
+        of_target _ _ others ∙ target_due is_cleared_note cleared_side are_kept cleared_by effects_clear units ready has start past s here serial one found run zero_to noted.judged;
     heard_own = λ past s serial again one i found to_is inside own here behind judged.
         of_own (suc i) 0 _ _ own ∙ sym (own_due is_cleared_note cleared_side are_kept cleared_by effects_clear units ready has start past s here serial one found i to_is _);
     late = λ past s serial request done t found node_is e others here behind judged.

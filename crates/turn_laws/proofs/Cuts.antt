@@ -515,11 +515,11 @@ module _ (units ready : ℕ) (has : 0 < units) (start : List Disk) where
 
   pub cuts_cases : Cases units ready start (CutsWhereDue start)
   cuts_cases = record {
-    heard = λ past s serial again run one found zero_to may others here behind judged.
+    heard = λ past s serial again run one found zero_to may others here behind noted.
         let x = received run one.generation one.bytes (whole_of s.world.target s.media) in
         target_cuts (holder s.world) x.1.outbox (with_note (judged_note serial x.0) (marked serial again (with_target x.1.node s.world))) (λ p. marked_holder serial again (with_target x.1.node s.world) p) others
         (target_first units ready has start past s here serial one found zero_to run)
-        ∙ target_due units ready has start past s here serial one found zero_to run judged ∙ sym (due_is units ready has start past s here serial one found x.0 []);
+        ∙ target_due units ready has start past s here serial one found zero_to run noted.judged ∙ sym (due_is units ready has start past s here serial one found x.0 []);
     heard_own = λ past s serial again one i found to_is inside own here behind judged.
         of_own (suc i) 0 _ _ own ∙ sym (due_is units ready has start past s here serial one found _ [] ∙ own_due units ready has start past s here serial one found i to_is _);
     late = λ past s serial request done t found node_is e others here behind judged.

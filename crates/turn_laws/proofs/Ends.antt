@@ -100,7 +100,7 @@ end_ends start past false = refl
 module _ (units ready : ℕ) (has : 0 < units) (start : List Disk) where
   pub ends_cases : Cases units ready start (TellsEnds start)
   ends_cases = record {
-    heard = λ past s serial again run one found zero_to may others here behind judged. called_ends units ready has start past s here serial again run one found zero_to may others judged;
+    heard = λ past s serial again run one found zero_to may others here behind noted. called_ends units ready has start past s here serial again run one found zero_to may others noted.judged;
     heard_own = λ past s serial again one i found to_is inside own here behind judged.
         let x = receive_step one.generation one.bytes empty_outbox (initiator_at s.world i) in
         let v = with_note (judged_note serial x.0) (marked serial again (with_initiator i x.1.1 s.world)) in

@@ -339,12 +339,12 @@ module _ (units ready : ℕ) (has : 0 < units) (start : List Disk) where
 
   pub failure_cases : Cases units ready start (FailsWhereDue start)
   failure_cases = record {
-    heard = λ past s serial again run one found zero_to may others here behind judged.
+    heard = λ past s serial again run one found zero_to may others here behind noted.
         let x = received run one.generation one.bytes (whole_of s.world.target s.media) in
         let after = with_target x.1.node s.world in
         let v = with_note (judged_note serial x.0) (marked serial again after) in
         target_noted x.1.outbox v others ∙ ap (λ known. failure_notes known (failing x.1.outbox.sides)) (marked_generations serial again after)
-        ∙ target_due past s here serial run one found zero_to x.1.outbox v behind.holds.sound.stands (ap (λ ns. judged_note serial x.0 ∷ ns) (marked_fresh serial again after)) judged;
+        ∙ target_due past s here serial run one found zero_to x.1.outbox v behind.holds.sound.stands (ap (λ ns. judged_note serial x.0 ∷ ns) (marked_fresh serial again after)) noted.judged;
     heard_own = λ past s serial again one j found to_is inside own here behind judged.
         own_handed is_failure_note failure_kind no_own (suc j) 0 _ _ own ∙ sym (own_due past s here serial None one found j to_is _);
     late = λ past s serial request done t found node_is e others here behind judged.

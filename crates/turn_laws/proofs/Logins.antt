@@ -216,8 +216,8 @@ module _ (units ready : ℕ) (has : 0 < units) (start : List Disk) where
 
   pub login_cases : Cases units ready start (LoginsWhereDue start)
   login_cases = record {
-    heard = λ past s serial again run one found zero_to may others here behind judged.
-        of_target _ _ others ∙ target_due is_login_note login_side are_kept moved_logins effects_move units ready has start past s here serial one found run zero_to judged
+    heard = λ past s serial again run one found zero_to may others here behind noted.
+        of_target _ _ others ∙ target_due is_login_note login_side are_kept moved_logins effects_move units ready has start past s here serial one found run zero_to noted.judged
         ∙ sym (judged_due (hist past s.world) serial _ (terms (hist past s.world)) (over (target_at start (hist past s.world))) _);
     heard_own = λ past s serial again one i found to_is inside own here behind judged.
         of_own (suc i) 0 _ _ own ∙ sym (own_due is_login_note login_side are_kept moved_logins effects_move units ready has start past s here serial one found i to_is _)

@@ -109,10 +109,10 @@ module _ (units ready : ℕ) (start : List Disk) where
   none_ends_cases = record {
     heard = λ past s serial again run one found zero_to may others here behind judged timely none.
         target_none _ _ others ∙ sym (to_target (hist past s.world) serial (as_sending one) (was_sent s.world here.holds.sound.stands serial one found) zero_to _);
-    heard_own = λ past s serial again one i found to_is inside own here behind judged timely none.
+    heard_own = λ past s serial again one i found to_is inside own here behind noted timely none.
         let there : one.to ≤ length s.world.initiators = omega (arith, to_is, inside) in
         let old = initiator_at s.world i in
-        got_due units ready start past s here i inside serial one found to_is _ (here.holding i inside).responses none judged (row_there s.world here.holds.sound.stands serial one found there old.layer (ap (layers_of s.world) to_is));
+        got_due units ready start past s here i inside serial one found to_is _ (here.holding i inside).responses none noted.judged (row_there s.world here.holds.sound.stands serial one found there old.layer (ap (layers_of s.world) to_is));
     late = λ past s serial request done t found node_is e others here behind judged timely none. target_none t.outbox _ others ∙ sym (lapse_none past s here serial request done t found node_is e);
     late_own = λ past s serial request i outbox state found node_is inside e own here behind judged timely none. untrue (sym none ∙ late_sender units ready start past s here i inside serial request found node_is (s.world) outbox state e);
     sees = λ past s others here behind judged timely none. target_none _ _ others;

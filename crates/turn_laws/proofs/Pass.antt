@@ -1,7 +1,7 @@
 -- A law of turns holds of every turn of every run where it holds of the turn of each call. This is the one place where a line, a delivery and what a world does of them are
 -- opened for such laws. With a law something may be carried from place to place: it holds where a run begins, and of the place behind each turn where it held before.
 use Rattle.std.proofs.Common.{arith, ◌≡◌, ◌∙◌, refl, sym, ap, subst, ℕ, zero, suc, ◌+◌, ◌-◌, ◌==◌, ◌^◌, ◌<◌, ◌≤◌, nat_lt, Bool, true, false, cond, List, [], ◌∷◌, ◌++◌, map, length, Option, Some, None, Result, Ok, Err}
-use Rattle.std.proofs.Math.ListN.{length-set}
+use Rattle.std.proofs.lemmas.List.{set-get_or}
 use Rattle.std.proofs.lemmas.Bool.Decides.{nat_tests}
 use Rattle.bus_transactions.specs.Judging.{AreJudged}
 use Rattle.bus_transactions.specs.May.{is_reset}
@@ -15,9 +15,11 @@ use Rattle.sbp_bus.specs.declared.requests.Request.{Request}
 use Rattle.sbp_bus.specs.Generations.{id_of, topology_at}
 use Rattle.sbp_bus.specs.Packets.{judged_note, no_node, no_packet}
 use Rattle.sbp_bus.specs.Requests.{find}
+use Rattle.sbp_initiator.proofs.FirstRow.{refusal_law}
 use Rattle.sbp_initiator.specs.Acting.{act_step}
 use Rattle.sbp_initiator.specs.declared.state.InitiatorState.{InitiatorState}
 use Rattle.sbp_initiator.specs.Effects.{Turn as Called}
+use Rattle.sbp_initiator.specs.Initiators.{new_state}
 use Rattle.sbp_initiator.specs.Receiving.{expire_step, receive_step}
 use Rattle.sbp_initiator.specs.Seeing.{see_step}
 use Rattle.sbp_journal.specs.Outgoings.{OutboxState, empty_outbox}
@@ -54,16 +56,21 @@ use Rattle.sbp_world.proofs.Formed.{AreOwn}
 use Rattle.sbp_world.specs.Hosts.Handing.{AreOthers}
 use Rattle.sbp_world.proofs.Agents.Management.Still.{hist}
 use Rattle.sbp_world.proofs.Hosts.Hands.{hand_law}
+use Rattle.sbp_world.proofs.Hosts.Pointed.{stale_is}
 use Rattle.sbp_world.proofs.Lists.Extends.{marked_fresh}
 use Rattle.sbp_world.proofs.Lists.SendsLast.{IsStart, judged_starts}
 use Rattle.sbp_world.proofs.Wire.Comes.{own_inside, own_outside, received_is, to_own, to_zero}
 use Rattle.sbp_world.proofs.Wire.Starts.{laws_of}
 use Rattle.sbp_world.proofs.Wire.ToldBytes.{happened_fits}
 use Rattle.turn_laws.specs.Runs.{OfEveryRun}
-use Rattle.turn_laws.proofs.Calls.{Brings, CarriedCases, Cases, Stays, calls, calls_nodes, in_scene, is_act, injects, loses, refuses, refuses_action, resets, sets_key}
+use Rattle.turn_laws.proofs.Calls.{Brings, CarriedCases, Cases, IsCalling, IsNoted, Stays, calls, calls_nodes, in_scene, is_act, injects, loses, refuses, refuses_action, resets, sets_key}
 use Rattle.turn_laws.proofs.Handed.{AllInner, AreInner, handed, handed_fresh, handed_inner, onto, others_inner, own_inner}
 use Rattle.turn_laws.proofs.Places.{Place, begun_place, between_place, ended_place}
 use Rattle.turn_laws.proofs.Turns.{Turns, by_line, by_note, judged_before}
+
+-- an initiator that is set as it was
+set_as_was : (w : WorldState) (i : ℕ) (state : InitiatorState) → state ≡ initiator_at w i → (with_initiator i state w).initiators ≡ w.initiators
+set_as_was w i state e = ap (λ x. (with_initiator i x w).initiators) e ∙ set-get_or w.initiators i (new_state 0 false)
 
 -- a line that calls nodes is no action
 pub call_no_act : (event : Event) → calls_nodes event ≡ true → is_act event ≡ false
@@ -81,7 +88,7 @@ module _ (units ready : ℕ) (start : List Disk) (K : List Moment → Scene → 
   E ms s = Each ms × K ms s
 
   -- ---- the calls of nodes behind the first note of a turn
-  module _ (past : List Moment) (s : Scene) (here : At past s) (before : E (hist past s.world) s) where
+  module _ (past : List Moment) (s : Scene) (here : At past s) (before : E (hist past s.world) s) (calling : IsCalling past) where
     abbrev w : WorldState
     w = s.world
 
@@ -99,12 +106,15 @@ module _ (units ready : ℕ) (start : List Disk) (K : List Moment → Scene → 
       all_is : (handed_out node 0 outbox v).fresh ≡ onto rest (note ∷ w.fresh)
       all_is = handed_fresh node 0 outbox v ∙ ap (onto rest) fresh_is
 
-      judged : At past later → AreJudged (said note ∷ hist past w)
-      judged there = judged_before rest (note ∷ w.fresh) past (subst (λ ns. AreJudged (map said ns ++ past)) all_is (laws_of past later.world there.holds.sound.stands).judged)
+      noted : At past later → IsNoted past w note
+      noted there = record {
+        judged = judged_before rest (note ∷ w.fresh) past (subst (λ ns. AreJudged (map said ns ++ past)) all_is (laws_of past later.world there.holds.sound.stands).judged);
+        line = calling;
+      }
 
-      turned : (At past s → At past later → AreJudged (said note ∷ hist past w) → K (hist past w) s → L (turn (hist past w) (said note) rest) × K (hist past later.world) later) → Q later
+      turned : (At past s → At past later → IsNoted past w note → K (hist past w) s → L (turn (hist past w) (said note) rest) × K (hist past later.world) later) → Q later
       turned law there =
-          let r = law here there (judged there) before.1 in
+          let r = law here there (noted there) before.1 in
           (subst (λ ns. Each (map said ns ++ past)) (sym all_is) (by_note L note starts rest w.fresh past (handed_inner node 0 outbox v inner) r.0 before.0), r.1)
 
     -- a packet is delivered
@@ -214,8 +224,8 @@ module _ (units ready : ℕ) (start : List Disk) (K : List Moment → Scene → 
       unchanged : Stays w w
       unchanged = (refl, (refl, refl))
 
-      of_initiator : (i : ℕ) (state : InitiatorState) → Stays w (with_initiator i state w)
-      of_initiator i state = (refl, (refl, length-set w.initiators i state))
+      of_initiator : (i : ℕ) (state : InitiatorState) → state ≡ initiator_at w i → Stays w (with_initiator i state w)
+      of_initiator i state same = (refl, (refl, set_as_was w i state same))
 
       abbrev W : WorldState → Type 0
       W v = Q (in_scene v s)
@@ -236,7 +246,8 @@ module _ (units ready : ℕ) (start : List Disk) (K : List Moment → Scene → 
             let told : AreOwn outbox.sides = subst (λ (z : Bool × Called). own.At z.1) e (own.expires request.label empty_outbox (initiator_at w i) tt) in
             turned (notes.TimedOut serial) tt (suc i) outbox v s.media refl
             (own_inner outbox.sides told) (cases.late_own past s serial request i outbox state found node_is inside e told)
-        own_lapse i node_is inside (false, (outbox, state)) e = refusal (with_initiator i state w) refl (of_initiator i state)
+        own_lapse i node_is inside (false, (outbox, state)) e =
+            let same = stale_is true request.label (initiator_at w i) (ap (λ (z : Bool × Called). z.0) e) in refusal (with_initiator i state w) refl (of_initiator i state (sym (ap (λ (z : Bool × Called). z.1.1) e) ∙ same))
 
         abbrev ExpiredAt : ℕ → ℕ → WorldState
         ExpiredAt n j = timed_out line serial n (cond (nat_lt j (length w.initiators)) (packets.at_initiator j (expire_step request.label empty_outbox (initiator_at w j)) w) (false, (empty_outbox, w)))
@@ -296,9 +307,12 @@ module _ (units ready : ℕ) (start : List Disk) (K : List Moment → Scene → 
         begins_now : E (hist now (begun s).world) (begun s)
         begins_now = plain [] (begun s) (calls event is_call) refl tt (refl, (refl, refl)) opened
 
+        calling_now : IsCalling now
+        calling_now = record { event = event; is = refl; calls = is_call }
+
         one_comes : (serial : ℕ) (again : Bool) (b : Bool) (run : List (Option Told)) → MayIf b serial run (begun s) → Goes (delivered_if b line serial again run (begun s))
         one_comes serial again true [] may = absurd may
-        one_comes serial again true (one ∷ []) may = comes now (begun s) opened begins_now serial again one may
+        one_comes serial again true (one ∷ []) may = comes now (begun s) opened begins_now calling_now serial again one may
         one_comes serial again true (one ∷ other ∷ more) may = absurd may
         one_comes serial again false run may = refuses_line (call_no_act event is_call) no_packet
 
@@ -306,7 +320,8 @@ module _ (units ready : ℕ) (start : List Disk) (K : List Moment → Scene → 
     module _ (i : ℕ) (action : Action) (inside : i < length s.world.initiators) where
       acts_by : (x : Option ℕ × Called) → act_step action empty_outbox (initiator_at s.world i) ≡ x → Goes (events.Act i action) (in_scene (acted_by x line i action first) s)
       acts_by (Some number, (outbox, state)) e =
-          plain (events.Act i action) (notes.Refused line number ∷ []) (in_scene (refused line number (with_initiator i state first)) s) (refuses_action i action number (record { inside = inside; is = ap (λ (z : Option ℕ × Called). z.0) e })) refl (tt, tt) (refl, (refl, length-set first.initiators i state))
+          plain (events.Act i action) (notes.Refused line number ∷ []) (in_scene (refused line number (with_initiator i state first)) s) (refuses_action i action number (record { inside = inside; is = ap (λ (z : Option ℕ × Called). z.0) e })) refl (tt, tt)
+          (refl, (refl, set_as_was s.world i state (sym (ap (λ (z : Option ℕ × Called). z.1.1) e) ∙ ap (λ (z : Called). z.1) (refusal_law.unchanged action empty_outbox (initiator_at s.world i) number (ap (λ (z : Option ℕ × Called). z.0) e)))))
       acts_by (None, (outbox, state)) e =
           let v = with_initiator i state first in
           let rest = handed (i + 1) (weight_in action) outbox v in
@@ -361,7 +376,7 @@ module _ (units ready : ℕ) (start : List Disk) (K : List Moment → Scene → 
       pub all_come : (told : List (Option Told)) → MayAll told (begun s) → E (hist (now (more_deliveries most)) (after_all told (begun s)).world) (after_all told (begun s))
       all_come [] may = begins_now (more_deliveries most) is_call (between [] tt)
       all_come (one ∷ told) may =
-          next_comes (now (more_deliveries most)) (after_all told (begun s)) (between told may.1) (all_come told may.1) one may.0 (between (one ∷ told) may)
+          next_comes (now (more_deliveries most)) (after_all told (begun s)) (between told may.1) (all_come told may.1) (calling_now (more_deliveries most) is_call (between [] tt)) one may.0 (between (one ∷ told) may)
 
     -- every line
     module _ (opened : (event : Event) → is_reset event ≡ false → At (now event) (begun s)) (between : (most : Option ℕ) (told : List (Option Told)) → MayAll told (begun s) → At (now (more_deliveries most)) (after_all told (begun s))) where
@@ -371,7 +386,7 @@ module _ (units ready : ℕ) (start : List Disk) (K : List Moment → Scene → 
       goes (events.Act i action) told q may = acts i action q.0
       goes (events.Reset physical) told q may = resets_bus physical
       goes (events.See node) told q may =
-          let e = events.See node in sights (now e) (begun s) (opened e refl) (begins_now e refl (opened e refl)) node q
+          let e = events.See node in sights (now e) (begun s) (opened e refl) (begins_now e refl (opened e refl)) (calling_now e refl (opened e refl)) node q
       goes (events.Deliver serial) told q may =
           let e = events.Deliver serial in one_comes e refl (opened e refl) serial false (is_in_flight serial (begun s).world) told may
       goes (events.Repeat serial) told q may =
@@ -379,12 +394,12 @@ module _ (units ready : ℕ) (start : List Disk) (K : List Moment → Scene → 
       goes (events.Lose serial) told q may = loses_packet serial
       goes (events.Timeout serial) told q may =
           let e = events.Timeout serial in
-          late (now e) (begun s) (opened e refl) (begins_now e refl (opened e refl)) line serial (λ v none stays. refuses_in e refl no_packet v none stays)
+          late (now e) (begun s) (opened e refl) (begins_now e refl (opened e refl)) (calling_now e refl (opened e refl)) line serial (λ v none stays. refuses_in e refl no_packet v none stays)
       goes (events.Step count) told q may = λ there. all_come (Some count) refl (between (Some count)) told may.may
       goes events.Settle told q may =
           let t = after_all told (begun s) in
-          settles (now events.Settle) t (between None told may.may) (all_come None refl (between None) told may.may) (is_settled t.world)
-      goes events.Tick told q may = second (now events.Tick) (begun s) (opened events.Tick refl) (begins_now events.Tick refl (opened events.Tick refl))
+          settles (now events.Settle) t (between None told may.may) (all_come None refl (between None) told may.may) (calling_now events.Settle refl (between None [] tt)) (is_settled t.world)
+      goes events.Tick told q may = let e = events.Tick in second (now e) (begun s) (opened e refl) (begins_now e refl (opened e refl)) (calling_now e refl (opened e refl))
       goes (events.Inject i bytes) told q may = injects_packet i bytes
       goes (events.Key unit key) told q may = sets_a_key unit key
 
@@ -481,13 +496,13 @@ of_every_carried K L begins cases = record {
 -- where nothing is carried
 carried : (units ready : ℕ) (start : List Disk) (L : Turn → Type 0) → Cases units ready start L → CarriedCases units ready start (λ ms s. Unit {0}) L
 carried units ready start L cases = record {
-  heard = λ past s serial again run one found zero_to may others here behind judged k. (cases.heard past s serial again run one found zero_to may others here behind judged, tt);
-  heard_own = λ past s serial again one i found to_is inside own here behind judged k. (cases.heard_own past s serial again one i found to_is inside own here behind judged, tt);
-  late = λ past s serial request done t found node_is e others here behind judged k. (cases.late past s serial request done t found node_is e others here behind judged, tt);
-  late_own = λ past s serial request i outbox state found node_is inside e own here behind judged k. (cases.late_own past s serial request i outbox state found node_is inside e own here behind judged, tt);
-  sees = λ past s others here behind judged k. (cases.sees past s others here behind judged, tt);
-  sees_own = λ past s i inside own here behind judged k. (cases.sees_own past s i inside own here behind judged, tt);
-  ticks = λ past s others here behind judged k. (cases.ticks past s others here behind judged, tt);
+  heard = λ past s serial again run one found zero_to may others here behind noted k. (cases.heard past s serial again run one found zero_to may others here behind noted, tt);
+  heard_own = λ past s serial again one i found to_is inside own here behind noted k. (cases.heard_own past s serial again one i found to_is inside own here behind noted, tt);
+  late = λ past s serial request done t found node_is e others here behind noted k. (cases.late past s serial request done t found node_is e others here behind noted, tt);
+  late_own = λ past s serial request i outbox state found node_is inside e own here behind noted k. (cases.late_own past s serial request i outbox state found node_is inside e own here behind noted, tt);
+  sees = λ past s others here behind noted k. (cases.sees past s others here behind noted, tt);
+  sees_own = λ past s i inside own here behind noted k. (cases.sees_own past s i inside own here behind noted, tt);
+  ticks = λ past s others here behind noted k. (cases.ticks past s others here behind noted, tt);
   ends = λ past s done here behind k. (cases.ends past s done here behind, tt);
   acts = λ past s line i action outbox state inside e own here behind k. (cases.acts past s line i action outbox state inside e own here behind, tt);
   lines = λ past s line event rest behind brings fresh here there stays k. (cases.lines past s line event rest behind brings fresh here there, tt);

@@ -424,7 +424,7 @@ module _ (units ready : ℕ) (has : 0 < units) (start : List Disk) (past : List 
     moved_kept b =
         let now = hist (asked line event ∷ ms) behind.world in
         let c : Base now = subst (λ ns. Base (map said ns ++ asked line event ∷ ms)) (sym fresh) b in
-        subst (λ n. Pending n (terms now) (Pushes start now) behind.world.target.layer behind.world.target.pending) (sym stays.1.1)
+        subst (λ n. Pending n (terms now) (Pushes start now) behind.world.target.layer behind.world.target.pending) (sym (ap (λ xs. length xs) stays.1.1))
         (subst (λ p. Pending nodes (terms now) (Pushes start now) behind.world.target.layer p) (sym stays.1.0)
         (subst (λ l. Pending nodes (terms now) (Pushes start now) l node.pending) (sym stays.0) c))
 

@@ -576,48 +576,48 @@ module _ (units ready : ℕ) (has : 0 < units) (start : List Disk) where
 
   pushes_cases : CarriedCases units ready start (Kept start) (PushesWhereDue start)
   pushes_cases = record {
-    heard = λ past s serial again run one found zero_to may others here behind judged k.
+    heard = λ past s serial again run one found zero_to may others here behind noted k.
         let x = received run one.generation one.bytes (whole_of s.world.target s.media) in
         let v = with_note (judged_note serial x.0) (marked serial again (with_target x.1.node s.world)) in (
           heard_pushes units ready has start past s here k serial again run one found zero_to (record { disks = x.1.disks; faults = faults_after run one s.world.target s.media }) behind others v
-              (λ p. marked_holder serial again (with_target x.1.node s.world) p) may (Names.heard past s serial again run one found zero_to may others here behind judged),
-          (Carries.heard past s serial again run one found zero_to may others here behind judged k).1,
+              (λ p. marked_holder serial again (with_target x.1.node s.world) p) may (Names.heard past s serial again run one found zero_to may others here behind noted),
+          (Carries.heard past s serial again run one found zero_to may others here behind noted k).1,
         );
-    heard_own = λ past s serial again one i found to_is inside own here behind judged k.
+    heard_own = λ past s serial again one i found to_is inside own here behind noted k.
         let x = receive_step one.generation one.bytes empty_outbox (initiator_at s.world i) in (
-          own_pushes (hist past s.world) (said (judged_note serial x.0)) (suc i) 0 x.1.0 _ own (Names.heard_own past s serial again one i found to_is inside own here behind judged),
-          (Carries.heard_own past s serial again one i found to_is inside own here behind judged k).1,
+          own_pushes (hist past s.world) (said (judged_note serial x.0)) (suc i) 0 x.1.0 _ own (Names.heard_own past s serial again one i found to_is inside own here behind noted),
+          (Carries.heard_own past s serial again one i found to_is inside own here behind noted k).1,
         );
-    late = λ past s serial request done t found node_is e others here behind judged k. (
+    late = λ past s serial request done t found node_is e others here behind noted k. (
       still_pushes (hist past s.world) (said (notes.TimedOut serial)) t.outbox _ others
           (subst (λ (x : Result (Unit {0}) Stale × target.Scene). NoPushes x.1.outbox.sides) e (plain_none _ (side_law.expiries request.peer request.label s.world.target)))
-          (Names.late past s serial request done t found node_is e others here behind judged),
-      (Carries.late past s serial request done t found node_is e others here behind judged k).1,
+          (Names.late past s serial request done t found node_is e others here behind noted),
+      (Carries.late past s serial request done t found node_is e others here behind noted k).1,
     );
-    late_own = λ past s serial request i outbox state found node_is inside e own here behind judged k. (
-      own_pushes (hist past s.world) (said (notes.TimedOut serial)) (suc i) 0 outbox _ own (Names.late_own past s serial request i outbox state found node_is inside e own here behind judged),
-      (Carries.late_own past s serial request i outbox state found node_is inside e own here behind judged k).1,
+    late_own = λ past s serial request i outbox state found node_is inside e own here behind noted k. (
+      own_pushes (hist past s.world) (said (notes.TimedOut serial)) (suc i) 0 outbox _ own (Names.late_own past s serial request i outbox state found node_is inside e own here behind noted),
+      (Carries.late_own past s serial request i outbox state found node_is inside e own here behind noted k).1,
     );
-    sees = λ past s others here behind judged k.
+    sees = λ past s others here behind noted k.
         let g = s.world.generations.latest in
         let x = (seen g.generation (id_of g 0) (target.scene s.world.target empty_outbox)).1 in (
           still_pushes (hist past s.world) (said (notes.Seen 0 g.generation)) x.outbox _ others
               (silent_none x.outbox.sides (subst AreSilent (sym (side_law.sights g.generation (id_of g 0) s.world.target)) (sight_silent g.generation s.world.target)))
-              (Names.sees past s others here behind judged),
-          (Carries.sees past s others here behind judged k).1,
+              (Names.sees past s others here behind noted),
+          (Carries.sees past s others here behind noted k).1,
         );
-    sees_own = λ past s i inside own here behind judged k.
+    sees_own = λ past s i inside own here behind noted k.
         let g = s.world.generations.latest in
         let x = see_step g.generation (id_of g (suc i)) (id_of g 0) empty_outbox (initiator_at s.world i) in (
-          own_pushes (hist past s.world) (said (notes.Seen (suc i) g.generation)) (suc i) 0 x.0 _ own (Names.sees_own past s i inside own here behind judged),
-          (Carries.sees_own past s i inside own here behind judged k).1,
+          own_pushes (hist past s.world) (said (notes.Seen (suc i) g.generation)) (suc i) 0 x.0 _ own (Names.sees_own past s i inside own here behind noted),
+          (Carries.sees_own past s i inside own here behind noted k).1,
         );
-    ticks = λ past s others here behind judged k.
+    ticks = λ past s others here behind noted k.
         let x = ticked (target.scene s.world.target empty_outbox) in (
           still_pushes (hist past s.world) (said notes.Tick) x.outbox _ others
               (silent_none x.outbox.sides (subst AreSilent (sym (side_law.seconds s.world.target)) (expired_silent (expired_ids s.world.target.logins.places))))
-              (Names.ticks past s others here behind judged),
-          (Carries.ticks past s others here behind judged k).1,
+              (Names.ticks past s others here behind noted),
+          (Carries.ticks past s others here behind noted k).1,
         );
     ends = λ past s done here behind k. (
       nothing_due start (turn (hist past s.world) (said (end_note done)) []) refl (Names.ends past s done here behind),

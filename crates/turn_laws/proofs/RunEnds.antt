@@ -249,10 +249,10 @@ line_ends start line s past event rest (injects i bytes serial generation from t
 module _ (units ready : ℕ) (has : 0 < units) (start : List Disk) where
   run_cases : Cases units ready start (EndsAsRead start)
   run_cases = record {
-    heard = λ past s serial again run one found zero_to may others here behind judged.
+    heard = λ past s serial again run one found zero_to may others here behind noted.
         let x = received run one.generation one.bytes (whole_of s.world.target s.media) in
         let g = good units ready has start past s here in
-        heard_by units ready has start past s here serial again one found zero_to run x.1.node x.1.outbox x.0 judged (delivery_tells s.world.target g.mid.size g.table.sound one run s.media may) refl;
+        heard_by units ready has start past s here serial again one found zero_to run x.1.node x.1.outbox x.0 noted.judged (delivery_tells s.world.target g.mid.size g.table.sound one run s.media may) refl;
     heard_own = λ past s serial again one i found to_is inside own here behind judged.
         own_ends start (hist past s.world) (said (judged_note serial (receive_step one.generation one.bytes empty_outbox (host_of s.world i)).0)) (suc i) 0 _ _ own;
     late = λ past s serial request done t found node_is e others here behind judged.
