@@ -40,13 +40,13 @@ behind_is (note ∷ rest) old past =
 
 module _ (P : List Disk → List Moment → Type 0) (start : List Disk) where
   -- behind a note that begins a turn, and behind a line
-  noted : (note : Note) (node : ℕ) (outbox : OutboxState) (w v : WorldState) (past : List Moment) → v.fresh ≡ note ∷ w.fresh
+  pub noted : (note : Note) (node : ℕ) (outbox : OutboxState) (w v : WorldState) (past : List Moment) → v.fresh ≡ note ∷ w.fresh
       → P start (hist past (handed_out node 0 outbox v)) → P start (end_of (turn (hist past w) (said note) (handed node 0 outbox v)))
   noted note node outbox w v past fresh p =
       let rest = handed node 0 outbox v in
       subst (P start) (ap (λ ns. map said ns ++ past) (handed_fresh node 0 outbox v ∙ ap (onto rest) fresh) ∙ sym (behind_is rest (note ∷ w.fresh) past)) p
 
-  lined : (line : ℕ) (event : Event) (rest fresh : List Note) (before : List Moment) → fresh ≡ onto rest []
+  pub lined : (line : ℕ) (event : Event) (rest fresh : List Note) (before : List Moment) → fresh ≡ onto rest []
       → P start (map said fresh ++ asked line event ∷ before) → P start (end_of (turn before (asked line event) rest))
   lined line event rest fresh before is p =
       subst (P start) (ap (λ ns. map said ns ++ asked line event ∷ before) is ∙ sym (behind_is rest [] (asked line event ∷ before))) p

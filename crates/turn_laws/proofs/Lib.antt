@@ -175,3 +175,6 @@ pub mod RomLabels
 pub mod RomCalls
 pub mod RomTies
 pub mod RomOthers
+pub mod RomCarried
+pub mod RomPlaces
+pub mod RomRuns

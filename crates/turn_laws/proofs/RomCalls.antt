@@ -1,6 +1,8 @@
 -- The reads of a ROM that an initiator has under way, behind a time-out, a sight and an action.
-use Rattle.std.proofs.Common.{◌≡◌, ◌∙◌, inl, inr, ◌⊎◌, refl, sym, ap, subst, ℕ, suc, ◌==◌, nat_lt, not, Bool, true, false, cond, List, [], ◌∷◌, Option, Some, None, Result, Ok, Err}
+use Rattle.std.proofs.Common.{arith, ◌≡◌, ◌∙◌, inl, inr, ◌⊎◌, refl, sym, ap, subst, ℕ, suc, ◌^◌, ◌<◌, ◌==◌, nat_lt, not, Bool, true, false, cond, List, [], ◌∷◌, Option, Some, None, Result, Ok, Err}
 use Rattle.async_packet.specs.Labels.{LabelParts}
+use Rattle.bus_transactions.specs.Fitting.{IsLayer}
+use Rattle.bus_transactions.proofs.FitSteps.{expires_same, goes}
 use Rattle.label_table.specs.History.{IsFor, Life, Told, and_before, ended, expired, is_same, lets_expire, life, told_by_expiring, under_way, not_begun, over}
 use Rattle.label_table.specs.History as wire
 use Rattle.label_table.specs.Layer.{Layer, expiring_step, seen_in_generation, seeing_step}
@@ -111,9 +113,9 @@ pub data ActRom (s : InitiatorState) (t : Turn) : Type 0 where
   act_quiet : LeavesRom s t → t.0.packets ≡ [] → ActRom s t
   act_other : LeavesRom s t → (asked : Asked) (packet : Outgoing) → t.0.packets ≡ packet ∷ [] → packet.label ≡ Some asked.label → ((n a : ℕ) → RomAt t.1.layer t.1.target n a → n ≡ asked.label.number → ⊥) → ActRom s t
 
-module _ (ready : Bool) (i : ℕ) (s : InitiatorState) (own : IsCalled ready i s) (aims : Aims s.layer s.target) (h : OneRom s) where
+module _ (ready : Bool) (i : ℕ) (s : InitiatorState) (own : IsCalled ready i s) (aims : Aims s.layer s.target) (valid : IsLayer s.layer) (small : s.target < 2 ^ 16) (h : OneRom s) where
   c : Called s.layer
-  c = called_layer ready i s own aims h
+  c = called_layer ready i s own aims valid small h
 
   -- ---- a time-out
   module _ (label : LabelParts) where
@@ -129,6 +131,9 @@ module _ (ready : Bool) (i : ℕ) (s : InitiatorState) (own : IsCalled ready i s
     called_late : Called late_layer
     called_late = record { node = c.node; calls = lets_expire s.target label ∷ c.calls; is = ap (λ (l : Layer Purpose). (expiring_step l s.target label).1) c.is }
 
+    valid_late : IsLayer late_layer
+    valid_late = goes s.layer (lets_expire s.target label) (expires_same s.layer s.target label) valid
+
     back : (n a : ℕ) → RomAt late_layer s.target n a → RomAt s.layer s.target n a
     back n a x = expire_at s.layer s.target label s.target n (Some (purposes.Rom a)) c x
 
@@ -138,7 +143,7 @@ module _ (ready : Bool) (i : ℕ) (s : InitiatorState) (own : IsCalled ready i s
     target : (t : Turn) → late_turn ≡ t → t.1.target ≡ s.target
     target t is = ap (λ (x : Turn). x.1.target) (sym is) ∙ (expire_left label s).target_is
 
-    gone : (purpose : Option Purpose) → found ≡ Ok purpose → (a : ℕ) → purpose ≡ Some (purposes.Rom a) → IsGone ready i s own aims h late_layer a
+    gone : (purpose : Option Purpose) → found ≡ Ok purpose → (a : ℕ) → purpose ≡ Some (purposes.Rom a) → IsGone ready i s own aims valid small h late_layer a
     gone purpose e a f =
         let k = e ∙ ap (λ (q : Option Purpose). Ok q) f in
         record {
@@ -150,7 +155,7 @@ module _ (ready : Bool) (i : ℕ) (s : InitiatorState) (own : IsCalled ready i s
     by_found : (x : Result (Option Purpose) Stale × Layer Purpose) → expiring_step s.layer s.target label ≡ x → late_turn ≡ (expired_as x empty_outbox s).1 → CallRom s (expired_as x empty_outbox s).1
     by_found (Ok purpose, l) e is =
         let f = ap (λ (y : Result (Option Purpose) Stale × Layer Purpose). y.0) e in
-        ended_call ready i s own aims h late_layer called_late (expiring_stays s.layer s.target label) back _ (target _ is) (was _ is) endings.Expired purpose
+        ended_call ready i s own aims valid small h late_layer called_late valid_late (expiring_stays s.layer s.target label) back _ (target _ is) (was _ is) endings.Expired purpose
         (fits_by purpose (subst (λ (y : Result (Option Purpose) Stale). IfExpires y s) f (expires_fit ready i s own label)))
         (λ n a x. forth n a (expire_goes s.layer s.target n (Some (purposes.Rom a)) c x s.target label)) (gone purpose f)
         (ap (λ (y : Layer Purpose). ended_for purpose endings.Expired empty_outbox (called (record s { layer = y }))) (sym (ap (λ (y : Result (Option Purpose) Stale × Layer Purpose). y.1) e)))
@@ -164,7 +169,7 @@ module _ (ready : Bool) (i : ℕ) (s : InitiatorState) (own : IsCalled ready i s
         forth n a (inr y) = inr (subst (λ (z : Result (Option Purpose) Stale). LapsedFor z (Some (purposes.Rom a))) (ap (λ (y : Result (Option Purpose) Stale × Layer Purpose). y.0) e) y)
     by_found (Err stale, l) e is =
         let k = ap (λ (y : Result (Option Purpose) Stale × Layer Purpose). y.1) e in
-        plainly ready i s own aims h late_layer called_late (expiring_stays s.layer s.target label) back _ (target _ is) (was _ is) (ap (λ (y : Layer Purpose). y.peers) (sym k)) (ap (λ (y : Layer Purpose). y.generation) (sym k))
+        plainly ready i s own aims valid small h late_layer called_late valid_late (expiring_stays s.layer s.target label) back _ (target _ is) (was _ is) (ap (λ (y : Layer Purpose). y.peers) (sym k)) (ap (λ (y : Layer Purpose). y.generation) (sym k))
         (λ n a x. forth n a (expire_goes s.layer s.target n (Some (purposes.Rom a)) c x s.target label)) (λ r o m. (o, sends_none refl))
       where
         forth : (n a : ℕ) → RomAt late_layer s.target n a ⊎ LapsedFor found (Some (purposes.Rom a)) → RomAt late_layer s.target n a
@@ -187,7 +192,7 @@ module _ (ready : Bool) (i : ℕ) (s : InitiatorState) (own : IsCalled ready i s
   unfolding done_step
   rom_asked (None, l) step free e = some_none 10 e
   rom_asked (Some asked, l) step free e =
-      next_call s h (asked_as (Some asked, l) actions.Rom empty_outbox s).1 refl s.layer c (λ n a x. (let k = h.runs n a x in none_is k.running (sym free ∙ k.is))) (wanted_body demand.wanted) asked (record { operation = operations.Rom; act = s.counts.acts; managed = None }) refl refl step refl
+      next_call s h (asked_as (Some asked, l) actions.Rom empty_outbox s).1 refl small s.layer valid c (λ n a x. (let k = h.runs n a x in none_is k.running (sym free ∙ k.is))) (wanted_body demand.wanted) asked (record { operation = operations.Rom; act = s.counts.acts; managed = None }) (omega arith) refl refl step refl
 
   rom_judged : (refused : Option ℕ) → s.operation ≡ None → (judged_as refused actions.Rom empty_outbox s).0 ≡ None → CallRom s (judged_as refused actions.Rom empty_outbox s).1
   rom_judged (Some number) free e = some_none number e

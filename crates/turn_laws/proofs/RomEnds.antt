@@ -1,6 +1,7 @@
 -- What the end of a transaction leaves of an initiator's layer, of its packets and of an operation that it is not of; and what that of a read of a ROM does: the operation ends, or the next
 -- quadlet is asked for.
-use Rattle.std.proofs.Common.{◌≡◌, ◌∙◌, refl, sym, ap, ℕ, ◌==◌, Bool, true, false, cond, [], ◌∷◌, ◌++◌, length, Option, Some, None, Result, Ok, Err}
+use Rattle.std.proofs.Common.{arith, ◌≡◌, ◌∙◌, refl, sym, ap, ℕ, ◌==◌, Bool, true, false, cond, [], ◌∷◌, ◌++◌, length, Option, Some, None, Result, Ok, Err}
+use Rattle.bus_transactions.specs.Fitting.{FitsRequest}
 use Rattle.config_rom.specs.Reading.{Tree, reading}
 use Rattle.config_rom.specs.Unit.{sbp_unit_of}
 use Rattle.config_rom.specs.declared.fault.RomFault.{RomFault}
@@ -172,7 +173,7 @@ module _ (r : Running) (Other : Type 0) where
 -- ---- a read of a ROM of the operation
 pub data RomGoes (o : OutboxState) (u : InitiatorState) (act : ℕ) (t : Turn) : Type 0 where
   ends : t.1.operation ≡ None → t.0.packets ≡ o.packets → t.1.layer ≡ u.layer → RomGoes o u act t
-  goes_on : (body : Body) (asked : Asked) → asking_step u.layer u.target body (purposes.Rom act) ≡ (Some asked, t.1.layer) → t.0.packets ≡ o.packets ++ outgoing u.target asked ∷ [] → t.1.operation ≡ u.operation → RomGoes o u act t
+  goes_on : (body : Body) (asked : Asked) → FitsRequest body → asking_step u.layer u.target body (purposes.Rom act) ≡ (Some asked, t.1.layer) → t.0.packets ≡ o.packets ++ outgoing u.target asked ∷ [] → t.1.operation ≡ u.operation → RomGoes o u act t
 
 module _ (r : Running) where
   abbrev Over : OutboxState → InitiatorState → Turn → Type 0
@@ -198,9 +199,9 @@ module _ (r : Running) where
     roms (Ok tree) v l op = units (sbp_unit_of tree.blocks tree.entries) v l op
     roms (Err fault) v l op = over (words.Bad (fault_number fault)) v l op
 
-    asks : (x : Option Asked × Layer Purpose) (body : Body) (v : InitiatorState) → asking_step u.layer u.target body (purposes.Rom r.act) ≡ x → v.target ≡ u.target → v.operation ≡ u.operation → RomGoes o u r.act (asked_quad x r.act o v)
-    asks (Some asked, layer) body v f g op = goes_on body asked f (ap (λ n. o.packets ++ outgoing n asked ∷ []) g) op
-    asks (None, layer) body v f g op = over words.Error (record v { layer = layer }) (none_asked u.layer layer u.target body (purposes.Rom r.act) (sym f)) op
+    asks : (x : Option Asked × Layer Purpose) (body : Body) (v : InitiatorState) → FitsRequest body → asking_step u.layer u.target body (purposes.Rom r.act) ≡ x → v.target ≡ u.target → v.operation ≡ u.operation → RomGoes o u r.act (asked_quad x r.act o v)
+    asks (Some asked, layer) body v fits f g op = goes_on body asked fits f (ap (λ n. o.packets ++ outgoing n asked ∷ []) g) op
+    asks (None, layer) body v fits f g op = over words.Error (record v { layer = layer }) (none_asked u.layer layer u.target body (purposes.Rom r.act) (sym f)) op
 
     pick_goes : (b : Bool) (x y : Turn) → RomGoes o u r.act x → RomGoes o u r.act y → RomGoes o u r.act (cond b x y)
     pick_goes true x y h i = h
@@ -210,6 +211,6 @@ module _ (r : Running) where
     unfolding ended_step
     rom_goes (endings.Complete value) =
         let v = record u { quads = with_quad u.quads value } in
-        pick_goes (length v.quads == 256) (finish_rom r.act o v) (ask_quad r.act o v) (roms (reading v.quads) v refl refl) (asks (asking_step v.layer v.target (next_quad v.quads) (purposes.Rom r.act)) (next_quad v.quads) v refl refl refl)
+        pick_goes (length v.quads == 256) (finish_rom r.act o v) (ask_quad r.act o v) (roms (reading v.quads) v refl refl) (asks (asking_step v.layer v.target (next_quad v.quads) (purposes.Rom r.act)) (next_quad v.quads) v (omega arith) refl refl refl)
     rom_goes (endings.Refused rcode) = pick_goes (is_address rcode) (finish_rom r.act o u) (end_own_step r.act words.Error o u) (roms (reading u.quads) u refl refl) (over words.Error u refl refl)
     rom_goes endings.Expired = over words.Error u refl refl

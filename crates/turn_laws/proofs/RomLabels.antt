@@ -1,9 +1,12 @@
 -- The reads of a ROM that an initiator has under way: none where no `rom` operation is, and one under one label while one is. So it is behind each of its calls, and a call that goes on with a
 -- ROM, or begins one, sends the request of the label alone.
-use Rattle.std.proofs.Common.{◌≡◌, ◌∙◌, inl, inr, ◌⊎◌, refl, sym, ap, subst, ℕ, ◌+◌, is_some, Bool, true, false, List, [], ◌∷◌, Option, Some, None}
+use Rattle.std.proofs.Common.{◌≡◌, ◌∙◌, inl, inr, ◌⊎◌, refl, sym, ap, subst, ℕ, ◌+◌, ◌^◌, ◌<◌, is_some, Bool, true, false, List, [], ◌∷◌, Option, Some, None}
 use Rattle.async_packet.specs.Labels.{LabelParts}
 use Rattle.async_packet.specs.Packet.{Packet, header_in}
 use Rattle.async_packet.specs.Canon.{canon}
+use Rattle.bus_transactions.specs.Fitting.{FitsRequest, IsLayer}
+use Rattle.bus_transactions.proofs.FitSteps.{goes, judges_same}
+use Rattle.bus_transactions.proofs.Fits.{request_fits}
 use Rattle.label_table.specs.Bodies.{Body, response_to}
 use Rattle.label_table.specs.History.{ended, over}
 use Rattle.label_table.specs.History as wire
@@ -30,6 +33,7 @@ use Rattle.sbp_journal.specs.declared.outbox.Outgoing.{Outgoing}
 use Rattle.sbp_world.specs.Hosts.Calling.{IsCalled}
 use Rattle.sbp_world.proofs.Common.{none_is, untrue}
 use Rattle.sbp_world.proofs.Hosts.Aimed.{Aims}
+use Rattle.sbp_world.proofs.Hosts.Asked.{IfRequest, IsRequest, is_request}
 use Rattle.sbp_world.proofs.Hosts.Hosted.{hears_fit}
 use Rattle.sbp_world.proofs.Hosts.KnowHears.{IfFits}
 use Rattle.sbp_world.proofs.Hosts.Layered.{receive_left}
@@ -71,7 +75,7 @@ pub data IsQuiet (t : Turn) : Type 0 where
 -- It leaves the labels; or its one packet asks for a quadlet, under the one label of a ROM.
 pub data CallRom (s : InitiatorState) (t : Turn) : Type 0 where
   stays : ((n a : ℕ) → RomAt t.1.layer t.1.target n a → RomAt s.layer s.target n a) → t.1.layer.generation ≡ s.layer.generation → ((r : Running) → t.1.operation ≡ Some r → r.operation ≡ operations.Rom → s.operation ≡ Some r) → ((r : Running) → s.operation ≡ Some r → r.operation ≡ operations.Rom → IsQuiet t) → OneRom t.1 → CallRom s t
-  reads : (asked : Asked) (a : ℕ) → t.0.packets ≡ outgoing s.target asked ∷ [] → RomAt t.1.layer t.1.target asked.label.number a → ((n b : ℕ) → RomAt t.1.layer t.1.target n b → n ≡ asked.label.number) → OneRom t.1 → CallRom s t
+  reads : (asked : Asked) (a : ℕ) → t.0.packets ≡ outgoing s.target asked ∷ [] → IsRequest asked.label.number asked.bytes → RomAt t.1.layer t.1.target asked.label.number a → ((n b : ℕ) → RomAt t.1.layer t.1.target n b → n ≡ asked.label.number) → OneRom t.1 → CallRom s t
 
 same_purpose : (a b : ℕ) → Some (purposes.Rom a) ≡ Some (purposes.Rom b) → a ≡ b
 same_purpose a b e = cc
@@ -117,8 +121,8 @@ module _ (s : InitiatorState) (h : OneRom s) (t : Turn) (target_is : t.1.target 
       (record { runs = λ n a x. absurd (never n a x); one = λ n a m b x y. absurd (never n a x); has = λ r e k. none_is r (sym ended ∙ e) })
 
   -- where one is asked for behind that
-  pub next_call : (l : Layer Purpose) → Called l → ((n a : ℕ) → RomAt l s.target n a → ⊥) → (body : Body) (asked : Asked) (r : Running) → t.1.operation ≡ Some r → r.operation ≡ operations.Rom → asking_step l s.target body (purposes.Rom r.act) ≡ (Some asked, t.1.layer) → t.0.packets ≡ outgoing s.target asked ∷ [] → CallRom s t
-  next_call l c none body asked r is kind step sent = reads asked r.act sent begins only (record {
+  pub next_call : s.target < 2 ^ 16 → (l : Layer Purpose) → IsLayer l → Called l → ((n a : ℕ) → RomAt l s.target n a → ⊥) → (body : Body) (asked : Asked) (r : Running) → FitsRequest body → t.1.operation ≡ Some r → r.operation ≡ operations.Rom → asking_step l s.target body (purposes.Rom r.act) ≡ (Some asked, t.1.layer) → t.0.packets ≡ outgoing s.target asked ∷ [] → CallRom s t
+  next_call small l valid c none body asked r fits is kind step sent = reads asked r.act sent asks begins only (record {
     runs = λ n a x. record { running = r; is = is; kind = kind; act = sym (rom_is n a x) };
     one = λ n a m b x y. only n a x ∙ sym (only m b y);
     has = λ q e k. record { number = asked.label.number; at = subst (λ (y : Running). RomAt t.1.layer t.1.target asked.label.number y.act) (same_some r q (sym is ∙ e)) begins };
@@ -126,6 +130,9 @@ module _ (s : InitiatorState) (h : OneRom s) (t : Turn) (target_is : t.1.target 
     where
       same_some : (x y : Running) → Some x ≡ Some y → x ≡ y
       same_some x y e = cc
+
+      asks : IsRequest asked.label.number asked.bytes
+      asks = subst IfRequest (ap (λ (x : Option Asked × Layer Purpose). x.0) step) (is_request l s.target body (purposes.Rom r.act) valid (request_fits l.node s.target body valid.small small fits))
 
       begins : RomAt t.1.layer t.1.target asked.label.number r.act
       begins = subst (λ p. RomAt t.1.layer p asked.label.number r.act) (sym target_is) (ask_begins l s.target body (purposes.Rom r.act) asked t.1.layer c step)
@@ -155,7 +162,7 @@ was_by s u Why left r e = by left.operation
     by (inl f) = sym f ∙ e
     by (inr f) = none_is r (sym f.none ∙ e)
 
-module _ (ready : Bool) (i : ℕ) (s : InitiatorState) (own : IsCalled ready i s) (aims : Aims s.layer s.target) (h : OneRom s) where
+module _ (ready : Bool) (i : ℕ) (s : InitiatorState) (own : IsCalled ready i s) (aims : Aims s.layer s.target) (valid : IsLayer s.layer) (small : s.target < 2 ^ 16) (h : OneRom s) where
   pub called_layer : Called s.layer
   called_layer = (let k = (sound i ready own.calls).wires in record { node = 0xffc1 + i; calls = k.calls; is = k.layer_is ∙ ap (λ (x : InitiatorState). x.layer) own.is })
 
@@ -172,7 +179,7 @@ module _ (ready : Bool) (i : ℕ) (s : InitiatorState) (own : IsCalled ready i s
     pub at : RomAt s.layer s.target number a
     pub none : (b : ℕ) → RomAt J s.target number b → ⊥
 
-  module _ (J : Layer Purpose) (called_J : Called J) (generation_is : J.generation ≡ s.layer.generation) (back : (n a : ℕ) → RomAt J s.target n a → RomAt s.layer s.target n a) where
+  module _ (J : Layer Purpose) (called_J : Called J) (valid_J : IsLayer J) (generation_is : J.generation ≡ s.layer.generation) (back : (n a : ℕ) → RomAt J s.target n a → RomAt s.layer s.target n a) where
     abbrev here : InitiatorState
     here = record s { layer = J }
 
@@ -202,7 +209,7 @@ module _ (ready : Bool) (i : ℕ) (s : InitiatorState) (own : IsCalled ready i s
             by : RomGoes empty_outbox (called here) k.running.act t → CallRom s t
             by (ends ended_is sent layer) =
                 over_call s h t target_is (λ n b x. none_left n b (subst (λ (l : Layer Purpose). RomAt l s.target n b) layer x)) (ap (λ (l : Layer Purpose). l.generation) layer ∙ generation_is) ended_is sent
-            by (goes_on body asked step sent same) = next_call s h t target_is J called_J none_left body asked k.running (same ∙ k.is) k.kind step sent
+            by (goes_on body asked fits step sent same) = next_call s h t target_is small J valid_J called_J none_left body asked k.running fits (same ∙ k.is) k.kind step sent
 
         -- one for something else
         other_call : (purpose : Purpose) → is_plain purpose ≡ true → Fits purpose s.operation → ((n a : ℕ) → RomAt s.layer s.target n a → RomAt J s.target n a) → t ≡ By purpose → CallRom s t
@@ -247,6 +254,9 @@ module _ (ready : Bool) (i : ℕ) (s : InitiatorState) (own : IsCalled ready i s
     called_heard : Called heard_layer
     called_heard = let c = called_layer in record { node = c.node; calls = wire.judges generation bytes ∷ c.calls; is = ap (λ (l : Layer Purpose). (judging_step l generation bytes).1) c.is }
 
+    valid_heard : IsLayer heard_layer
+    valid_heard = goes s.layer (wire.judges generation bytes) (judges_same s.layer generation bytes) valid
+
     back_heard : (n a : ℕ) → RomAt heard_layer s.target n a → RomAt s.layer s.target n a
     back_heard n a x = judge_at s.layer generation bytes s.target n (Some (purposes.Rom a)) called_layer x
 
@@ -259,7 +269,7 @@ module _ (ready : Bool) (i : ℕ) (s : InitiatorState) (own : IsCalled ready i s
     -- where it is no response
     quietly : ((a : ℕ) → ClosedFor finding (Some (purposes.Rom a)) → ⊥) → (t : Turn) → heard_turn ≡ t → t.1.layer.peers ≡ heard_layer.peers → t.1.layer.generation ≡ heard_layer.generation → ((r : Running) → s.operation ≡ Some r → r.operation ≡ operations.Rom → (t.1.operation ≡ Some r) × IsQuiet t) → CallRom s t
     quietly none t is peers g rom =
-        plainly heard_layer called_heard (judging_stays s.layer generation bytes) back_heard t (ap (λ (x : Turn). x.1.target) (sym is) ∙ heard_target) (λ r e k. was_heard r (ap (λ (x : Turn). x.1.operation) is ∙ e)) peers g
+        plainly heard_layer called_heard valid_heard (judging_stays s.layer generation bytes) back_heard t (ap (λ (x : Turn). x.1.target) (sym is) ∙ heard_target) (λ r e k. was_heard r (ap (λ (x : Turn). x.1.operation) is ∙ e)) peers g
         (λ n a x. forth n a (judge_goes s.layer s.target n (Some (purposes.Rom a)) called_layer x generation bytes)) rom
       where
         forth : (n a : ℕ) → RomAt heard_layer s.target n a ⊎ ClosedFor finding (Some (purposes.Rom a)) → RomAt heard_layer s.target n a
@@ -280,7 +290,7 @@ module _ (ready : Bool) (i : ℕ) (s : InitiatorState) (own : IsCalled ready i s
 
     responded : (p : Packet) (label : LabelParts) (purpose : Option Purpose) → finding ≡ of_response p label purpose → (t : Turn) → heard_turn ≡ t → t ≡ ended_for purpose (ending_of p) empty_outbox (called (record s { layer = heard_layer })) → CallRom s t
     responded p label purpose e t is e2 =
-        ended_call heard_layer called_heard (judging_stays s.layer generation bytes) back_heard t (ap (λ (x : Turn). x.1.target) (sym is) ∙ heard_target) (λ r o k. was_heard r (ap (λ (x : Turn). x.1.operation) is ∙ o)) (ending_of p) purpose
+        ended_call heard_layer called_heard valid_heard (judging_stays s.layer generation bytes) back_heard t (ap (λ (x : Turn). x.1.target) (sym is) ∙ heard_target) (λ r o k. was_heard r (ap (λ (x : Turn). x.1.operation) is ∙ o)) (ending_of p) purpose
         (fits_by purpose (subst (λ (y : Finding Purpose). IfFits y s) e (hears_fit ready i s own generation bytes)))
         (λ n a x. forth n a (judge_goes s.layer s.target n (Some (purposes.Rom a)) called_layer x generation bytes))
         (closed p label purpose e) e2

@@ -31,6 +31,7 @@ use Rattle.sbp_world.proofs.Formed.{AreOwn, IsNoRun}
 use Rattle.sbp_world.proofs.Hosts.Asked.{IsRequest, number_in}
 use Rattle.sbp_world.proofs.Hosts.Carries.{IsNoAct}
 use Rattle.sbp_world.proofs.Hosts.Cores.{wire_is}
+use Rattle.sbp_world.proofs.Hosts.Requested.{AreRequests}
 use Rattle.turn_laws.proofs.Handed.{handed, notes_sent, notes_told, onto, onto_both, packet_note}
 use Rattle.turn_laws.proofs.RomCalls.{ActRom, LeavesRom, act_other, act_quiet}
 use Rattle.turn_laws.proofs.RomLabels.{CallRom, IsQuiet, OneRom, RomAt, reads, sends_none, sends_reply, stays}
@@ -163,7 +164,7 @@ module _ (past : List Moment) (i : ℕ) (s : InitiatorState) (t : Turn) (weight 
           (keeps_then i base mid _ keeps_mid (keeps_reply i (V.store.last + 1) (topology_at V.generations (suc i)).generation n bytes mid reply))
 
   -- a request that it sends at the end
-  module _ (there : node_of V.generations (suc i) s.target ≡ Some 0) (honest : (terms mid).injected (V.store.last + 1) ≡ false) (generation_is : (topology_at V.generations (suc i)).generation ≡ t.1.layer.generation) (is_request : (p : Outgoing) → t.0.packets ≡ p ∷ [] → (p.to ≡ s.target) × IsRequest (number_in p.label) p.bytes) (h : RomOf base i s) where
+  module _ (there : node_of V.generations (suc i) s.target ≡ Some 0) (honest : (terms mid).injected (V.store.last + 1) ≡ false) (generation_is : (topology_at V.generations (suc i)).generation ≡ t.1.layer.generation) (h : RomOf base i s) where
     abbrev serial : ℕ
     serial = V.store.last + 1
 
@@ -173,7 +174,7 @@ module _ (past : List Moment) (i : ℕ) (s : InitiatorState) (t : Turn) (weight 
     abbrev own_of : ℕ → Transaction
     own_of n = transaction t.1.layer.generation (suc i) 0 n
 
-    module _ (p : Outgoing) (sent : t.0.packets ≡ p ∷ []) where
+    module _ (p : Outgoing) (sent : t.0.packets ≡ p ∷ []) (to_is : p.to ≡ s.target) (q : IsRequest (number_in p.label) p.bytes) where
       abbrev packet : Sending
       packet = record { generation = generation; from = suc i; to = 0; bytes = p.bytes; injected = (terms mid).injected serial }
 
@@ -183,11 +184,8 @@ module _ (past : List Moment) (i : ℕ) (s : InitiatorState) (t : Turn) (weight 
       abbrev behind_it : List Moment
       behind_it = said (notes.Sent serial generation (suc i) 0 p.bytes) ∷ mid
 
-      abbrev q : IsRequest label p.bytes
-      q = (is_request p sent).1
-
       is : now ≡ behind_it
-      is = one_now p sent (Some 0) (ap (node_of V.generations (suc i)) (is_request p sent).0 ∙ there)
+      is = one_now p sent (Some 0) (ap (node_of V.generations (suc i)) to_is ∙ there)
 
       begins : begun_by packet ≡ Some (own_of label)
       begins =
@@ -225,32 +223,31 @@ module _ (past : List Moment) (i : ℕ) (s : InitiatorState) (t : Turn) (weight 
       one = one;
       tie = λ n a x u e. (let k = one.runs n a x in rom_stays base now i s t.1 (quiet_keeps (quiet k.running (was k.running k.is k.kind) k.kind)) back g h n a x u e);
     }
-    own_ties line (reads asked a sent at only one) =
+    own_ties line (reads asked a sent k at only one) =
         let p = outgoing s.target asked in
-        let k = (is_request p sent).1 in
         record {
           one = one;
-          tie = λ n b x u e. latest_tie p sent (asked_latest i serial generation 0 asked.label.number k.kind asked.bytes mid k.part honest line) n (only n b x) u e;
+          tie = λ n b x u e. latest_tie p sent refl k (asked_latest i serial generation 0 asked.label.number k.kind asked.bytes mid k.part honest line) n (only n b x) u e;
         }
 
     module _ (action : Action) (line : event_of mid ≡ Some (events.Act i action)) where
       -- in one that begins no ROM
-      pub act_ties : ((r : Running) → s.operation ≡ Some r → operation_of action ≡ None) → ActRom s t → RomOf now i t.1
-      act_ties free (act_quiet l e) = record { one = l.one; tie = rom_stays base now i s t.1 (quiet_keeps (sends_none e)) l.back l.generation h }
-      act_ties free (act_other l asked p e label_is other) =
-          let k = (is_request p e).1 in
+      pub act_ties : ((r : Running) → s.operation ≡ Some r → operation_of action ≡ None) → AreRequests s.target t.0.packets → ActRom s t → RomOf now i t.1
+      act_ties free asks (act_quiet l e) = record { one = l.one; tie = rom_stays base now i s t.1 (quiet_keeps (sends_none e)) l.back l.generation h }
+      act_ties free asks (act_other l asked p e label_is other) =
+          let r : AreRequests s.target (p ∷ []) = subst (AreRequests s.target) e asks in
+          let k = r.1 in
           record {
             one = l.one;
-            tie = λ n a x u f. (let r = l.one.runs n a x in other_tie p e l (act_stays action mid i serial generation 0 (number_in p.label) k.kind p.bytes k.part line (free r.running (l.was r.running r.is r.kind))) n a x (λ z. other n a x (z ∙ ap number_in label_is)) u f);
+            tie = λ n a x u f. (let c = l.one.runs n a x in other_tie p e r.0 k l (act_stays action mid i serial generation 0 (number_in p.label) k.kind p.bytes k.part line (free c.running (l.was c.running c.is c.kind))) n a x (λ z. other n a x (z ∙ ap number_in label_is)) u f);
           }
 
       -- and in one that does
       pub rom_ties : action ≡ actions.Rom → CallRom s t → ((r : Running) → s.operation ≡ Some r → ⊥) → RomOf now i t.1
       rom_ties rom (stays back g was quiet one) none = record { one = one; tie = λ n a x u e. (let k = one.runs n a x in absurd (none k.running (was k.running k.is k.kind))) }
-      rom_ties rom (reads asked a sent at only one) none =
+      rom_ties rom (reads asked a sent k at only one) none =
           let p = outgoing s.target asked in
-          let k = (is_request p sent).1 in
           record {
             one = one;
-            tie = λ n b x u e. latest_tie p sent (act_latest action mid i serial generation 0 asked.label.number k.kind asked.bytes k.part line rom honest) n (only n b x) u e;
+            tie = λ n b x u e. latest_tie p sent refl k (act_latest action mid i serial generation 0 asked.label.number k.kind asked.bytes k.part line rom honest) n (only n b x) u e;
           }

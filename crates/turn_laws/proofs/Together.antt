@@ -18,11 +18,11 @@ use Rattle.turn_laws.proofs.LoginRuns.{login_run_law}
 use Rattle.turn_laws.proofs.Pushes.{pushes_law}
 use Rattle.turn_laws.proofs.Once.{once_law}
 use Rattle.turn_laws.proofs.OrderRuns.{ordered_law}
+use Rattle.turn_laws.proofs.RomRuns.{after_law}
 use Rattle.turn_laws.proofs.RunEnds.{runs_end_law}
 use Rattle.turn_laws.proofs.SentPackets.{packets_run_law}
 use Rattle.turn_laws.proofs.Silent.{silent_law}
 use Rattle.turn_laws.proofs.Statuses.{statuses_law}
-use Rattle.turn_laws.proofs.TargetWaits.{target_waits_law}
 use Rattle.turn_laws.proofs.Unserved.{unserved_law}
 
 pub turns_law : TurnsLaw
@@ -38,7 +38,7 @@ turns_law = record {
     packets = packets_run_law.after_lines line run is some most size;
     answers = answered_law.after_lines line run is some most size;
     statuses = statuses_law.after_lines line run is some most size;
-    waits = target_waits_law.after_lines line run is some most size;
+    after = after_law.after_lines line run is some most size;
     ends = ends_law.after_lines line run is some most size;
     once = once_law.after_lines line run is some most size;
     deaths = deaths_law.after_lines line run is some most size;
@@ -64,7 +64,7 @@ turns_law = record {
     packets = packets_run_law.between line run is some most size next deliveries told may;
     answers = answered_law.between line run is some most size next deliveries told may;
     statuses = statuses_law.between line run is some most size next deliveries told may;
-    waits = target_waits_law.between line run is some most size next deliveries told may;
+    after = after_law.between line run is some most size next deliveries told may;
     ends = ends_law.between line run is some most size next deliveries told may;
     once = once_law.between line run is some most size next deliveries told may;
     deaths = deaths_law.between line run is some most size next deliveries told may;

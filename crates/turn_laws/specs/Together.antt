@@ -9,7 +9,7 @@ use Rattle.sbp_laws.specs.Decided.{DecisionStands}
 use Rattle.sbp_laws.specs.JudgementLaw.{JudgementLaw}
 use Rattle.sbp_laws.specs.LoginLaw.{LoginLaw}
 use Rattle.sbp_laws.specs.SentAnswers.{AnswersLaw}
-use Rattle.sbp_laws.specs.SentLaw.{end_of}
+use Rattle.sbp_laws.specs.SentLaw.{AfterTurn}
 use Rattle.sbp_laws.specs.SentPackets.{SentAt}
 use Rattle.sbp_laws.specs.SentWrites.{StatusesAreSent}
 use Rattle.sbp_laws.specs.Turns.{EachMoment, EachTurn}
@@ -27,7 +27,6 @@ use Rattle.turn_laws.specs.Once.{DiesOnce}
 use Rattle.turn_laws.specs.Pushes.{PushesWhereDue}
 use Rattle.turn_laws.specs.Runs.{OfEveryRun}
 use Rattle.turn_laws.specs.Silent.{EndsHeard}
-use Rattle.turn_laws.specs.UnderWay.{TargetWaits}
 use Rattle.turn_laws.specs.Unserved.{UnservedWhereTold}
 
 pub record LawfulInTurns (start : List Disk) (past : List Moment) : Type 0 where
@@ -41,7 +40,7 @@ pub record LawfulInTurns (start : List Disk) (past : List Moment) : Type 0 where
   pub packets : EachMoment SentAt past
   pub answers : EachTurn (AnswersLaw start) past
   pub statuses : EachTurn (StatusesAreSent start) past
-  pub waits : EachTurn (λ t. TargetWaits start (end_of t)) past
+  pub after : EachTurn (AfterTurn start) past
   pub ends : EachTurn (EndsWhereDue start) past
   pub once : EachTurn (DiesOnce start) past
   pub deaths : EachTurn (DiesByRows start) past

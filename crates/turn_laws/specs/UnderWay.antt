@@ -5,7 +5,8 @@ use Rattle.std.specs.Prelude.{List}
 use Rattle.rbc_disk.specs.Disk.{Disk}
 use Rattle.sbp_journal.specs.Run.{Moment}
 use Rattle.sbp_journal.specs.Wire.{terms}
-use Rattle.sbp_laws.specs.SentLaw.{AgentsRun, ManagerRuns, end_of}
+use Rattle.sbp_laws.specs.Budget.{initiators}
+use Rattle.sbp_laws.specs.SentLaw.{AfterTurn, AgentsRun, ManagerRuns, RomsRun, end_of}
 use Rattle.sbp_laws.specs.Targets.{over, target_at}
 use Rattle.sbp_laws.specs.Turns.{EachTurn}
 use Rattle.turn_laws.specs.Runs.{OfEveryRun}
@@ -16,3 +17,14 @@ pub record TargetWaits (start : List Disk) (past : List Moment) : Type 0 where
 
 abbrev pub TargetWaitsLaw : Type 0
 TargetWaitsLaw = OfEveryRun (λ start past. EachTurn (λ t. TargetWaits start (end_of t)) past)
+
+-- a `rom` operation of each initiator has its latest read under way: it is `roms` of what the sent law asks behind each turn
+abbrev pub RomsWait : List Moment → Type 0
+RomsWait past = RomsRun past (initiators past)
+
+abbrev pub RomsWaitLaw : Type 0
+RomsWaitLaw = OfEveryRun (λ start past. EachTurn (λ t. RomsWait (end_of t)) past)
+
+-- both: all that the sent law asks behind each turn
+abbrev pub AfterLaw : Type 0
+AfterLaw = OfEveryRun (λ start past. EachTurn (AfterTurn start) past)

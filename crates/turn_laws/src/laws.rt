@@ -25,7 +25,7 @@ ghost use Rattle.turn_laws.specs.RunsEnd.{RunsEndLaw};
 ghost use Rattle.turn_laws.specs.Pushes.{PushesLaw};
 ghost use Rattle.turn_laws.specs.Silent.{SilentLaw};
 ghost use Rattle.turn_laws.specs.Statuses.{StatusesLaw};
-ghost use Rattle.turn_laws.specs.UnderWay.{TargetWaitsLaw};
+ghost use Rattle.turn_laws.specs.UnderWay.{AfterLaw, RomsWaitLaw, TargetWaitsLaw};
 ghost use Rattle.turn_laws.specs.Unserved.{UnservedLaw};
 
 /// In each turn of every run exactly the units are cleared that the decision of the turn resets, whatever
@@ -226,6 +226,20 @@ pub fn statuses_and_resets_end_operations()
 #[tactic(auto, using(crate::proofs::TargetWaits::target_waits_law))]
 pub fn what_is_active_waits_for_a_request()
     ensures { TargetWaitsLaw }
+{}
+
+/// Behind each turn of every run, whatever anybody injected, a `rom` operation of an initiator has the latest of its
+/// reads under way: `roms` of what the sent law asks behind each turn.
+#[tactic(auto, using(crate::proofs::RomRuns::roms_wait_law))]
+pub fn rom_operations_wait_for_a_read()
+    ensures { RomsWaitLaw }
+{}
+
+/// Behind each turn of every run, whatever anybody injected, all stands under way that the sent law asks for there:
+/// what ACTIVE agents, the management and `rom` operations wait for: `after` of the sent law.
+#[tactic(auto, using(crate::proofs::RomRuns::after_law))]
+pub fn what_runs_is_under_way_behind_turns()
+    ensures { AfterLaw }
 {}
 
 /// In every run, whatever anybody injected, a command that runs ends by the ORB that was read: by the check that

@@ -59,14 +59,14 @@ use Rattle.sbp_world.proofs.Common.{untrue}
 use Rattle.sbp_world.proofs.Hosts.Hands.{line_stays as line_same}
 
 -- the next packet was not injected
-fresh : {past : List Moment} (w : WorldState) → Stands past w → (terms (history w past)).injected (w.store.last + 1) ≡ false
+pub fresh : {past : List Moment} (w : WorldState) → Stands past w → (terms (history w past)).injected (w.store.last + 1) ≡ false
 fresh w h =
     let k = holds h.wire h.reached in
     let counted : w.store.last ≡ (terms h.wire.past).count = ap (λ (st : Stored). st.last) (sym h.is.store_is) ∙ last_is k.follows in
     ap (λ ms. (terms ms).injected (w.store.last + 1)) (sym h.is.past_is) ∙ (k.facts.unsent (w.store.last + 1) (omega arith)).honest
 
 -- what an action asks for is a request
-own_request : {past : List Moment} {lines : ℕ} (w : WorldState) (i : ℕ) → i < length w.initiators → lines + 1 < 2 ^ 32 → Sound past lines w → (action : Action) (d : Demand) → demand_of action (initiator_at w i) ≡ Some d → IfRequest (asked_for d (initiator_at w i)).0
+pub own_request : {past : List Moment} {lines : ℕ} (w : WorldState) (i : ℕ) → i < length w.initiators → lines + 1 < 2 ^ 32 → Sound past lines w → (action : Action) (d : Demand) → demand_of action (initiator_at w i) ≡ Some d → IfRequest (asked_for d (initiator_at w i)).0
 own_request w i inside few sound action d e =
     let s = initiator_at w i in
     let h = sound.nodes.own.holds i inside in
