@@ -40,7 +40,7 @@ behind_is (note ∷ rest) old past =
 
 module _ (P : List Disk → List Moment → Type 0) (start : List Disk) where
   -- behind a note that begins a turn, and behind a line
-  noted : (note : Note) (node : ℕ) (outbox : OutboxState) (w v : WorldState) (past : List Moment) → v.fresh ≡ note ∷ w.fresh
+  pub noted : (note : Note) (node : ℕ) (outbox : OutboxState) (w v : WorldState) (past : List Moment) → v.fresh ≡ note ∷ w.fresh
       → P start (hist past (handed_out node 0 outbox v)) → P start (end_of (turn (hist past w) (said note) (handed node 0 outbox v)))
   noted note node outbox w v past fresh p =
       let rest = handed node 0 outbox v in

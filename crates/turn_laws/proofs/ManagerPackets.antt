@@ -1,10 +1,11 @@
--- The packets of a call of the management operation (NCITS 325-1998, management agent): one request, to the node of the operation, where it asks for something and that finds a label. A decision, a failure and a lost request send nothing.
+-- The packets of a call of the management operation (NCITS 325-1998, management agent): one request, to the node of the operation, where it asks for something and that finds a label. A decision, a failure and a lost request send nothing. And the logins behind it.
 use Rattle.std.proofs.Common.{◌≡◌, ◌∙◌, refl, sym, ap, ℕ, List, [], ◌++◌, append-nil, Option, Some, None}
 use Rattle.label_table.specs.Bodies.{Body}
 use Rattle.label_table.specs.declared.judgement.Asked.{Asked}
 use Rattle.label_table.specs.Layer.{Layer, asking_step}
 use Rattle.login_table.specs.Table.{Table}
 use Rattle.mgmt_agent.specs.declared.decision.ManagerStep.{ManagerStep}
+use Rattle.mgmt_agent.specs.declared.operation.Operation.{Operation}
 use Rattle.mgmt_agent.specs.Machine as management
 use Rattle.orb_layout.specs.declared.ask.Ask.{Ask}
 use Rattle.orb_layout.specs.declared.ask.FailCause.{FailCause}
@@ -17,7 +18,9 @@ use Rattle.sbp_target.specs.Management.{ask_manager, decided_by, failed_by, lose
 use Rattle.sbp_target.specs.Nodes.{NodeState, Scene, scene}
 use Rattle.sbp_target.specs.Sending.{sent_by}
 use Rattle.sbp_target.specs.Sending as sending
+use Rattle.sbp_target.proofs.Histories.Managing.{unlabelled}
 use Rattle.sbp_target.proofs.Histories.Seats.{Lives}
+use Rattle.sbp_world.proofs.Agents.Management.Asking.{has_source}
 use Rattle.sbp_world.proofs.Agents.Management.Calm.{From}
 use Rattle.sbp_world.proofs.Agents.Management.Managing.{decision_stands}
 use Rattle.turn_laws.proofs.AskedLabels.{Alike, finds_alike}
@@ -93,3 +96,44 @@ manage_packets node answer layer lives f = by (management.source_in node.manager
     by : (source : Option ℕ) → out (managed_in source answer (scene (record node { layer = layer }) empty_outbox)) ≡ reply_packets node layer source answer
     by None = refl
     by (Some source) = with_packets lives source (record node { layer = layer }) f (management.reply_step node.manager node.logins node.keys answer)
+
+-- ---- the logins behind it: those that its step leaves
+lost_logins : (source : ℕ) (s : Scene) (r : ManagerStep × (management.Machine × Table)) → r.1.1 ≡ s.node.logins → (manager_lost source s r).node.logins ≡ s.node.logins
+lost_logins source s (step, (m, t)) e = e
+
+loses_logins : (source : Option ℕ) (s : Scene) → management.source_in s.node.manager.operation ≡ source → (lost_in source s).node.logins ≡ s.node.logins
+loses_logins None s e = refl
+loses_logins (Some source) s e =
+    lost_logins source s (management.reply_step s.node.manager s.node.logins s.node.keys NoLabel)
+    (ap (λ (x : management.Machine × Table). x.1) (unlabelled s.node.manager s.node.logins s.node.keys (has_source s.node.manager.operation source e)))
+
+sent_logins : (source : ℕ) (s : Scene) (r : Option Asked × Layer Purpose) → (manager_sent s.node (sent_by r s.outbox source)).node.logins ≡ s.node.logins
+unfolding lose_operation
+sent_logins source s (Some asked, layer) = refl
+sent_logins source s (None, layer) = let t = scene (record s.node { layer = layer }) s.outbox in loses_logins (management.source_in t.node.manager.operation) t refl
+
+ask_logins : (source : ℕ) (body : Option Body) (s : Scene) → (manager_asked body source s).node.logins ≡ s.node.logins
+unfolding sending.request_step
+ask_logins source None s = refl
+ask_logins source (Some body) s = sent_logins source s (asking_step s.node.layer source body purposes.Management)
+
+with_logins : (old : Lives) (source : ℕ) (node : NodeState) → From old node.layer → (r : ManagerStep × (management.Machine × Table)) → (managed_with source (scene node empty_outbox) r).node.logins ≡ r.1.1
+unfolding ask_manager
+with_logins old source node f (step, (m, t)) =
+    let begun = with_manager node (m, t) in
+    let told = failed_by source step.failed (decided_by step.decided step.effect source (scene begun empty_outbox)) in
+    ask_logins source (manager_body step.ask told.node.manager.outgoing) told ∙ (decision_stands (office_at begun) old begun empty_outbox refl f step.decided step.effect source).logins
+
+idle_logins : (operation : Option Operation) (m : management.Machine) (table : Table) (keys : List (List ℕ)) (answer : Answer) → management.source_in operation ≡ None → (management.reply_to operation m table keys answer).1.1 ≡ table
+idle_logins None m table keys answer e = refl
+idle_logins (Some own) m table keys answer e = absurd (let no : Some own.source ≡ None = e in cc)
+
+pub manage_logins : (node : NodeState) (answer : Answer) (layer : Layer Purpose) (lives : Lives) → From lives layer
+    → (manage answer (scene (record node { layer = layer }) empty_outbox)).node.logins ≡ (management.reply_step node.manager node.logins node.keys answer).1.1
+unfolding manage management.reply_step
+manage_logins node answer layer lives f = by (management.source_in node.manager.operation) refl
+  where
+    by : (source : Option ℕ) → management.source_in node.manager.operation ≡ source
+        → (managed_in source answer (scene (record node { layer = layer }) empty_outbox)).node.logins ≡ (management.reply_step node.manager node.logins node.keys answer).1.1
+    by None e = sym (idle_logins node.manager.operation node.manager node.logins node.keys answer e)
+    by (Some source) e = with_logins lives source (record node { layer = layer }) f (management.reply_step node.manager node.logins node.keys answer)

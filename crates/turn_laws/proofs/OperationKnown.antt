@@ -123,7 +123,7 @@ module _ (at : ℕ) where
   by_office : (t : Target) (o : Office) → office_of t ≡ o → Of o → IsKnown t
   by_office t o e h = subst Of (sym e) h
 
-  over_known : (t : Target) → IsKnown t → IsKnown (over t)
+  pub over_known : (t : Target) → IsKnown t → IsKnown (over t)
   over_known t h = by_office (over t) (at_rest (office_of t)) (over_keeps t) h
 
   replied_known : (serial : ℕ) (answer : Answer) (t : Target) → IsKnown t → IsKnown (replied serial answer t)

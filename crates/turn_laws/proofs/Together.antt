@@ -9,6 +9,7 @@ use Rattle.turn_laws.proofs.Codes.{codes_law}
 use Rattle.turn_laws.proofs.Cuts.{cuts_law}
 use Rattle.turn_laws.proofs.Deaths.{deaths_law}
 use Rattle.turn_laws.proofs.DecisionRuns.{decided_law}
+use Rattle.turn_laws.proofs.DecisionsSent.{decisions_sent_law}
 use Rattle.turn_laws.proofs.FailingRuns.{failing_law}
 use Rattle.turn_laws.proofs.FailureNotes.{failures_law}
 use Rattle.turn_laws.proofs.Ends.{ends_law}
@@ -38,6 +39,7 @@ turns_law = record {
     packets = packets_run_law.after_lines line run is some most size;
     answers = answered_law.after_lines line run is some most size;
     statuses = statuses_law.after_lines line run is some most size;
+    decisions = decisions_sent_law.after_lines line run is some most size;
     waits = target_waits_law.after_lines line run is some most size;
     ends = ends_law.after_lines line run is some most size;
     once = once_law.after_lines line run is some most size;
@@ -64,6 +66,7 @@ turns_law = record {
     packets = packets_run_law.between line run is some most size next deliveries told may;
     answers = answered_law.between line run is some most size next deliveries told may;
     statuses = statuses_law.between line run is some most size next deliveries told may;
+    decisions = decisions_sent_law.between line run is some most size next deliveries told may;
     waits = target_waits_law.between line run is some most size next deliveries told may;
     ends = ends_law.between line run is some most size next deliveries told may;
     once = once_law.between line run is some most size next deliveries told may;
