@@ -1,5 +1,5 @@
 -- What a reply to the management operation asks to be written (NCITS 325-1998, login and query responses, and status block): at a decision the response, cut to the length that the ORB allows, to the address that it names, or, where that has no byte, the status block to its FIFO; and at the answer to a response the status block with 00.
-use Rattle.std.proofs.Common.{arith, ◌≡◌, ◌∙◌, refl, sym, ap, subst, ℕ, suc, ◌+◌, ◌*◌, ◌^◌, nat_eq, Bool, true, false, cond, List, [], ◌∷◌, length, take, Option, Some, None, Result, Ok, Err}
+use Rattle.std.proofs.Common.{arith, ◌≡◌, ◌∙◌, refl, sym, ap, ℕ, suc, ◌+◌, ◌*◌, ◌^◌, nat_eq, Bool, true, false, cond, List, [], ◌∷◌, length, take, Option, Some, None, Result, Ok, Err}
 use Rattle.std.proofs.lemmas.Bool.Decides.{nat_tests}
 use Rattle.sbp_base.specs.Quadlets.{quad}
 use Rattle.login_table.specs.Sound.{IsSound}
@@ -26,7 +26,7 @@ use Rattle.sbp_laws.specs.SentWrites.{NodeWrite, decision_write, is_response, ma
 use Rattle.sbp_laws.specs.Targets.{Decided, Target, bytes_in, decided_by, decided_in}
 use Rattle.sbp_laws.specs.Turns.{Turn}
 use Rattle.sbp_world.proofs.Sessions.Decisions.{bytes_are}
-use Rattle.turn_laws.proofs.DecisionResponses.{Answered, decision_answered, noted}
+use Rattle.turn_laws.proofs.DecisionResponses.{Answered, decision_answered}
 use Rattle.turn_laws.proofs.ManagedWrites.{asked_write}
 use Rattle.turn_laws.proofs.OperationKnown.{OperationIs}
 

@@ -11,20 +11,19 @@ use Rattle.orb_layout.specs.Replies.{Answer, Done, Expired, NoLabel, Payload, Re
 use Rattle.rbc_disk.specs.Disk.{Disk}
 use Rattle.sbp_journal.specs.declared.note.Note.{Note}
 use Rattle.sbp_journal.specs.declared.note.Note.TheVariants as notes
-use Rattle.sbp_journal.specs.Run.{Moment, asked, said}
+use Rattle.sbp_journal.specs.Run.{Moment, said}
 use Rattle.sbp_journal.specs.Wire.{Terms, terms}
 use Rattle.sbp_laws.specs.Agents.{target_before, wire_before}
 use Rattle.sbp_laws.specs.Decided.{decision_in}
 use Rattle.sbp_laws.specs.Decided as decided
-use Rattle.sbp_laws.specs.Management.{Call, answer_to, answers, call_by, call_of, decided_in, decided_note, got_call, manager_turn, no_call, operator, operator_for, start_in, started, starts}
+use Rattle.sbp_laws.specs.Management.{Call, answer_to, answers, call_by, call_of, decided_in, decided_note, got_call, manager_turn, no_call, operator, operator_for, started, starts}
 use Rattle.sbp_laws.specs.Packets.{answer_in, answered_at, packet_at, receiver_in, sender_in}
-use Rattle.sbp_laws.specs.SentWrites.{DecisionsAreSent, NodeWrite, behind_turn, block_served, decision_served, decision_writes, decisions_served, is_response, is_response_done, managed_block, managed_orb, served, writes_to}
+use Rattle.sbp_laws.specs.SentWrites.{DecisionsAreSent, NodeWrite, behind_turn, block_served, decision_served, decision_writes, decisions_served, is_response, is_response_done, managed_orb, writes_to}
 use Rattle.sbp_laws.specs.Targets.{Decided, Purpose, Target, decided_by, for_agent, for_manager, for_nobody, got_by, is_serial, keep_decided, manager_step, over, purpose_of, replied_to, target_at, target_by}
 use Rattle.sbp_laws.specs.Turns.{Turn, turn}
 use Rattle.sbp_world.specs.Agents.Management.Offices.{Office, office_of, stepped}
 use Rattle.sbp_world.proofs.Agents.Management.Firsts.{wire_is}
 use Rattle.sbp_world.proofs.Agents.Management.Idle.{managed_office}
-use Rattle.turn_laws.specs.Decisions.{DecidesWhereDue}
 use Rattle.turn_laws.specs.DecisionsSent.{DecisionsSentLaw}
 use Rattle.turn_laws.proofs.DecisionNotes.{timed_out_none}
 use Rattle.turn_laws.proofs.DecisionSteps.{AsksFor, Serves, asks_for, block_of, note_of, reply_blocks, write_of}

@@ -1,11 +1,11 @@
 -- What a turn brings in which a response to the management operation is got (NCITS 325-1998, management agent): the target writes to its initiator what the operation then asks for, where that finds a label, and nothing else; and behind the turn the logins are those that its step leaves.
-use Rattle.std.proofs.Common.{◌≡◌, ◌∙◌, refl, sym, ap, subst, ℕ, suc, ◌==◌, ◌<◌, is_some, nat_eq, Bool, true, false, cond, List, [], ◌∷◌, Option, Some, None, Result, Ok, Err}
+use Rattle.std.proofs.Common.{◌≡◌, ◌∙◌, refl, sym, ap, subst, ℕ, suc, ◌==◌, ◌<◌, is_some, Bool, true, false, cond, List, [], ◌∷◌, Option, Some, None, Ok}
 use Rattle.async_packet.specs.Labels.{LabelParts}
 use Rattle.async_packet.specs.Packet.{Packet, header_in}
 use Rattle.async_packet.specs.Reading.{reading}
 use Rattle.bus_transactions.specs.Fitting.{FitsRequest}
 use Rattle.bus_transactions.specs.Judging.{AreJudged}
-use Rattle.bus_transactions.proofs.FitJudged.{BytesOf, bytes_of, spelled}
+use Rattle.bus_transactions.proofs.FitJudged.{bytes_of, spelled}
 use Rattle.label_table.specs.Bodies.{Body, block_read, block_write, quadlet_read}
 use Rattle.label_table.specs.declared.judgement.Asked.{Asked}
 use Rattle.label_table.specs.History as wire
@@ -23,7 +23,6 @@ use Rattle.packet_store.specs.declared.sent.Sent.{Sent}
 use Rattle.packet_store.specs.Kept.{found_sent}
 use Rattle.rbc_disk.specs.Disk.{Disk}
 use Rattle.rbc_disk.specs.Runs.{Told}
-use Rattle.sbp_bus.specs.Generations.{GenerationsState, node_of}
 use Rattle.sbp_bus.specs.Packets.{end_note, judged_note}
 use Rattle.orb_layout.specs.Pointers.{offset_at}
 use Rattle.sbp_journal.specs.declared.cause.Judged.{Judged}
@@ -35,16 +34,14 @@ use Rattle.sbp_journal.specs.Outgoings.{OutboxState, empty_outbox}
 use Rattle.sbp_initiator.specs.Receiving.{receive_step}
 use Rattle.sbp_journal.specs.Addresses.{Access, Start, management_agent, start_at, start_serves}
 use Rattle.sbp_journal.specs.Run.{Moment, said}
-use Rattle.sbp_journal.specs.Wire.{Terms, terms}
-use Rattle.sbp_laws.specs.Agents.{target_before, wire_after, wire_before}
+use Rattle.sbp_journal.specs.Wire.{terms}
+use Rattle.sbp_laws.specs.Agents.{target_before, wire_before}
 use Rattle.sbp_laws.specs.Management.{Call, answers, body_for, call_of, no_call, operator, start_in, start_of, starts}
-use Rattle.sbp_laws.specs.Packets.{access_in_bytes, finds_label}
 use Rattle.sbp_laws.specs.SentWrites.{NodeWrite, behind_turn, served, writes_to}
-use Rattle.sbp_laws.specs.Targets.{Target, initiator_with, manager_step, over, target_at}
+use Rattle.sbp_laws.specs.Targets.{Target, manager_step, over, target_at}
 use Rattle.sbp_laws.specs.Turns.{Turn, turn}
 use Rattle.sbp_target.specs.declared.purpose.Purpose.{Purpose}
 use Rattle.sbp_target.specs.declared.purpose.Purpose.TheVariants as purposes
-use Rattle.sbp_target.specs.Management.{manager_body}
 use Rattle.sbp_target.specs.Nodes.{NodeState, scene as target_scene}
 use Rattle.sbp_target.specs.Receiving.{answer_in, concluded, received, received_as, with_layer}
 use Rattle.sbp_target.specs.Replies.{Whole, scene_of, whole}
@@ -54,7 +51,6 @@ use Rattle.sbp_target.proofs.Histories.Primitives.{closing_known, live_on}
 use Rattle.sbp_world.specs.Agents.Management.Offices.{Agrees, Office, office_of}
 use Rattle.sbp_world.specs.Delivering.{faults_after, marked, whole_of}
 use Rattle.sbp_world.specs.Handing.{handed_out}
-use Rattle.sbp_world.specs.Hosts.Handing.{AreOthers}
 use Rattle.sbp_world.specs.Wire.Wires.{Stands}
 use Rattle.sbp_world.specs.Worlds.{Scene, WorldState, initiator_at, with_initiator, with_note, with_target}
 use Rattle.rbc_disk.specs.Held.{Held, held}
@@ -67,7 +63,6 @@ use Rattle.sbp_world.proofs.FitTarget.Demands.{answer_small}
 use Rattle.sbp_world.proofs.FitTarget.Manager.{managed_fits}
 use Rattle.sbp_world.proofs.FitTarget.Nodes.{IfBody, manager_body_fits}
 use Rattle.sbp_world.proofs.Lists.Extends.{marked_fresh}
-use Rattle.sbp_world.proofs.Lists.StatusPackets.{AllRead}
 use Rattle.sbp_world.proofs.Lists.StatusReads.{asked_body, reads_body}
 use Rattle.sbp_world.proofs.Wire.Holding.{KnownTo}
 use Rattle.sbp_world.proofs.Wire.Nodes.{handed_alike, marked_alike}
@@ -75,7 +70,7 @@ use Rattle.turn_laws.proofs.BehindTurns.{noted}
 use Rattle.turn_laws.proofs.Calls.{Cases}
 use Rattle.turn_laws.proofs.Effects.{step_same}
 use Rattle.turn_laws.proofs.FailureSides.{step_body}
-use Rattle.turn_laws.proofs.FollowSends.{AllTo, one_to, packet_of}
+use Rattle.turn_laws.proofs.FollowSends.{one_to, packet_of}
 use Rattle.turn_laws.proofs.Gots.{agent_calls, manager_calls, nobody_calls, no_kind, own_calls_nothing, request_calls, unsolicited_calls}
 use Rattle.turn_laws.proofs.Handed.{handed}
 use Rattle.turn_laws.proofs.ManagedSides.{from_self}

@@ -31,10 +31,10 @@ use Rattle.sbp_journal.specs.declared.operation.FunctionWord.TheVariants as word
 use Rattle.sbp_laws.specs.Management.{Call, answer_to, began_with, begins_with, call_by, got_call, no_call, source_node, start_in, start_of, started, starts}
 use Rattle.sbp_laws.specs.Packets.{access_at, access_in, access_in_bytes, answer_in, answered_at, id_for, packet_at, packet_in, receiver_in, sender_in}
 use Rattle.sbp_laws.specs.SentWrites.{offset_in}
-use Rattle.sbp_laws.specs.Targets.{Decided, Purpose, Target, bytes_in, decided_by, decided_in, for_agent, for_manager, for_nobody, got_by, is_serial, is_write_access, keep_decided, key_by, known_at, over, purpose_of, replied, request_got, reset_seen, sent_as, sent_for, taken_on, target_at, target_by, wants, wants_it}
+use Rattle.sbp_laws.specs.Targets.{Decided, Purpose, Target, bytes_in, decided_by, decided_in, for_agent, for_manager, for_nobody, got_by, is_serial, is_write_access, keep_decided, key_by, known_at, over, purpose_of, replied, request_got, reset_seen, sent_as, sent_for, taken_on, target_at, target_by, wants}
 use Rattle.sbp_laws.specs.Turns.{event_of}
 use Rattle.sbp_world.specs.Agents.Management.Offices.{Office, at_rest, by_managed, by_note, office_of, placed, placed_by, started_by}
-use Rattle.sbp_world.proofs.Agents.Management.Firsts.{ignored_office, opened_office, other_reply, own_reply, request_keeps, served_office, tick_office, wire_is}
+use Rattle.sbp_world.proofs.Agents.Management.Firsts.{other_reply, own_reply, request_keeps, served_office, wire_is}
 use Rattle.sbp_world.proofs.Agents.Management.Offices.{note_changes, over_keeps, taken_keeps}
 use Rattle.sbp_world.proofs.Common.{untrue}
 use Rattle.sbp_world.proofs.Hosts.Remaining.{serials_behind, step}
