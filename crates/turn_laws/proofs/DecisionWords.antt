@@ -81,7 +81,7 @@ module _ (T : Target) (sound : IsSound T.table.places) where
   stands_there : (place id : ℕ) → Standing places place id → place_with T id ≡ place
   stands_there place id x = ap (λ k. unwrap_or k 8) (first_place places sound id place x (position (has_id id) places) refl)
 
-  place_is : (place id : ℕ) → IsAt places place id → place_with T id ≡ place
+  pub place_is : (place id : ℕ) → IsAt places place id → place_with T id ≡ place
   place_is place id e = stands_there place id (standing_as places sound id place (place_at places place) refl e)
 
   unit_is : (unit id : ℕ) → OnUnit places unit id → unit_of T (place_with T id) ≡ unit
@@ -248,7 +248,7 @@ module _ (T : Target) (sound : IsSound T.table.places) where
     moment_moves moment = (moment_stands moment).moved
 
 -- ---- the notes of a turn
-noted_decision : (rest : List Note) → decision_in rest ≡ decision_in (of_kind is_decision_note rest)
+pub noted_decision : (rest : List Note) → decision_in rest ≡ decision_in (of_kind is_decision_note rest)
 noted_decision [] = refl
 noted_decision (notes.Managed i word subject status login ∷ rest) = refl
 noted_decision (note ∷ rest) = noted_decision rest

@@ -54,7 +54,7 @@ at_start (register place name) source access = no_no
 at_start rom_start source access = no_no
 at_start no_start source access = no_no
 
-start_no : (access : Option Access) (source : ℕ) → No (start_in access source)
+pub start_no : (access : Option Access) (source : ℕ) → No (start_in access source)
 start_no None source = no_no
 start_no (Some access) source = at_start (start_at access.offset) source access
 
@@ -70,7 +70,7 @@ of_manager T r e = is_its_serial T.manages r (by (is_serial T.manages r) e)
     by true f = refl
     by false f = absurd (among_not 0 T.agents r f)
 
-answers_same : (told answer : Answer) → answers told ≡ answers answer → told ≡ answer
+pub answers_same : (told answer : Answer) → answers told ≡ answers answer → told ≡ answer
 answers_same told answer e = cc
 
 purpose_answers : (T : Target) (r : ℕ) (for : Purpose) → purpose_of T r ≡ for → (told answer : Answer) → answer_to for told ≡ answers answer → Answers T r told answer

@@ -123,7 +123,7 @@ pub record StepFits (source : ℕ) (r : ManagerStep × (management.Machine × Ta
   pub of : is_some (step_body r) ≡ true → management.source_in r.1.0.operation ≡ Some source
   pub quiet : is_some r.0.failed ≡ true → step_body r ≡ None
 
-office_at : NodeState → Office
+pub office_at : NodeState → Office
 office_at node = record { table = node.logins; keys = node.keys; manager = node.manager; manages = None; asks = asks.Nothing; decided = None }
 
 with_fails : (old : Lives) (source : ℕ) (node : NodeState) → From old node.layer → (r : ManagerStep × (management.Machine × Table)) → StepFits source r → failing (managed_with source (scene node empty_outbox) r).outbox.sides ≡ fail_side source (step_cause node.layer source r)

@@ -78,7 +78,7 @@ both_to : (peer : ℕ) (a b : List Outgoing) → AllTo peer a → AllTo peer b �
 both_to peer [] b h k = k
 both_to peer (packet ∷ a) b h k = (h.0, both_to peer a b h.1 k)
 
-one_to : (peer : ℕ) (asked : Option Asked) → AllTo peer (packet_of peer asked)
+pub one_to : (peer : ℕ) (asked : Option Asked) → AllTo peer (packet_of peer asked)
 one_to peer None = tt
 one_to peer (Some asked) = (refl, tt)
 

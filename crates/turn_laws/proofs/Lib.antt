@@ -66,6 +66,12 @@ pub mod Operators
 pub mod OperationFinds
 pub mod FailureEffects
 pub mod FailureSides
+pub mod ManagerPackets
+pub mod OperationKnown
+pub mod ManagedWrites
+pub mod DecisionResponses
+pub mod DecisionSteps
+pub mod DecisionsSent
 pub mod OperationSteps
 pub mod FailureDue
 pub mod FailureNotes

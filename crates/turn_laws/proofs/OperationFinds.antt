@@ -11,6 +11,7 @@ use Rattle.bus_transactions.specs.Fitting.{FitsRequest}
 use Rattle.bus_transactions.specs.Wire.{Node, as_sending, due_for, first_note}
 use Rattle.bus_transactions.proofs.Fits.{request_fits}
 use Rattle.label_table.specs.Bodies.{Body, header_to, request_with}
+use Rattle.label_table.specs.declared.judgement.Asked.{Asked}
 use Rattle.label_table.specs.Layer.{Finding, Layer, asking_step, judging_step, of_response}
 use Rattle.label_table.specs.Requests.{reply_kind}
 use Rattle.packet_store.specs.declared.sent.Sent.{Sent}
@@ -22,7 +23,7 @@ use Rattle.sbp_journal.specs.Run.{Moment, said}
 use Rattle.sbp_journal.specs.Transactions.{Kind, Sending, Transaction, asked_by, part_of, request}
 use Rattle.sbp_journal.specs.Wire.{Terms, arrives, gets, gets_as, is_news, is_served, judges, terms}
 use Rattle.sbp_journal.specs.declared.note.Note.TheVariants as notes
-use Rattle.sbp_laws.specs.Packets.{finds_label, id_for, label_for}
+use Rattle.sbp_laws.specs.Packets.{access_in_bytes, finds_label, id_for, label_for}
 use Rattle.sbp_target.specs.declared.purpose.Purpose.{Purpose}
 use Rattle.sbp_target.specs.declared.purpose.Purpose.TheVariants as purposes
 use Rattle.sbp_world.specs.Delivering.{marked}
@@ -39,7 +40,7 @@ use Rattle.sbp_world.proofs.Wire.Deliver.{judged_marked}
 use Rattle.sbp_world.proofs.Wire.Holding.{latest_small}
 use Rattle.sbp_world.proofs.Wire.Nodes.{marked_alike}
 use Rattle.turn_laws.proofs.Flown.{got_flies}
-use Rattle.turn_laws.proofs.RequestLabels.{finds_at}
+use Rattle.turn_laws.proofs.RequestLabels.{access_at, body_access, finds_at}
 use Rattle.turn_laws.proofs.Operators.{IsOperator}
 use Rattle.turn_laws.proofs.Places.{Place}
 
@@ -97,6 +98,10 @@ module _ (units ready : ℕ) (has : 0 < units) (start : List Disk) (past : List 
     finds_there =
         finds_at v h 0 (suc i) (omega arith) (subst (λ n. suc i ≤ n) (ap length (sym alike.initiators)) inside) layer own source (id_there (suc i) inside ∙ source_is) body valid purposes.Management
 
+    spells_there : (asked : Asked) → (asking_step layer source body purposes.Management).0 ≡ Some asked → access_in_bytes asked.bytes ≡ body_access body
+    spells_there =
+        access_at v h 0 (suc i) (omega arith) (subst (λ n. suc i ≤ n) (ap length (sym alike.initiators)) inside) layer own source (id_there (suc i) inside ∙ source_is) body valid purposes.Management
+
   module _ (serial : ℕ) (one : Sent) (found : found_sent serial w.store.kept ≡ Some one) (zero_to : one.to ≡ 0) where
     -- ---- behind a response
     module _ (outbox : OutboxState) (v : WorldState) (fresh_is : v.fresh ≡ notes.Got serial ∷ w.fresh) (then : Stands past (handed_out 0 0 outbox v)) (p : Packet) (label : LabelParts) (purpose : Option Purpose) (layer : Layer Purpose) (e : judging_step w.target.layer one.generation one.bytes ≡ (of_response p label purpose, layer)) where
@@ -121,6 +126,12 @@ module _ (units ready : ℕ) (has : 0 < units) (start : List Disk) (past : List 
           let own = ap (upd (layers_of w) one.to (bare layer)) (sym zero_to) ∙ upd_own (layers_of w) one.to (bare layer) in
           finds_there now stands_now (record { generations = alike.generations; target = alike.target; initiators = alike.initiators }) layer own i source of body fits
           ∙ ap (λ x. finds_label (terms (said (notes.Got serial) ∷ x)) 0 (suc i) body) (marked_hist past serial again w)
+
+      pub spells_response : (i source : ℕ) → Operator i source → (body : Body) → FitsRequest body → (asked : Asked) → (asking_step layer source body purposes.Management).0 ≡ Some asked → access_in_bytes asked.bytes ≡ body_access body
+      spells_response i source of body fits =
+          let alike = marked_alike w serial again in
+          let own = ap (upd (layers_of w) one.to (bare layer)) (sym zero_to) ∙ upd_own (layers_of w) one.to (bare layer) in
+          spells_there now stands_now (record { generations = alike.generations; target = alike.target; initiators = alike.initiators }) layer own i source of body fits
 
     -- ---- behind a request
     pub finds_request : (p : Packet) → reading one.bytes ≡ Ok p → reply_kind p ≡ None → (i source : ℕ) → Operator i source → (body : Body) → FitsRequest body → is_some (asking_step w.target.layer source body purposes.Management).0 ≡ finds_label (terms (said (notes.Got serial) ∷ ms)) 0 (suc i) body

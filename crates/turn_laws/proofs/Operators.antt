@@ -8,6 +8,7 @@ use Rattle.mgmt_agent.specs.declared.operation.Operation.{Operation}
 use Rattle.packet_store.specs.Kept.{found_sent}
 use Rattle.packet_store.specs.declared.sent.Sent.{Sent}
 use Rattle.rbc_disk.specs.Disk.{Disk}
+use Rattle.sbp_bus.specs.Generations.{node_of}
 use Rattle.sbp_bus.specs.Telling.{initiator_by}
 use Rattle.sbp_bus.specs.Telling as bus
 use Rattle.sbp_journal.specs.Run.{Moment}
@@ -41,13 +42,17 @@ module _ (units ready : ℕ) (has : 0 < units) (start : List Disk) (past : List 
   abbrev pub IsOperator : (i source : ℕ) → Type 0
   IsOperator i source = IsOf wire (length w.initiators) i source
 
-  pub bus_names : (i source : ℕ) → IsOperator i source → bus.initiator_of w.generations source ≡ i
-  bus_names i source of =
+  -- its node
+  pub operator_node : (i source : ℕ) → IsOperator i source → node_of w.generations 0 source ≡ Some (suc i)
+  operator_node i source of =
       let small = of.small in
       let next : i + 1 ≡ suc i = omega arith in
       let there : suc i ≤ length w.initiators = omega (arith, small) in
       let known = sym (known_id w here.holds.sound.stands (suc i) there) ∙ ap (λ n. id_for wire 0 n) (sym next) ∙ of.node_is in
-      ap initiator_by (node_found w here.holds.sound.stands 0 (omega arith) source (record { node = suc i; there = there; id_is = known })) ∙ (let z : suc i - 1 ≡ i = omega arith in z)
+      node_found w here.holds.sound.stands 0 (omega arith) source (record { node = suc i; there = there; id_is = known })
+
+  pub bus_names : (i source : ℕ) → IsOperator i source → bus.initiator_of w.generations source ≡ i
+  bus_names i source of = ap initiator_by (operator_node i source of) ∙ (let z : suc i - 1 ≡ i = omega arith in z)
 
   pub laws_name : (i source : ℕ) → IsOperator i source → initiator_with wire source ≡ i
   laws_name i source of =

@@ -32,7 +32,7 @@ use Rattle.sbp_world.proofs.Common.{and_first, none_is, some_none, untrue}
 use Rattle.sbp_world.proofs.Hosts.Labels.{found_by}
 use Rattle.sbp_world.proofs.Hosts.Mild.{quad_tcode}
 use Rattle.sbp_world.proofs.Lists.StatusPackets.{AllRead}
-use Rattle.sbp_world.proofs.Lists.StatusReads.{IsOfBody, IsRead, asked_body, body_reads}
+use Rattle.sbp_world.proofs.Lists.StatusReads.{IsOfBody, IsRead, asked_body, body_reads, reads_body}
 use Rattle.turn_laws.proofs.EndFound.{fits}
 use Rattle.turn_laws.proofs.EndTries.{fails_in}
 use Rattle.turn_laws.proofs.FollowEnds.{no_label}
@@ -43,6 +43,16 @@ use Rattle.turn_laws.proofs.StepLabels.{finds_in}
 use Rattle.turn_laws.proofs.TurnWrites.{all_writes}
 
 -- ---- one request
+pub written_by : (node peer offset : ℕ) (payload : List ℕ) (r : Option Asked) → ((asked : Asked) → r ≡ Some asked → access_in_bytes asked.bytes ≡ body_access (block_write offset payload))
+    → all_writes node (packet_of peer r) ≡ cond (is_some r) (record { to = node; offset = offset; payload = payload } ∷ []) []
+written_by node peer offset payload None f = refl
+written_by node peer offset payload (Some asked) f = ap (λ access. node_write node access ++ []) (f asked refl)
+
+-- a read writes nothing
+pub read_by : (layer : Layer Purpose) (peer : ℕ) (body : Body) → reads_body body ≡ true → (r : Option Asked) → IsOfBody layer peer body r → AllRead (packet_of peer r)
+read_by layer peer body e None h = tt
+read_by layer peer body e (Some asked) h = (subst IsRead (sym h) (body_reads asked.label.number layer.node peer body e), tt)
+
 module _ (node q : ℕ) (layer : Layer Purpose) (login : Login) (spells : Spells q layer login) (offset : ℕ) (payload : List ℕ) where
   abbrev body : Body
   body = block_write offset payload
@@ -50,12 +60,8 @@ module _ (node q : ℕ) (layer : Layer Purpose) (login : Login) (spells : Spells
   abbrev write : NodeWrite
   write = record { to = node; offset = offset; payload = payload }
 
-  written_by : (r : Option Asked) → ((asked : Asked) → r ≡ Some asked → access_in_bytes asked.bytes ≡ body_access body) → all_writes node (packet_of login.node r) ≡ cond (is_some r) (write ∷ []) []
-  written_by None f = refl
-  written_by (Some asked) f = ap (λ access. node_write node access ++ []) (f asked refl)
-
   pub write_sent : FitsRequest body → all_writes node (requested q login layer (Some body)) ≡ cond (finds_in q layer login body) (write ∷ []) []
-  write_sent fit = written_by (asking_step layer login.node body (purposes.Agent q)).0 (spells body fit)
+  write_sent fit = written_by node login.node offset payload (asking_step layer login.node body (purposes.Agent q)).0 (spells body fit)
 
 -- what finds none is not sent
 module _ (q : ℕ) (layer : Layer Purpose) (login : Login) where
@@ -67,10 +73,6 @@ module _ (q : ℕ) (layer : Layer Purpose) (login : Login) where
   unsent body e = unsent_by (asking_step layer login.node body (purposes.Agent q)).0 e
 
   -- a read writes nothing
-  read_by : (offset len : ℕ) (r : Option Asked) → IsOfBody layer login.node (block_read offset len) r → AllRead (packet_of login.node r)
-  read_by offset len None h = tt
-  read_by offset len (Some asked) h = (subst IsRead (sym h) (body_reads asked.label.number layer.node login.node (block_read offset len) refl), tt)
-
   if_reads : (b : Bool) (packets : List Outgoing) → AllRead packets → AllRead (cond b [] packets)
   if_reads true packets h = tt
   if_reads false packets h = h
@@ -81,7 +83,7 @@ module _ (q : ℕ) (layer : Layer Purpose) (login : Login) where
   ahead_reads (Read offset len) f outgoing = by (nat_le len largest)
     where
       by : (b : Bool) → AllRead (requested_ahead q login layer (cond b (Some (block_read offset len)) None))
-      by true = if_reads (nat_lt (free_labels layer login.node) 16) _ (read_by offset len (asking_step layer login.node (block_read offset len) (purposes.Agent q)).0 (asked_body layer login.node (block_read offset len) (purposes.Agent q)))
+      by true = if_reads (nat_lt (free_labels layer login.node) 16) _ (read_by layer login.node (block_read offset len) refl (asking_step layer login.node (block_read offset len) (purposes.Agent q)).0 (asked_body layer login.node (block_read offset len) (purposes.Agent q)))
       by false = tt
 
 -- ---- where a read finds no label

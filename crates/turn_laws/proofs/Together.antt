@@ -9,6 +9,7 @@ use Rattle.turn_laws.proofs.Codes.{codes_law}
 use Rattle.turn_laws.proofs.Cuts.{cuts_law}
 use Rattle.turn_laws.proofs.Deaths.{deaths_law}
 use Rattle.turn_laws.proofs.DecisionRuns.{decided_law}
+use Rattle.turn_laws.proofs.DecisionsSent.{decisions_sent_law}
 use Rattle.turn_laws.proofs.FailingRuns.{failing_law}
 use Rattle.turn_laws.proofs.FailureNotes.{failures_law}
 use Rattle.turn_laws.proofs.Ends.{ends_law}
@@ -39,6 +40,7 @@ turns_law = record {
     answers = answered_law.after_lines line run is some most size;
     statuses = statuses_law.after_lines line run is some most size;
     after = after_law.after_lines line run is some most size;
+    decisions = decisions_sent_law.after_lines line run is some most size;
     ends = ends_law.after_lines line run is some most size;
     once = once_law.after_lines line run is some most size;
     deaths = deaths_law.after_lines line run is some most size;
@@ -65,6 +67,7 @@ turns_law = record {
     answers = answered_law.between line run is some most size next deliveries told may;
     statuses = statuses_law.between line run is some most size next deliveries told may;
     after = after_law.between line run is some most size next deliveries told may;
+    decisions = decisions_sent_law.between line run is some most size next deliveries told may;
     ends = ends_law.between line run is some most size next deliveries told may;
     once = once_law.between line run is some most size next deliveries told may;
     deaths = deaths_law.between line run is some most size next deliveries told may;

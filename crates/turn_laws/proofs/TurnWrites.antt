@@ -58,11 +58,11 @@ module _ (node : ℕ) where
       let v = told 0 side w in
       ap (writes_to node) (append_assoc (note_of side w) (notes_told 0 later v) rest) ∙ (one_told side w (notes_told 0 later v ++ rest) o.0 ∙ told_writes later v rest o.1)
 
-  abbrev write_by : Option ℕ → List ℕ → List NodeWrite
+  abbrev pub write_by : Option ℕ → List ℕ → List NodeWrite
   write_by None bytes = []
   write_by (Some to) bytes = cond (to == node) (node_write to (access_in_bytes bytes)) []
 
-  abbrev packet_writes : GenerationsState → List Outgoing → List NodeWrite
+  abbrev pub packet_writes : GenerationsState → List Outgoing → List NodeWrite
   packet_writes g [] = []
   packet_writes g (packet ∷ later) = write_by (node_of g 0 packet.to) packet.bytes ++ packet_writes g later
 
@@ -82,7 +82,7 @@ module _ (node : ℕ) where
       one_sent to packet w (notes_sent 0 later v)
       ∙ (ap (λ ws. write_by to packet.bytes ++ ws) (sent_writes later v) ∙ ap (λ g. write_by to packet.bytes ++ packet_writes g later) (sent_generations packet w))
 
-  handed_writes : (outbox : OutboxState) (w : WorldState) → AreOthers outbox.sides → writes_to node (handed 0 0 outbox w) ≡ packet_writes w.generations outbox.packets
+  pub handed_writes : (outbox : OutboxState) (w : WorldState) → AreOthers outbox.sides → writes_to node (handed 0 0 outbox w) ≡ packet_writes w.generations outbox.packets
   handed_writes outbox w o =
       let v = told_all 0 outbox.sides w in
       told_writes outbox.sides w (notes_sent 0 outbox.packets v) o ∙ (sent_writes outbox.packets v ∙ ap (λ g. packet_writes g outbox.packets) (sides_generations 0 outbox.sides w))
@@ -95,7 +95,7 @@ module _ (node : ℕ) where
         let own = write_by (node_of g 0 packet.to) packet.bytes in ap (λ ws. own ++ ws) (both_sent a b) ∙ sym (append_assoc own (packet_writes g a) (packet_writes g b))
 
     -- to one peer
-    to_peer : (peer : ℕ) → node_of g 0 peer ≡ Some node → (packets : List Outgoing) → AllTo peer packets → packet_writes g packets ≡ all_writes node packets
+    pub to_peer : (peer : ℕ) → node_of g 0 peer ≡ Some node → (packets : List Outgoing) → AllTo peer packets → packet_writes g packets ≡ all_writes node packets
     to_peer peer there [] h = refl
     to_peer peer there (packet ∷ later) h =
         ap (λ ws. ws ++ packet_writes g later)

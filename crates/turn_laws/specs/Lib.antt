@@ -16,6 +16,7 @@ pub mod Unserved
 pub mod Ordered
 pub mod Logins
 pub mod Decisions
+pub mod DecisionsSent
 pub mod Decided
 pub mod Failures
 pub mod Failing

@@ -11,7 +11,7 @@ use Rattle.sbp_laws.specs.LoginLaw.{LoginLaw}
 use Rattle.sbp_laws.specs.SentAnswers.{AnswersLaw}
 use Rattle.sbp_laws.specs.SentLaw.{AfterTurn}
 use Rattle.sbp_laws.specs.SentPackets.{SentAt}
-use Rattle.sbp_laws.specs.SentWrites.{StatusesAreSent}
+use Rattle.sbp_laws.specs.SentWrites.{DecisionsAreSent, StatusesAreSent}
 use Rattle.sbp_laws.specs.Turns.{EachMoment, EachTurn}
 use Rattle.turn_laws.specs.ActRequests.{ActsByRequests}
 use Rattle.turn_laws.specs.Actions.{ActsByRows}
@@ -41,6 +41,7 @@ pub record LawfulInTurns (start : List Disk) (past : List Moment) : Type 0 where
   pub answers : EachTurn (AnswersLaw start) past
   pub statuses : EachTurn (StatusesAreSent start) past
   pub after : EachTurn (AfterTurn start) past
+  pub decisions : EachTurn (DecisionsAreSent start) past
   pub ends : EachTurn (EndsWhereDue start) past
   pub once : EachTurn (DiesOnce start) past
   pub deaths : EachTurn (DiesByRows start) past

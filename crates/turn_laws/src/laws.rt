@@ -11,6 +11,7 @@ ghost use Rattle.turn_laws.specs.Codes.{CodesLaw};
 ghost use Rattle.turn_laws.specs.Cuts.{CutsLaw};
 ghost use Rattle.turn_laws.specs.Deaths.{DeathsLaw};
 ghost use Rattle.turn_laws.specs.Decided.{DecidedLaw};
+ghost use Rattle.turn_laws.specs.DecisionsSent.{DecisionsSentLaw};
 ghost use Rattle.turn_laws.specs.Ends.{EndsLaw};
 ghost use Rattle.turn_laws.specs.Failing.{FailingLaw};
 ghost use Rattle.turn_laws.specs.Failures.{FailuresLaw};
@@ -124,6 +125,15 @@ pub fn ends_are_heard()
 #[tactic(auto, using(crate::proofs::Statuses::statuses_law))]
 pub fn statuses_are_sent_where_due()
     ensures { StatusesLaw }
+{}
+
+/// In each turn of every run, whatever anybody injected, behind a decision its initiator is sent one write, and no
+/// other: the response, cut to the length that the management ORB allows, to the address that it names, or, where the
+/// response has no byte, the status block to the ORB's FIFO; and behind the answer to a response the status block with
+/// 00; and none where that write finds no label: `decisions` of the sent law.
+#[tactic(auto, using(crate::proofs::DecisionsSent::decisions_sent_law))]
+pub fn decisions_are_sent_where_due()
+    ensures { DecisionsSentLaw }
 {}
 
 /// In every run, whatever anybody injected, there are bytes with which the write of a chunk of an answer finds no
