@@ -168,3 +168,8 @@ pub mod ActEntries
 pub mod Together
 pub mod RunPlans
 pub mod RunEnds
+pub mod SentBodies
+pub mod SentOwn
+pub mod TurnSends
+pub mod FirstRequests
+pub mod AgentRequests
