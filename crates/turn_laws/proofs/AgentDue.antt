@@ -39,6 +39,7 @@ use Rattle.turn_laws.proofs.EndSizes.{IsSizedBy}
 use Rattle.turn_laws.proofs.FollowEnds.{no_label}
 use Rattle.turn_laws.proofs.FollowSends.{requests}
 use Rattle.turn_laws.proofs.FoundLabels.{Spells}
+use Rattle.turn_laws.proofs.TurnSends.{SendsOwn}
 use Rattle.turn_laws.proofs.TurnWrites.{all_writes}
 use Rattle.turn_laws.proofs.EndTries.{brought, brought_notes, brought_sides, found_by, notes_tried}
 
@@ -72,6 +73,8 @@ pub record IsTurnOf (start : List Disk) (T : Target) (t : Turn) (a : AgentTurn) 
   pub tame : (offset size : ℕ) → step.ahead ≡ Write offset size → ⊥
   pub behind : Layer Purpose
   pub writes : (let i = initiator_at T (wire_before t) a.place in writes_to (suc i) t.rest ≡ all_writes (suc i) (requests a.place login (found_at a.place layer login step m) layer behind step m))
+  -- and those stand first behind the response
+  pub sends : (let i = initiator_at T (wire_before t) a.place in SendsOwn start t login.node (suc i) (requests a.place login (found_at a.place layer login step m) layer behind step m))
   pub holders : ℕ → Holder
   pub tickets : ℕ → ℕ → Option TicketParts
   pub told : of_kind is_end_note t.rest ≡ ends_noted holders tickets (brought_sides a.place m (brought (found_at a.place layer login step m) step m.phase))

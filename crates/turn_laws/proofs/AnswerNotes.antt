@@ -71,7 +71,7 @@ module _ {past : List Moment} (w : WorldState) (h : Stands past w) (serial : ℕ
       ∙ ap (λ (x : Terms). term_id x one.to) (past_terms w h))
 
   -- it goes to the node that sent the request
-  source_there : one.generation ≡ t.generation one.to → node_of w.generations one.to (header_in p).source ≡ Some one.from
+  pub source_there : one.generation ≡ t.generation one.to → node_of w.generations one.to (header_in p).source ≡ Some one.from
   source_there now =
       node_found w h one.to inside (header_in p).source (record {
         node = one.from;

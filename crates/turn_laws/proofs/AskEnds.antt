@@ -57,7 +57,12 @@ use Rattle.sbp_target.specs.Sending.{with_side}
 use Rattle.sbp_world.specs.Agents.Holders.{IsHeld}
 use Rattle.sbp_world.specs.FitTarget.{FitsAgent}
 use Rattle.sbp_target.specs.declared.purpose.Purpose.{Purpose}
-use Rattle.sbp_world.proofs.Agents.CrewFirsts.{asks_part}
+use Rattle.bus_transactions.specs.Judging.{AreJudged}
+use Rattle.bus_transactions.specs.Wire.{as_sending}
+use Rattle.sbp_bus.specs.Generations.{node_of}
+use Rattle.sbp_world.proofs.Agents.CrewFirsts.{access_there, asks_part}
+use Rattle.sbp_world.proofs.Agents.Management.Holding.{was_sent}
+use Rattle.sbp_world.proofs.Common.{equal}
 use Rattle.sbp_world.proofs.FitTarget.Nodes.{IfBody, agent_body_fits}
 use Rattle.sbp_world.proofs.Lists.DueRuns.{list_same}
 use Rattle.sbp_world.proofs.Lists.OpenPlaces.{opened_here}
@@ -70,6 +75,9 @@ use Rattle.turn_laws.proofs.FollowEnds.{ends_in}
 use Rattle.turn_laws.proofs.FollowSends.{requests, requests_to_peer}
 use Rattle.turn_laws.proofs.FollowSides.{AreBeside}
 use Rattle.turn_laws.proofs.PushSends.{Pushes}
+use Rattle.turn_laws.proofs.AnswerNotes.{source_there}
+use Rattle.turn_laws.proofs.SentAnswers.{reply_due}
+use Rattle.turn_laws.proofs.TurnSends.{SendsOwn, is_current, sends_second}
 use Rattle.turn_laws.proofs.TurnWrites.{all_writes, turn_writes}
 use Rattle.sbp_journal.specs.declared.outbox.Outgoing.{Outgoing}
 use Rattle.sbp_laws.specs.SentWrites.{writes_to}
@@ -109,7 +117,7 @@ pub ring_carries : (m : Machine) → (let r = doorbell_step m in Carries r.0 r.1
 unfolding doorbell_step
 ring_carries m = ring_in_carries (state_in m.phase) m
 
-module _ (units ready : ℕ) (has : 0 < units) (start : List Disk) (past : List Moment) (s : Scene) (here : Place units ready start past s) (serial : ℕ) (one : Sent) (found : found_sent serial s.world.store.kept ≡ Some one) (zero_to : one.to ≡ 0) (p : Packet) (read : reading one.bytes ≡ Ok p) (none : reply_kind p ≡ None) (new : Layer Purpose) (same_layer : new ≡ s.world.target.layer) (q : ℕ) (b : q < 8) (served : IsServed s.world.target q) where
+module _ (units ready : ℕ) (has : 0 < units) (start : List Disk) (past : List Moment) (s : Scene) (here : Place units ready start past s) (serial : ℕ) (one : Sent) (found : found_sent serial s.world.store.kept ≡ Some one) (zero_to : one.to ≡ 0) (judged : AreJudged (said (notes.Got serial) ∷ hist past s.world)) (p : Packet) (read : reading one.bytes ≡ Ok p) (none : reply_kind p ≡ None) (new : Layer Purpose) (same_layer : new ≡ s.world.target.layer) (q : ℕ) (b : q < 8) (served : IsServed s.world.target q) where
   abbrev w : WorldState
   w = s.world
 
@@ -179,6 +187,27 @@ module _ (units ready : ℕ) (has : 0 < units) (start : List Disk) (past : List 
       (peer_is units ready start past s here q login served.is served.live ∙ ap (λ n. Some (suc n)) (sym mine)) o now response out same others (answer_reads new p one.bytes 0 [], tt)
       (requests_to_peer q login (found_at q answered_layer login (asks ask) m) answered_layer behind (asks ask) m) pushes
 
+  -- and sent there
+  from_there : node_of w.generations 0 (header_in p).source ≡ Some one.from
+  from_there =
+      let stands = here.holds.sound.stands in
+      let q = as_sending one in
+      let now : one.generation ≡ wire.generation one.to = equal one.generation (wire.generation one.to) (is_current wire q (judged.0 q (was_sent w stands serial one found))) in
+      let inside : one.to ≤ length w.initiators = omega (arith, zero_to) in
+      subst (λ n. node_of w.generations n (header_in p).source ≡ Some one.from) zero_to (source_there w stands serial one found inside p read now)
+
+  sends_behind : (now : WorldState) (o : OutboxState) (behind : Layer Purpose) (ask : Ask) (m : Machine) → now.generations ≡ w.generations → AreOthers o.sides
+      → Pushes node.logins.places login.unit q (response ++ requests q login (found_at q answered_layer login (asks ask) m) answered_layer behind (asks ask) m) o.packets
+      → SendsOwn start (t (handed 0 0 o now)) login.node (suc i) (requests q login (found_at q answered_layer login (asks ask) m) answered_layer behind (asks ask) m)
+  sends_behind now o behind ask m same others pushes =
+      let out = requests q login (found_at q answered_layer login (asks ask) m) answered_layer behind (asks ask) m in
+      let mine = initiator_is units ready has start past s here q login served.is served.live ∙ holder_is units ready has start past s here q login served.is served.live in
+      let first : Outgoing = record { to = (header_in p).source; label = None; bytes = (answering_step new p one.bytes 0 []).0 } in
+      let there = access_there p none in
+      let due = reply_due start ms serial (as_sending one) (was_sent w here.holds.sound.stands serial one found) p there.access read there.is (handed 0 0 o now) in
+      sends_second start (t (handed 0 0 o now)) login.node (suc i) w.generations (peer_is units ready start past s here q login served.is served.live ∙ ap (λ n. Some (suc n)) (sym mine))
+      o now same others refl node.logins.places login.unit q out (ap (λ (ns : List Note). length ns) due) first one.from from_there pushes
+
   -- the turn of an agent that asks
   abbrev law_turn : Ask → Machine → AgentTurn
   law_turn ask machine = record { place = q; untold = A.untold; which = Main; step = asks ask; machine = machine }
@@ -186,7 +215,7 @@ module _ (units ready : ℕ) (has : 0 < units) (start : List Disk) (past : List 
   body_fits : (ask : Ask) (m : Machine) → FitsAsk ask → FitsAgent m → IfBody (agent_body ask false login.fifo m.outgoing)
   body_fits ask m f g = agent_body_fits ask false login.fifo m.outgoing f (small_fifo units ready has start past s here q login served.is served.live) g.outgoing
 
-  module _ (rest : List Note) (ask : Ask) (m : Machine) (law_ask : Ask) (law_machine : Machine) (ask_is : law_ask ≡ ask) (alike : Alike A.untold law_machine m) (shaped : IsShapedStep (asks ask, m)) (carried : Carries ask m.outgoing) (reads : IsNoWrite ask) (fits_ask : FitsAsk ask) (fits_agent : FitsAgent m) (H : ℕ → Holder) (K : ℕ → ℕ → Option TicketParts) (told_is : of_kind is_end_note rest ≡ ends_noted H K (brought_sides q m (brought (found_at q answered_layer login (asks ask) m) (asks ask) m.phase))) (initiator : (H q).initiator ≡ (holder w q).initiator) (list : (H q).list ≡ list_taken start (said (notes.Got serial) ∷ ms) q) (behind : Layer Purpose) (writes : writes_to (suc i) rest ≡ all_writes (suc i) (requests q login (found_at q answered_layer login (asks ask) m) answered_layer behind (asks ask) m)) (tickets : (orb : ℕ) → K q orb ≡ ticket_at w q orb) where
+  module _ (rest : List Note) (ask : Ask) (m : Machine) (law_ask : Ask) (law_machine : Machine) (ask_is : law_ask ≡ ask) (alike : Alike A.untold law_machine m) (shaped : IsShapedStep (asks ask, m)) (carried : Carries ask m.outgoing) (reads : IsNoWrite ask) (fits_ask : FitsAsk ask) (fits_agent : FitsAgent m) (H : ℕ → Holder) (K : ℕ → ℕ → Option TicketParts) (told_is : of_kind is_end_note rest ≡ ends_noted H K (brought_sides q m (brought (found_at q answered_layer login (asks ask) m) (asks ask) m.phase))) (initiator : (H q).initiator ≡ (holder w q).initiator) (list : (H q).list ≡ list_taken start (said (notes.Got serial) ∷ ms) q) (behind : Layer Purpose) (writes : writes_to (suc i) rest ≡ all_writes (suc i) (requests q login (found_at q answered_layer login (asks ask) m) answered_layer behind (asks ask) m)) (sends : SendsOwn start (t rest) login.node (suc i) (requests q login (found_at q answered_layer login (asks ask) m) answered_layer behind (asks ask) m)) (tickets : (orb : ℕ) → K q orb ≡ ticket_at w q orb) where
     is_turn : IsTurnOf start T (t rest) (law_turn law_ask law_machine) (asks ask) m login answered_layer
     is_turn = record {
       step_is = ap asks ask_is;
@@ -203,6 +232,7 @@ module _ (units ready : ℕ) (has : 0 < units) (start : List Disk) (past : List 
       tame = none_wrote;
       behind = behind;
       writes = writes;
+      sends = sends;
       holders = H;
       tickets = K;
       told = told_is;
@@ -273,6 +303,7 @@ module _ (units ready : ℕ) (has : 0 < units) (start : List Disk) (past : List 
             (opened_handed H K 0 q (orb_of m) g.more o now (ap (λ (y : OutboxState). y.sides) o_is ∙ g.is) (λ k. refl, λ k orb. refl) g.beside ∙ ap (ends_noted H K) (sym (ap ends_in g.is) ∙ tells.ends))
             owner (opened_list law_list) tells.behind
             (writes_behind now o tells.behind ask m bus_same others (subst (λ (y : OutboxState). Pushes node.logins.places login.unit q (response ++ requests q login (found_at q answered_layer login (asks ask) m) answered_layer tells.behind (asks ask) m) y.packets) (sym o_is) tells.sends))
+            (sends_behind now o tells.behind ask m bus_same others (subst (λ (y : OutboxState). Pushes node.logins.places login.unit q (response ++ requests q login (found_at q answered_layer login (asks ask) m) answered_layer tells.behind (asks ask) m) y.packets) (sym o_is) tells.sends))
             opened_ticket
 
     -- ---- DOORBELL, of an agent out of RESET
@@ -297,6 +328,7 @@ module _ (units ready : ℕ) (has : 0 < units) (start : List Disk) (past : List 
             (ap (λ (h : Holder). h.list) (holders q) ∙ (sym (here.taken q b up) ∙ sym law_list))
             ring_tells.behind
             (writes_behind now o ring_tells.behind ask m bus_same others (subst (λ (y : OutboxState). Pushes node.logins.places login.unit q (response ++ requests q login (found_at q answered_layer login (asks ask) m) answered_layer ring_tells.behind (asks ask) m) y.packets) (sym o_is) ring_tells.sends))
+            (sends_behind now o ring_tells.behind ask m bus_same others (subst (λ (y : OutboxState). Pushes node.logins.places login.unit q (response ++ requests q login (found_at q answered_layer login (asks ask) m) answered_layer ring_tells.behind (asks ask) m) y.packets) (sym o_is) ring_tells.sends))
             (λ orb. tickets_now q orb)
 
         -- one in RESET asks for nothing

@@ -55,7 +55,7 @@ answering_is phases.Dead e = absurd (let no : false ≡ true = e in cc)
 answering : (phase : Phase) → is_answering phase ≡ true → answers phase ≡ true
 answering phase e = ap answers (answering_is phase e)
 
-status_of : (kind : StatusKind) (dead : Option FailCause) (phase : Phase) → IsShaped (Some kind) dead phase → writes_status phase ≡ true
+pub status_of : (kind : StatusKind) (dead : Option FailCause) (phase : Phase) → IsShaped (Some kind) dead phase → writes_status phase ≡ true
 status_of kind dead phases.WritingStatus h = refl
 status_of kind dead phases.WritingLastStatus h = refl
 status_of kind dead phases.Reset h = absurd h
@@ -217,7 +217,7 @@ module _ (T : Target) (t : Turn) (a : AgentTurn) (step : AgentStep) (m : Machine
       untold_found = ap (λ (s : AgentStep). found_by told_so (body_of s.ask a.machine s.ended fifo)) step_is ∙ (by_ask step.ask refl found_is ∙ sym found_is)
 
     -- the laws find a label where the target does
-    found_alike : (finds : Body → Bool) → found ≡ found_by finds own → found_by its own ≡ found → found_by (finds_first T t a) asked ≡ found
+    pub found_alike : (finds : Body → Bool) → found ≡ found_by finds own → found_by its own ≡ found → found_by (finds_first T t a) asked ≡ found
     found_alike finds f g = by (is_untold_chunk a) refl
       where
         same_phase : (a.untold && is_answering m.phase) ≡ is_untold_chunk a

@@ -74,7 +74,7 @@ dies_by : (m : Machine) → (no_label m).0.dead ≡ dead_in m.phase
 unfolding lost_step
 dies_by m = loss_dead m.phase m
 
-fails_by : (m : Machine) → (no_label m).0.ended ≡ fails_in m.phase
+pub fails_by : (m : Machine) → (no_label m).0.ended ≡ fails_in m.phase
 unfolding lost_step
 fails_by m = loss_fails m.phase m
 

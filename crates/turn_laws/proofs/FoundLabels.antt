@@ -27,7 +27,7 @@ use Rattle.sbp_journal.specs.Transactions.{Kind, Part, Sending, Transaction, ask
 use Rattle.async_packet.specs.Fields.{rcode_of}
 use Rattle.sbp_journal.specs.Wire.{Held, Terms, arrives, closes, closes_if, free, gets, gets_as, is_news, is_served, judges, rests, terms, waits}
 use Rattle.sbp_journal.specs.declared.note.Note.TheVariants as notes
-use Rattle.sbp_laws.specs.Packets.{access_in_bytes, finds_label, label_for}
+use Rattle.sbp_laws.specs.Packets.{finds_label, label_for}
 use Rattle.sbp_laws.specs.Targets.{target_at}
 use Rattle.sbp_target.specs.declared.purpose.Purpose.{Purpose}
 use Rattle.sbp_target.specs.declared.purpose.Purpose.TheVariants as purposes
@@ -40,7 +40,7 @@ use Rattle.sbp_world.proofs.Agents.Management.Still.{hist}
 use Rattle.sbp_world.proofs.Wire.Asks.{upd_own}
 use Rattle.sbp_world.proofs.Wire.Found.{node_found}
 use Rattle.sbp_world.proofs.Wire.Holding.{latest_small}
-use Rattle.turn_laws.proofs.RequestLabels.{access_at, body_access, finds_at}
+use Rattle.turn_laws.proofs.RequestLabels.{AreOf, bytes_at, finds_at}
 use Rattle.turn_laws.proofs.StepLabels.{finds_in, peers_ask}
 use Rattle.turn_laws.proofs.Places.{Place}
 use Rattle.turn_laws.proofs.TurnWires.{Judges, alone, judged_stands, late_stands, repeated}
@@ -113,9 +113,9 @@ pub request_labels : (s : ℕ) (q : Sending) (label : ℕ) (kind : Kind) (t : Te
 request_labels s q label kind t was part =
     subst (λ o. SameLabels (gets o s t) t) (sym was) (subst (λ p. SameLabels (gets_as p s q (arrived s t)) t) (sym part) (judged_labels (asked_by q) s q t))
 
--- the packet of a request of an agent asks for what its body does
+-- the packet of a request of an agent is of its body
 abbrev pub Spells : ℕ → Layer Purpose → Login → Type 0
-Spells q layer login = (body : Body) → FitsRequest body → (asked : Asked) → (asking_step layer login.node body (purposes.Agent q)).0 ≡ Some asked → access_in_bytes asked.bytes ≡ body_access body
+Spells q layer login = (body : Body) → FitsRequest body → (asked : Asked) → (asking_step layer login.node body (purposes.Agent q)).0 ≡ Some asked → AreOf body asked.bytes
 
 -- ---- at a place, of the agent of a live login
 module _ (units ready : ℕ) (start : List Disk) (past : List Moment) (s : Scene) (here : Place units ready start past s) (q : ℕ) (login : Login) (there : login_at s.world.target q ≡ Some login) (live : is_live login ≡ true) where
@@ -171,8 +171,8 @@ module _ (units ready : ℕ) (start : List Disk) (past : List Moment) (s : Scene
     finds_there : finds_in q layer login body ≡ finds_label (terms (hist before v)) 0 (suc i) body
     finds_there = finds_at v stands 0 (suc i) low inside_there layer own_is login.node id_is body valid (purposes.Agent q)
 
-    spells_there : (asked : Asked) → (asking_step layer login.node body (purposes.Agent q)).0 ≡ Some asked → access_in_bytes asked.bytes ≡ body_access body
-    spells_there = access_at v stands 0 (suc i) low inside_there layer own_is login.node id_is body valid (purposes.Agent q)
+    spells_there : (asked : Asked) → (asking_step layer login.node body (purposes.Agent q)).0 ≡ Some asked → AreOf body asked.bytes
+    spells_there = bytes_at v stands 0 (suc i) low inside_there layer own_is login.node id_is body valid (purposes.Agent q)
 
   small_here : node.layer.node < 2 ^ 16
   small_here = here.holds.sound.nodes.target_holds.layer.small

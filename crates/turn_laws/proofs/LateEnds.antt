@@ -56,6 +56,7 @@ use Rattle.turn_laws.proofs.EndTries.{brought, brought_sides}
 use Rattle.turn_laws.proofs.FollowSends.{requests, requests_to_peer}
 use Rattle.turn_laws.proofs.FollowSides.{AreBeside}
 use Rattle.turn_laws.proofs.PushSends.{Pushes}
+use Rattle.turn_laws.proofs.TurnSends.{SendsOwn, sends_alone}
 use Rattle.turn_laws.proofs.TurnWrites.{all_writes, turn_writes}
 use Rattle.sbp_laws.specs.SentWrites.{writes_to}
 use Rattle.sbp_world.proofs.FitTarget.Agents.{lost_fits}
@@ -216,6 +217,15 @@ module _ (units ready : ℕ) (has : 0 < units) (start : List Disk) (past : List 
             refl others tt (requests_to_peer q login (found_at q new login l.0 l.1) new tells.behind l.0 l.1)
             (subst (λ (y : OutboxState). Pushes node.logins.places login.unit q out y.packets) (sym o_is) tells.sends)
 
+        sends : SendsOwn start (t rest) login.node (suc i) (requests q login (found_at q new login l.0 l.1) new tells.behind l.0 l.1)
+        sends =
+            let there = its.serve.login_is in
+            let live = its.serve.live in
+            let out = requests q login (found_at q new login l.0 l.1) new tells.behind l.0 l.1 in
+            let mine = initiator_is units ready has start past s here q login there live ∙ holder_is units ready has start past s here q login there live in
+            sends_alone start (t rest) login.node (suc i) w.generations (peer_is units ready start past s here q login there live ∙ ap (λ n. Some (suc n)) (sym mine)) o now refl others refl node.logins.places login.unit q out refl
+            (subst (λ (y : OutboxState). Pushes node.logins.places login.unit q out y.packets) (sym o_is) tells.sends)
+
         is_turn : IsTurnOf start T (t rest) (law_turn rest) l.0 l.1 login new
         is_turn =
             let plainly = plain_handed o now runless in
@@ -238,6 +248,7 @@ module _ (units ready : ℕ) (has : 0 < units) (start : List Disk) (past : List 
               tame = (lost_leaves d.agent its.which causes.Timeout).tame;
               behind = tells.behind;
               writes = writes;
+              sends = sends;
               holders = holder now;
               tickets = ticket_at now;
               told = ends;

@@ -184,3 +184,8 @@ pub mod RomOthers
 pub mod RomCarried
 pub mod RomPlaces
 pub mod RomRuns
+pub mod SentBodies
+pub mod SentOwn
+pub mod TurnSends
+pub mod FirstRequests
+pub mod AgentRequests

@@ -4,6 +4,8 @@ use Rattle.async_packet.specs.Labels.{LabelParts}
 use Rattle.async_packet.specs.Packet.{Packet, header_in}
 use Rattle.async_packet.specs.Reading.{reading}
 use Rattle.bus_transactions.specs.Judging.{AreJudged}
+use Rattle.bus_transactions.specs.Wire.{as_sending}
+use Rattle.sbp_world.proofs.Agents.Management.Holding.{was_sent}
 use Rattle.bus_transactions.proofs.FitJudged.{bytes_of, spelled}
 use Rattle.label_table.specs.Layer.{Layer, judging_step, of_response}
 use Rattle.label_table.specs.Requests.{reply_kind}
@@ -62,6 +64,8 @@ use Rattle.turn_laws.proofs.FollowEnds.{ends_in}
 use Rattle.turn_laws.proofs.FollowSends.{requests, requests_to_peer}
 use Rattle.turn_laws.proofs.FollowSides.{AreBeside, beside_others}
 use Rattle.turn_laws.proofs.PushSends.{Pushes}
+use Rattle.turn_laws.proofs.SentAnswers.{none_due}
+use Rattle.turn_laws.proofs.TurnSends.{SendsOwn, response_is, sends_alone}
 use Rattle.turn_laws.proofs.TurnWrites.{all_writes, turn_writes}
 use Rattle.turn_laws.proofs.FoundLabels.{peer_is, response_finds, response_spells}
 use Rattle.turn_laws.proofs.Handed.{handed}
@@ -194,6 +198,15 @@ module _ (units ready : ℕ) (has : 0 < units) (start : List Disk) (past : List 
             (still_bus (with_target x w)) (beside_others o.sides beside) tt (requests_to_peer q login (found_at q new login own.0 own.1) new tells.behind own.0 own.1)
             (subst (λ (y : OutboxState). Pushes node.logins.places login.unit q out y.packets) (sym o_is) tells.sends)
 
+        sends : SendsOwn start (t rest) login.node (suc i) (requests q login (found_at q new login own.0 own.1) new tells.behind own.0 own.1)
+        sends =
+            let out = requests q login (found_at q new login own.0 own.1) new tells.behind own.0 own.1 in
+            let mine = initiator_is units ready has start past s here q login there live ∙ holder_is units ready has start past s here q login there live in
+            sends_alone start (t rest) login.node (suc i) w.generations (peer_is units ready start past s here q login there live ∙ ap (λ n. Some (suc n)) (sym mine)) o now
+            (still_bus (with_target x w)) (beside_others o.sides beside) rest_is node.logins.places login.unit q out
+            (none_due start ms serial (as_sending one) (was_sent w here.holds.sound.stands serial one found) rest (response_is one.bytes p read some))
+            (subst (λ (y : OutboxState). Pushes node.logins.places login.unit q out y.packets) (sym o_is) tells.sends)
+
         is_turn : IsTurnOf start T (t rest) (law_turn plain rest) own.0 own.1 login new
         is_turn = record {
           step_is = steps.step;
@@ -214,6 +227,7 @@ module _ (units ready : ℕ) (has : 0 < units) (start : List Disk) (past : List 
           tame = (replied_leaves d.agent q plain run which answer).tame;
           behind = tells.behind;
           writes = writes;
+          sends = sends;
           holders = holder w;
           tickets = ticket_at w;
           told = ends;

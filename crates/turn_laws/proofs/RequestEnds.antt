@@ -42,6 +42,7 @@ use Rattle.sbp_target.specs.Nodes.{NodeState, Scene as TargetScene, desk_at, sce
 use Rattle.sbp_target.specs.Serving.{accessed_by, answered, asked_in, enabled, is_barred, point, pointed_by, ring, rung_by, serve, served_as}
 use Rattle.sbp_target.proofs.Histories.Following.{IsServed}
 use Rattle.sbp_target.proofs.Histories.Settled.{reaches}
+use Rattle.bus_transactions.specs.Judging.{AreJudged}
 use Rattle.sbp_world.specs.Hosts.Handing.{AreOthers}
 use Rattle.sbp_world.specs.Telling.{holder, ticket_at}
 use Rattle.sbp_world.specs.Worlds.{Scene, WorldState}
@@ -91,7 +92,7 @@ cut_none : (b : Bool) (q : ℕ) → NoEnds (told_cut b q cuts.AgentReset empty_o
 cut_none true q = tt
 cut_none false q = (tt, tt)
 
-module _ (units ready : ℕ) (has : 0 < units) (start : List Disk) (past : List Moment) (s : Scene) (here : Place units ready start past s) (serial : ℕ) (one : Sent) (found : found_sent serial s.world.store.kept ≡ Some one) (zero_to : one.to ≡ 0) (p : Packet) (read : reading one.bytes ≡ Ok p) (none : reply_kind p ≡ None) (new : Layer Purpose) (same_layer : new ≡ s.world.target.layer) (bar : is_barred s.world.target p ≡ false) (now : WorldState) (holders : (k : ℕ) → holder now k ≡ holder s.world k) (tickets : (k orb : ℕ) → ticket_at now k orb ≡ ticket_at s.world k orb) (places : now.places ≡ s.world.places) (bus_same : now.generations ≡ s.world.generations) (o : OutboxState) (others : AreOthers o.sides) where
+module _ (units ready : ℕ) (has : 0 < units) (start : List Disk) (past : List Moment) (s : Scene) (here : Place units ready start past s) (serial : ℕ) (one : Sent) (found : found_sent serial s.world.store.kept ≡ Some one) (zero_to : one.to ≡ 0) (judged : AreJudged (said (notes.Got serial) ∷ hist past s.world)) (p : Packet) (read : reading one.bytes ≡ Ok p) (none : reply_kind p ≡ None) (new : Layer Purpose) (same_layer : new ≡ s.world.target.layer) (bar : is_barred s.world.target p ≡ false) (now : WorldState) (holders : (k : ℕ) → holder now k ≡ holder s.world k) (tickets : (k orb : ℕ) → ticket_at now k orb ≡ ticket_at s.world k orb) (places : now.places ≡ s.world.places) (bus_same : now.generations ≡ s.world.generations) (o : OutboxState) (others : AreOthers o.sides) where
   abbrev w : WorldState
   w = s.world
 
@@ -213,7 +214,7 @@ module _ (units ready : ℕ) (has : 0 < units) (start : List Disk) (past : List 
             let fit = point_fits d.agent pointer is_pointer (here.holds.sound.nodes.target_holds.fits.agents q) in
             let there = carried.1 in
             turn_tells start t (by_pointer q A (Ok other, machine)) (law_is (Ok other, machine) f)
-            (opened_due units ready has start past s here serial one found zero_to p read none new same_layer q b served now holders tickets places bus_same ask m pointer machine al shaped carried.0 reads
+            (opened_due units ready has start past s here serial one found zero_to judged p read none new same_layer q b served now holders tickets places bus_same ask m pointer machine al shaped carried.0 reads
             (fit.ask ask (ap (λ (r : Result Ask PointRefusal × Machine). r.0) e)) (subst (λ (r : Result Ask PointRefusal × Machine). FitsAgent r.1) e fit.agent) there.0 there.1
             o (is ∙ ap (λ x. (asked_in q ask x (answered p one.bytes 0 [] (scene (with_desk here_scene.node q (record d { agent = m; pointer = present_of m })) (with_side empty_outbox (sides.Opened q (orb_of m)))))).outbox) served.is) others
             other (let same : other ≡ ask = cc in same) (listed_is (Ok other, machine) f))
@@ -253,9 +254,9 @@ module _ (units ready : ℕ) (has : 0 < units) (start : List Disk) (past : List 
           where
             by : (x : Bool) → is_reset (state_in d.agent.phase) ≡ x → IsShapedStep (asks ask, m) → Carries ask m.outgoing → IsNoWrite ask → FitsAsk ask → FitsAgent m → TellsFor start T t (by_doorbell q A (other, machine))
             by false up shaped carried reads fits_ask fits_agent =
-                rung_due units ready has start past s here serial one found zero_to p read none new same_layer q b served now holders tickets places bus_same ask m other machine g al shaped carried reads fits_ask fits_agent o outbox_is others up still_listed
+                rung_due units ready has start past s here serial one found zero_to judged p read none new same_layer q b served now holders tickets places bus_same ask m other machine g al shaped carried reads fits_ask fits_agent o outbox_is others up still_listed
             by true up shaped carried reads fits_ask fits_agent =
-                rung_none units ready has start past s here serial one found zero_to p read none new same_layer q b served now holders tickets places bus_same ask m other machine g al shaped carried reads fits_ask fits_agent o outbox_is others
+                rung_none units ready has start past s here serial one found zero_to judged p read none new same_layer q b served now holders tickets places bus_same ask m other machine g al shaped carried reads fits_ask fits_agent o outbox_is others
                 (sym (ap (λ (r : Ask × Machine). r.0) e) ∙ reset_rings d.agent up)
 
       rings : (r : Ask × Machine) → o ≡ (rung_by q p one.bytes r here_scene).outbox → doorbell_step d.agent ≡ r → Due

@@ -45,11 +45,27 @@ label_access number from to (quadlet_read offset) = refl
 label_access number from to (block_read offset asked) = refl
 
 -- a request with another label
-with_other : (from to n : ℕ) (body : Body) → relabelled n (request_with (header_to from to 0) body) ≡ request_with (header_to from to n) body
+pub with_other : (from to n : ℕ) (body : Body) → relabelled n (request_with (header_to from to 0) body) ≡ request_with (header_to from to n) body
 with_other from to n (quadlet_write offset value) = refl
 with_other from to n (block_write offset payload) = refl
 with_other from to n (quadlet_read offset) = refl
 with_other from to n (block_read offset wanted) = refl
+
+-- these bytes ask for this, from one ID to another, under some label
+pub record AreOf (body : Body) (bytes : List ℕ) : Type 0 where
+  pub source : ℕ
+  pub destination : ℕ
+  pub label : ℕ
+  pub valid : IsValid (request_with (header_to source destination 0) body)
+  pub small : label < 64
+  pub spelled : bytes ≡ with_label label (canon (request_with (header_to source destination 0) body))
+
+pub access_in_body : (body : Body) (bytes : List ℕ) → AreOf body bytes → access_in_bytes bytes ≡ body_access body
+access_in_body body bytes a =
+    let p = request_with (header_to a.source a.destination 0) body in
+    let q = relabelled a.label p in
+    let spelled : bytes ≡ canon q = a.spelled ∙ writes_labels.canonical p a.label a.valid a.small in
+    ap access_in_bytes spelled ∙ (ap (λ r. access_in (spelled_by r)) (reading_spelled (canon q) q (canon_spells q (writes_labels.valid p a.label a.valid a.small))) ∙ label_access a.label a.source a.destination body)
 
 -- a request that found a label is canonical under it, and that is the lowest that serves
 pub record IsSpelled (t : Terms) (node peer : ℕ) (body : Body) (asked : Asked) : Type 0 where
@@ -168,14 +184,10 @@ module _ {P : Type 0} {past : List Moment} {layers : ℕ → Node} (w : WorldSta
             ∙ ap (λ ms. let t = terms ms in canon (request_with (header_to (t.ids (t.generation node) node) (t.ids (t.generation node) peer) n) body)) stands.is.past_is;
       }
 
-  -- and what it asks for
-  pub access_at : (purpose : P) (asked : Asked) → (asking_step layer id body purpose).0 ≡ Some asked → access_in_bytes asked.bytes ≡ body_access body
-  access_at purpose asked e =
+  -- of its body
+  pub bytes_at : (purpose : P) (asked : Asked) → (asking_step layer id body purpose).0 ≡ Some asked → AreOf body asked.bytes
+  bytes_at purpose asked e =
       let own_layer = wire.layer node in
       let to = id_for wire node peer in
       let n = named_by asked (asking_step own_layer to body tt) (asks own_layer to body (wire_holds.nodes node).places) (sym (asks_same purpose) ∙ e) in
-      let number = asked.label.number in
-      let p = request_with (header_to own_layer.node to 0) body in
-      let q = relabelled number p in
-      let spelled : asked.bytes ≡ canon q = n.1 ∙ writes_labels.canonical p number may.valid n.0 in
-      ap access_in_bytes spelled ∙ (ap (λ r. access_in (spelled_by r)) (reading_spelled (canon q) q (canon_spells q (writes_labels.valid p number may.valid n.0))) ∙ label_access number own_layer.node to body)
+      record { source = own_layer.node; destination = to; label = asked.label.number; valid = may.valid; small = n.0; spelled = n.1 }

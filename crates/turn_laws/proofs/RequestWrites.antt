@@ -38,7 +38,7 @@ use Rattle.turn_laws.proofs.EndTries.{fails_in}
 use Rattle.turn_laws.proofs.FollowEnds.{no_label}
 use Rattle.turn_laws.proofs.FollowSends.{packet_of, requested, requested_ahead}
 use Rattle.turn_laws.proofs.FoundLabels.{Spells}
-use Rattle.turn_laws.proofs.RequestLabels.{body_access}
+use Rattle.turn_laws.proofs.RequestLabels.{access_in_body, body_access}
 use Rattle.turn_laws.proofs.StepLabels.{finds_in}
 use Rattle.turn_laws.proofs.TurnWrites.{all_writes}
 
@@ -61,7 +61,7 @@ module _ (node q : ℕ) (layer : Layer Purpose) (login : Login) (spells : Spells
   write = record { to = node; offset = offset; payload = payload }
 
   pub write_sent : FitsRequest body → all_writes node (requested q login layer (Some body)) ≡ cond (finds_in q layer login body) (write ∷ []) []
-  write_sent fit = written_by node login.node offset payload (asking_step layer login.node body (purposes.Agent q)).0 (spells body fit)
+  write_sent fit = written_by node login.node offset payload (asking_step layer login.node body (purposes.Agent q)).0 (λ asked e. access_in_body body asked.bytes (spells body fit asked e))
 
 -- what finds none is not sent
 module _ (q : ℕ) (layer : Layer Purpose) (login : Login) where

@@ -69,7 +69,7 @@ one_unsent (sides.Own note) w h = (h, tt)
 one_unsent (sides.Opened place orb) w h = tt
 one_unsent side w h = (refl, tt)
 
-told_unsent : (weight : ℕ) (later : List Side) (w : WorldState) → AreUnsent later → AllUnsent (notes_told weight later w)
+pub told_unsent : (weight : ℕ) (later : List Side) (w : WorldState) → AreUnsent later → AllUnsent (notes_told weight later w)
 told_unsent weight [] w h = tt
 told_unsent weight (side ∷ later) w h =
     let v = told weight side w in both_unsent (note_of side w) (notes_told weight later v) (one_unsent side w h.0) (told_unsent weight later v h.1)
@@ -152,29 +152,33 @@ module _ (start : List Disk) (ms : List Moment) (serial : ℕ) (q : Sending) (wa
   Law rest = AnswersLaw start (at rest)
 
   -- of a response nothing is asked
-  response_answers : (rest : List Note) → is_response (part_of q.bytes) ≡ true → Law rest
-  response_answers rest e =
-      let due : answers_to start (at rest) (t.sent serial) ≡ [] =
+  pub none_due : (rest : List Note) → is_response (part_of q.bytes) ≡ true → answers_to start (at rest) (t.sent serial) ≡ []
+  none_due rest e =
       ap (answers_to start (at rest)) was
-      ∙ ap (λ b. cond b (reply_packet t q (reply_in start (at rest) q.to (access_in (packet_in (Some q))))) []) (unanswered (part_of q.bytes) e) in
-      subst (λ ns. Begins ns (sends_of rest)) (sym due) tt
+      ∙ ap (λ b. cond b (reply_packet t q (reply_in start (at rest) q.to (access_in (packet_in (Some q))))) []) (unanswered (part_of q.bytes) e)
+
+  response_answers : (rest : List Note) → is_response (part_of q.bytes) ≡ true → Law rest
+  response_answers rest e = subst (λ ns. Begins ns (sends_of rest)) (sym (none_due rest e)) tt
 
   -- the reply of the terms to a request
   module _ (p : Packet) (access : Access) (read : reading q.bytes ≡ Ok p) (is : access_of p ≡ Some access) where
     abbrev pub reply : Reply
     reply = reply_of start ms target q.to access
 
-    pub request_answers : (rest more : List Note) → sends_of rest ≡ answer_packet t q reply.rcode reply.given (Some p) ++ more → Law rest
-    request_answers rest more first =
+    -- and so the response that is due
+    pub reply_due : (rest : List Note) → answers_to start (at rest) (t.sent serial) ≡ answer_packet t q reply.rcode reply.given (Some p)
+    reply_due rest =
         let asks : is_answered (part_of q.bytes) ≡ true = ap is_answered (part_read q.bytes p read) ∙ asks_part p access is in
         let spelled : packet_in (Some q) ≡ Some p = ap spelled_by read in
-        let due : answers_to start (at rest) (t.sent serial) ≡ answer_packet t q reply.rcode reply.given (Some p) =
         ap (answers_to start (at rest)) was
         ∙ (ap (λ b. cond b (reply_packet t q (reply_in start (at rest) q.to (access_in (packet_in (Some q))))) []) asks
         ∙ (ap (λ k. reply_packet t q (reply_in start (at rest) q.to (access_in k))) spelled
         ∙ (ap (λ a. reply_packet t q (reply_in start (at rest) q.to a)) is
-        ∙ ap (λ k. answer_packet t q reply.rcode reply.given k) spelled))) in
-        subst (λ ns. Begins ns (sends_of rest)) (sym due)
+        ∙ ap (λ k. answer_packet t q reply.rcode reply.given k) spelled)))
+
+    pub request_answers : (rest more : List Note) → sends_of rest ≡ answer_packet t q reply.rcode reply.given (Some p) ++ more → Law rest
+    request_answers rest more first =
+        subst (λ ns. Begins ns (sends_of rest)) (sym (reply_due rest))
         (subst (Begins (answer_packet t q reply.rcode reply.given (Some p))) (sym first) (refl, tt))
 
   -- by what a packet is found to be: what is left is a request that is got

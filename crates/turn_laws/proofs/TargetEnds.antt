@@ -83,7 +83,7 @@ module _ (units ready : ℕ) (has : 0 < units) (start : List Disk) (past : List 
 
     got_ends : is_barred node p ≡ false → (x : NodeState) (o : OutboxState) → o ≡ (serve p one.bytes left).outbox → AreOthers o.sides → AreJudged (said (notes.Got serial) ∷ ms) → Ends judgements.Got x o
     got_ends bar x o is others judged =
-        request_ends units ready has start past s here serial one found zero_to p read kind new same bar (behind judgements.Got x)
+        request_ends units ready has start past s here serial one found zero_to judged p read kind new same bar (behind judgements.Got x)
         (still_holder units ready has start past s here serial again one found zero_to judged (with_target x w))
         (still_ticket units ready has start past s here serial again one found zero_to judged (with_target x w))
         (still_places (with_target x w)) (still_bus units ready has start past s here serial again one found zero_to judged (with_target x w)) o others is

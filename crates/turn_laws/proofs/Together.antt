@@ -1,6 +1,7 @@
 -- The laws of turns of every run, together.
 use Rattle.turn_laws.specs.Together.{TurnsLaw}
 use Rattle.turn_laws.proofs.ActRequests.{act_requests_law}
+use Rattle.turn_laws.proofs.AgentRequests.{agent_requests_law}
 use Rattle.turn_laws.proofs.Actions.{actions_law}
 use Rattle.turn_laws.proofs.Aborts.{aborts_law}
 use Rattle.turn_laws.proofs.AnswerRuns.{answered_law}
@@ -33,6 +34,7 @@ turns_law = record {
     login = login_run_law.after_lines line run is some most size;
     actions = actions_law.after_lines line run is some most size;
     act_requests = act_requests_law.after_lines line run is some most size;
+    agent_requests = agent_requests_law.after_lines line run is some most size;
     ordered = ordered_law.after_lines line run is some most size;
     cuts = cuts_law.after_lines line run is some most size;
     cleared = cleared_law.after_lines line run is some most size;
@@ -60,6 +62,7 @@ turns_law = record {
     login = login_run_law.between line run is some most size next deliveries told may;
     actions = actions_law.between line run is some most size next deliveries told may;
     act_requests = act_requests_law.between line run is some most size next deliveries told may;
+    agent_requests = agent_requests_law.between line run is some most size next deliveries told may;
     ordered = ordered_law.between line run is some most size next deliveries told may;
     cuts = cuts_law.between line run is some most size next deliveries told may;
     cleared = cleared_law.between line run is some most size next deliveries told may;

@@ -31,3 +31,4 @@ pub mod ActRequests
 pub mod ActEntries
 pub mod Together
 pub mod RunsEnd
+pub mod AgentRequests

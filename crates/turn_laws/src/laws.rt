@@ -3,6 +3,7 @@ ghost use Rattle.turn_laws.specs.Aborts.{AbortsLaw};
 ghost use Rattle.turn_laws.specs.ActEntries.{ActEntriesLaw};
 ghost use Rattle.turn_laws.specs.ActRequests.{ActRequestsLaw};
 ghost use Rattle.turn_laws.specs.Actions.{ActionsLaw};
+ghost use Rattle.turn_laws.specs.AgentRequests.{AgentRequestsLaw};
 ghost use Rattle.turn_laws.specs.Alone.{AloneLaw};
 ghost use Rattle.turn_laws.specs.Announced.{AnnouncedLaw};
 ghost use Rattle.turn_laws.specs.Answers.{AnsweredLaw};
@@ -285,4 +286,15 @@ pub fn actions_send_their_requests()
 #[tactic(auto, using(crate::proofs::ActEntries::act_entries_law))]
 pub fn lines_of_actions_bring_their_notes()
     ensures { ActEntriesLaw }
+{}
+
+/// In each turn of every run, whatever anybody injected, the packets behind the response begin with the request that
+/// an agent of the target has first, where the laws have one: that of its step, or, where that finds no label, the
+/// status of the ORB that fails so. It has the next serial, goes in the target's generation to the initiator of the
+/// login, and is spelled canonically under the lowest label that serves it; of a chunk that its medium did not tell
+/// the number of its bytes is due. So much of `requests` of the sent law: not the read ahead, and not what is sent
+/// behind it.
+#[tactic(auto, using(crate::proofs::AgentRequests::agent_requests_law))]
+pub fn agents_send_their_requests_first()
+    ensures { AgentRequestsLaw }
 {}
