@@ -97,7 +97,7 @@ sender_is packet u label kind part begun =
     requester_in (Some u) = u.requester
 
 -- a label that expires is of the generation of its layer
-by_life : {G : Type 0} (x : Life Purpose) (purpose : Option Purpose) → IsFor purpose x → ((kind : ReplyKind) → x ≡ under_way kind purpose → G) → G
+pub by_life : {G : Type 0} (x : Life Purpose) (purpose : Option Purpose) → IsFor purpose x → ((kind : ReplyKind) → x ≡ under_way kind purpose → G) → G
 by_life (under_way kind other) purpose f g = g kind (ap (λ (q : Option Purpose). under_way kind q) f)
 by_life not_begun purpose f g = absurd f
 by_life over purpose f g = absurd f

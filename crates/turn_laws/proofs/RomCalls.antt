@@ -3,7 +3,7 @@ use Rattle.std.proofs.Common.{arith, ◌≡◌, ◌∙◌, inl, inr, ◌⊎◌, 
 use Rattle.async_packet.specs.Labels.{LabelParts}
 use Rattle.bus_transactions.specs.Fitting.{IsLayer}
 use Rattle.bus_transactions.proofs.FitSteps.{expires_same, goes}
-use Rattle.label_table.specs.History.{IsFor, Life, Told, and_before, ended, expired, is_same, lets_expire, life, told_by_expiring, under_way, not_begun, over}
+use Rattle.label_table.specs.History.{Told, and_before, ended, expired, is_same, lets_expire, life, told_by_expiring, under_way, over}
 use Rattle.label_table.specs.History as wire
 use Rattle.label_table.specs.Layer.{Layer, expiring_step, seen_in_generation, seeing_step}
 use Rattle.label_table.specs.Peers.{state_for}
@@ -54,15 +54,11 @@ use Rattle.sbp_world.proofs.Lists.ManageHears.{lapses_left}
 use Rattle.sbp_world.proofs.Pointers.Asks.{act_allowed}
 use Rattle.sbp_world.proofs.Pointers.Finds.{expires_at, none_ended, same_serial}
 use Rattle.sbp_world.proofs.Pointers.WaitActs.{none_seen}
+use Rattle.turn_laws.proofs.OwnTurns.{by_life}
 use Rattle.turn_laws.proofs.ReadsUnderWay.{LapsedFor, expire_goes}
-use Rattle.turn_laws.proofs.RomLabels.{CallRom, IsGone, OneRom, RomAt, called_layer, ended_call, from, next_call, plainly, same_rom, reads, sends_none, stays, was_by}
+use Rattle.turn_laws.proofs.RomLabels.{CallRom, IfRom, IsGone, OneRom, RomAt, Within, called_layer, ended_call, from, next_call, plainly, same_rom, reads, sends_none, was_by}
 
 -- ---- a transaction that timed out is over
-by_life : {G : Type 0} (x : Life Purpose) (purpose : Option Purpose) → IsFor purpose x → ((kind : ReplyKind) → x ≡ under_way kind purpose → G) → G
-by_life (under_way kind other) purpose f g = g kind (ap (λ (q : Option Purpose). under_way kind q) f)
-by_life not_begun purpose f g = absurd f
-by_life over purpose f g = absurd f
-
 module _ (layer : Layer Purpose) (peer : ℕ) (label : LabelParts) (purpose : Option Purpose) (c : Called layer) (f : (expiring_step layer peer label).0 ≡ Ok purpose) where
   abbrev old : Layer Purpose
   old = wire.after c.node c.calls
@@ -180,10 +176,6 @@ module _ (ready : Bool) (i : ℕ) (s : InitiatorState) (own : IsCalled ready i s
     unfolding expire_step
     late_call = by_found (expiring_step s.layer s.target label) refl refl
 
-  -- ---- a sight of no new generation
-  pub self_call : CallRom s (empty_outbox, s)
-  self_call = stays (λ n a x. x) refl (λ r e k. e) (λ r e k. sends_none refl) h
-
   -- ---- an action
   abbrev demand : Demand
   demand = record { wanted = wants.Read 0xffff_f000_0400; purpose = purposes.Rom s.counts.acts }
@@ -234,7 +226,7 @@ module _ (ready : Bool) (i : ℕ) (s : InitiatorState) (own : IsCalled ready i s
         by None f = e
         by (Some operation) f = none_is r (sym f ∙ e)
 
-    leaves : ((n a : ℕ) → RomAt act_turn.1.layer s.target n a → RomAt s.layer s.target n a) → ((n a : ℕ) → RomAt s.layer s.target n a → RomAt act_turn.1.layer s.target n a) → act_turn.1.layer.generation ≡ s.layer.generation → LeavesRom s act_turn
+    leaves : Within act_turn.1.layer s.layer s.target → Within s.layer act_turn.1.layer s.target → act_turn.1.layer.generation ≡ s.layer.generation → LeavesRom s act_turn
     leaves back forth g = record { back = from s h act_turn left.target_is back forth g act_was act_now; generation = g; was = act_was; one = same_rom s h act_turn left.target_is back forth g act_was act_now }
 
     module _ (packet : Outgoing) (one : act_turn.0.packets ≡ packet ∷ []) where
@@ -288,12 +280,13 @@ see_over generation id target s e =
     ap (λ b. (seen_as (cond b (true, seen_in_generation s.layer generation id) (false, s.layer)) target empty_outbox s).1.operation) e
     ∙ (let u : InitiatorState = record s { layer = seen_in_generation s.layer generation id } in (list_drops (resets_told u.number u.operation u.states empty_outbox) (interrupted u target)).operation)
 
-pub seen_rom : (ready : Bool) (generation id target : ℕ) (past : List Moment) (i : ℕ) (s : InitiatorState) → (seeing_step s.layer generation id).0 ≡ not (generation == (terms past).generation (suc i)) → IsAimed ready i s → nat_lt s.layer.generation generation ≡ true → OneRom (see_step generation id target empty_outbox s).1
-seen_rom ready generation id target past i s flag aimed later =
-    let none = none_seen ready generation id target past i s flag aimed later in
-    let t = see_step generation id target empty_outbox s in
-    record {
-      runs = λ n a x. absurd (none t.1.target n (Some (purposes.Rom a)) x);
-      one = λ n a m b x y. absurd (none t.1.target n (Some (purposes.Rom a)) x);
-      has = λ r e k. none_is r (sym (see_over generation id target s later) ∙ e);
-    }
+module _ (ready : Bool) (generation id target : ℕ) (past : List Moment) (i : ℕ) (s : InitiatorState) where
+  pub seen_rom : (seeing_step s.layer generation id).0 ≡ not (generation == (terms past).generation (suc i)) → IsAimed ready i s → nat_lt s.layer.generation generation ≡ true → OneRom (see_step generation id target empty_outbox s).1
+  seen_rom flag aimed later =
+      let none = none_seen ready generation id target past i s flag aimed later in
+      let t = see_step generation id target empty_outbox s in
+      record {
+        runs = λ n a x. absurd (none t.1.target n (Some (purposes.Rom a)) x);
+        one = λ n a m b x y. absurd (none t.1.target n (Some (purposes.Rom a)) x);
+        has = λ r e k. none_is r (sym (see_over generation id target s later) ∙ e);
+      }

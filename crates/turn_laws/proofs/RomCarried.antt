@@ -21,7 +21,7 @@ use Rattle.sbp_world.proofs.Formed.{AreOwn}
 use Rattle.sbp_world.proofs.Hosts.Hosting.{state_here, state_there}
 use Rattle.sbp_world.proofs.Wire.Begun.{is_begin, same_initiators}
 use Rattle.sbp_world.proofs.Wire.Nodes.{handed_alike}
-use Rattle.turn_laws.proofs.Calls.{Brings, Stays, calls, injects, loses, refuses, refuses_action, resets, sets_key}
+use Rattle.turn_laws.proofs.Calls.{Brings, calls, injects, loses, refuses, refuses_action, resets, sets_key}
 use Rattle.turn_laws.proofs.Handed.{handed, handed_fresh, onto}
 use Rattle.turn_laws.proofs.RomOthers.{initiator_none, keeps_injected, target_none}
 use Rattle.turn_laws.proofs.RomTerms.{Keeps, NoneMine, is_mine, keeps_line, keeps_note, keeps_rest, keeps_then}
@@ -68,6 +68,9 @@ module _ (ms : List Moment) (w : WorldState) (k : RomsOf ms w) (then : List Mome
     abbrev now : List Moment
     now = map said (onto more v.fresh) ++ then
 
+    abbrev pub Kept : Type 0
+    Kept = RomsOf (hist then behind) behind
+
     now_is : hist then behind ≡ now
     now_is = ap (λ ns. map said ns ++ then) (handed_fresh from weight outbox v)
 
@@ -78,7 +81,7 @@ module _ (ms : List Moment) (w : WorldState) (k : RomsOf ms w) (then : List Mome
     count_now j none = ap initiators now_is ∙ rest_count j more v.fresh then none ∙ counted ∙ k.count
 
   -- of the target
-  pub target_turn : (weight : ℕ) (outbox : OutboxState) → v.initiators ≡ w.initiators → AreOthers outbox.sides → RomsOf (hist then (handed_out 0 weight outbox v)) (handed_out 0 weight outbox v)
+  pub target_turn : (weight : ℕ) (outbox : OutboxState) → v.initiators ≡ w.initiators → AreOthers outbox.sides → Kept 0 weight outbox
   target_turn weight outbox same others =
       let behind_it = handed_out 0 weight outbox v in
       let states : behind_it.initiators ≡ w.initiators = (handed_alike 0 weight outbox v).initiators ∙ same in
@@ -91,7 +94,7 @@ module _ (ms : List Moment) (w : WorldState) (k : RomsOf ms w) (then : List Mome
       }
 
   -- of an initiator
-  pub own_turn : (i weight : ℕ) (outbox : OutboxState) (state : InitiatorState) → i < length w.initiators → v.initiators ≡ (with_initiator i state w).initiators → AreOwn outbox.sides → RomOf (now (suc i) weight outbox) i state → RomsOf (hist then (handed_out (suc i) weight outbox v)) (handed_out (suc i) weight outbox v)
+  pub own_turn : (i weight : ℕ) (outbox : OutboxState) (state : InitiatorState) → i < length w.initiators → v.initiators ≡ (with_initiator i state w).initiators → AreOwn outbox.sides → RomOf (now (suc i) weight outbox) i state → Kept (suc i) weight outbox
   own_turn i weight outbox state inside same own rom =
       let behind_it = handed_out (suc i) weight outbox v in
       let states : behind_it.initiators ≡ (with_initiator i state w).initiators = (handed_alike (suc i) weight outbox v).initiators ∙ same in

@@ -52,6 +52,14 @@ use Rattle.turn_laws.proofs.RomTerms.{IsReply, response_replies}
 abbrev pub RomAt : Layer Purpose → (target n a : ℕ) → Type 0
 RomAt layer target n a = At layer target n (Some (purposes.Rom a))
 
+-- those of a layer are among those of another
+abbrev pub Within : Layer Purpose → Layer Purpose → (target : ℕ) → Type 0
+Within l m target = (n a : ℕ) → RomAt l target n a → RomAt m target n a
+
+-- what holds of a ROM that is under way
+abbrev pub IfRom : InitiatorState → (Running → Type 0) → Type 0
+IfRom u Holds = (r : Running) → u.operation ≡ Some r → r.operation ≡ operations.Rom → Holds r
+
 pub record IsRom (a : ℕ) (operation : Option Running) : Type 0 where
   pub running : Running
   pub is : operation ≡ Some running
@@ -74,7 +82,7 @@ pub data IsQuiet (t : Turn) : Type 0 where
 
 -- It leaves the labels; or its one packet asks for a quadlet, under the one label of a ROM.
 pub data CallRom (s : InitiatorState) (t : Turn) : Type 0 where
-  stays : ((n a : ℕ) → RomAt t.1.layer t.1.target n a → RomAt s.layer s.target n a) → t.1.layer.generation ≡ s.layer.generation → ((r : Running) → t.1.operation ≡ Some r → r.operation ≡ operations.Rom → s.operation ≡ Some r) → ((r : Running) → s.operation ≡ Some r → r.operation ≡ operations.Rom → IsQuiet t) → OneRom t.1 → CallRom s t
+  stays : ((n a : ℕ) → RomAt t.1.layer t.1.target n a → RomAt s.layer s.target n a) → t.1.layer.generation ≡ s.layer.generation → IfRom t.1 (λ r. s.operation ≡ Some r) → IfRom s (λ r. IsQuiet t) → OneRom t.1 → CallRom s t
   reads : (asked : Asked) (a : ℕ) → t.0.packets ≡ outgoing s.target asked ∷ [] → IsRequest asked.label.number asked.bytes → RomAt t.1.layer t.1.target asked.label.number a → ((n b : ℕ) → RomAt t.1.layer t.1.target n b → n ≡ asked.label.number) → OneRom t.1 → CallRom s t
 
 same_purpose : (a b : ℕ) → Some (purposes.Rom a) ≡ Some (purposes.Rom b) → a ≡ b
@@ -99,7 +107,7 @@ apart_fits r (purposes.Rom act) e f = tt
 
 -- ---- where the labels are those behind a call of the layer that closes none of a ROM
 module _ (s : InitiatorState) (h : OneRom s) (t : Turn) (target_is : t.1.target ≡ s.target) where
-  module _ (back : (n a : ℕ) → RomAt t.1.layer s.target n a → RomAt s.layer s.target n a) (forth : (n a : ℕ) → RomAt s.layer s.target n a → RomAt t.1.layer s.target n a) (generation_is : t.1.layer.generation ≡ s.layer.generation) (was : (r : Running) → t.1.operation ≡ Some r → r.operation ≡ operations.Rom → s.operation ≡ Some r) (now : (r : Running) → s.operation ≡ Some r → r.operation ≡ operations.Rom → t.1.operation ≡ Some r) where
+  module _ (back : Within t.1.layer s.layer s.target) (forth : Within s.layer t.1.layer s.target) (generation_is : t.1.layer.generation ≡ s.layer.generation) (was : IfRom t.1 (λ r. s.operation ≡ Some r)) (now : IfRom s (λ r. t.1.operation ≡ Some r)) where
     pub from : (n a : ℕ) → RomAt t.1.layer t.1.target n a → RomAt s.layer s.target n a
     from n a x = back n a (subst (λ p. RomAt t.1.layer p n a) target_is x)
 
@@ -110,7 +118,7 @@ module _ (s : InitiatorState) (h : OneRom s) (t : Turn) (target_is : t.1.target 
       has = λ r e k. (let l = h.has r (was r e k) k in record { number = l.number; at = subst (λ p. RomAt t.1.layer p l.number r.act) (sym target_is) (forth l.number r.act l.at) });
     }
 
-    pub plain_call : ((r : Running) → s.operation ≡ Some r → r.operation ≡ operations.Rom → IsQuiet t) → CallRom s t
+    pub plain_call : IfRom s (λ r. IsQuiet t) → CallRom s t
     plain_call quiet = stays from generation_is was quiet same_rom
 
   -- where none is left, and no operation
@@ -121,38 +129,39 @@ module _ (s : InitiatorState) (h : OneRom s) (t : Turn) (target_is : t.1.target 
       (record { runs = λ n a x. absurd (never n a x); one = λ n a m b x y. absurd (never n a x); has = λ r e k. none_is r (sym ended ∙ e) })
 
   -- where one is asked for behind that
-  pub next_call : s.target < 2 ^ 16 → (l : Layer Purpose) → IsLayer l → Called l → ((n a : ℕ) → RomAt l s.target n a → ⊥) → (body : Body) (asked : Asked) (r : Running) → FitsRequest body → t.1.operation ≡ Some r → r.operation ≡ operations.Rom → asking_step l s.target body (purposes.Rom r.act) ≡ (Some asked, t.1.layer) → t.0.packets ≡ outgoing s.target asked ∷ [] → CallRom s t
-  next_call small l valid c none body asked r fits is kind step sent = reads asked r.act sent asks begins only (record {
-    runs = λ n a x. record { running = r; is = is; kind = kind; act = sym (rom_is n a x) };
-    one = λ n a m b x y. only n a x ∙ sym (only m b y);
-    has = λ q e k. record { number = asked.label.number; at = subst (λ (y : Running). RomAt t.1.layer t.1.target asked.label.number y.act) (same_some r q (sym is ∙ e)) begins };
-  })
-    where
-      same_some : (x y : Running) → Some x ≡ Some y → x ≡ y
-      same_some x y e = cc
+  module _ (small : s.target < 2 ^ 16) (l : Layer Purpose) (valid : IsLayer l) (c : Called l) (none : (n a : ℕ) → RomAt l s.target n a → ⊥) where
+    pub next_call : (body : Body) (asked : Asked) (r : Running) → FitsRequest body → t.1.operation ≡ Some r → r.operation ≡ operations.Rom → asking_step l s.target body (purposes.Rom r.act) ≡ (Some asked, t.1.layer) → t.0.packets ≡ outgoing s.target asked ∷ [] → CallRom s t
+    next_call body asked r fits is kind step sent = reads asked r.act sent asks begins only (record {
+      runs = λ n a x. record { running = r; is = is; kind = kind; act = sym (rom_is n a x) };
+      one = λ n a m b x y. only n a x ∙ sym (only m b y);
+      has = λ q e k. record { number = asked.label.number; at = subst (λ (y : Running). RomAt t.1.layer t.1.target asked.label.number y.act) (same_some r q (sym is ∙ e)) begins };
+    })
+      where
+        same_some : (x y : Running) → Some x ≡ Some y → x ≡ y
+        same_some x y e = cc
 
-      asks : IsRequest asked.label.number asked.bytes
-      asks = subst IfRequest (ap (λ (x : Option Asked × Layer Purpose). x.0) step) (is_request l s.target body (purposes.Rom r.act) valid (request_fits l.node s.target body valid.small small fits))
+        asks : IsRequest asked.label.number asked.bytes
+        asks = subst IfRequest (ap (λ (x : Option Asked × Layer Purpose). x.0) step) (is_request l s.target body (purposes.Rom r.act) valid (request_fits l.node s.target body valid.small small fits))
 
-      begins : RomAt t.1.layer t.1.target asked.label.number r.act
-      begins = subst (λ p. RomAt t.1.layer p asked.label.number r.act) (sym target_is) (ask_begins l s.target body (purposes.Rom r.act) asked t.1.layer c step)
+        begins : RomAt t.1.layer t.1.target asked.label.number r.act
+        begins = subst (λ p. RomAt t.1.layer p asked.label.number r.act) (sym target_is) (ask_begins l s.target body (purposes.Rom r.act) asked t.1.layer c step)
 
-      found : (n a : ℕ) → RomAt t.1.layer t.1.target n a → AskedAt l s.target asked (purposes.Rom r.act) s.target n (Some (purposes.Rom a))
-      found n a x = ask_at l s.target body (purposes.Rom r.act) asked t.1.layer s.target n (Some (purposes.Rom a)) c step (subst (λ p. RomAt t.1.layer p n a) target_is x)
+        found : (n a : ℕ) → RomAt t.1.layer t.1.target n a → AskedAt l s.target asked (purposes.Rom r.act) s.target n (Some (purposes.Rom a))
+        found n a x = ask_at l s.target body (purposes.Rom r.act) asked t.1.layer s.target n (Some (purposes.Rom a)) c step (subst (λ p. RomAt t.1.layer p n a) target_is x)
 
-      only : (n a : ℕ) → RomAt t.1.layer t.1.target n a → n ≡ asked.label.number
-      only n a x = by (found n a x)
-        where
-          by : AskedAt l s.target asked (purposes.Rom r.act) s.target n (Some (purposes.Rom a)) → n ≡ asked.label.number
-          by (asked_now p e f) = e
-          by (was_asked y) = absurd (none n a y)
+        only : (n a : ℕ) → RomAt t.1.layer t.1.target n a → n ≡ asked.label.number
+        only n a x = by (found n a x)
+          where
+            by : AskedAt l s.target asked (purposes.Rom r.act) s.target n (Some (purposes.Rom a)) → n ≡ asked.label.number
+            by (asked_now p e f) = e
+            by (was_asked y) = absurd (none n a y)
 
-      rom_is : (n a : ℕ) → RomAt t.1.layer t.1.target n a → a ≡ r.act
-      rom_is n a x = by (found n a x)
-        where
-          by : AskedAt l s.target asked (purposes.Rom r.act) s.target n (Some (purposes.Rom a)) → a ≡ r.act
-          by (asked_now p e f) = same_purpose a r.act f
-          by (was_asked y) = absurd (none n a y)
+        rom_is : (n a : ℕ) → RomAt t.1.layer t.1.target n a → a ≡ r.act
+        rom_is n a x = by (found n a x)
+          where
+            by : AskedAt l s.target asked (purposes.Rom r.act) s.target n (Some (purposes.Rom a)) → a ≡ r.act
+            by (asked_now p e f) = same_purpose a r.act f
+            by (was_asked y) = absurd (none n a y)
 
 -- ---- the operation is as before, or over
 pub was_by : (s u : InitiatorState) (Why : Running → Type 0) → leaves.Left s Why u → (r : Running) → u.operation ≡ Some r → s.operation ≡ Some r
@@ -179,13 +188,20 @@ module _ (ready : Bool) (i : ℕ) (s : InitiatorState) (own : IsCalled ready i s
     pub at : RomAt s.layer s.target number a
     pub none : (b : ℕ) → RomAt J s.target number b → ⊥
 
-  module _ (J : Layer Purpose) (called_J : Called J) (valid_J : IsLayer J) (generation_is : J.generation ≡ s.layer.generation) (back : (n a : ℕ) → RomAt J s.target n a → RomAt s.layer s.target n a) where
+  module _ (J : Layer Purpose) (called_J : Called J) (valid_J : IsLayer J) (generation_is : J.generation ≡ s.layer.generation) (back : Within J s.layer s.target) where
     abbrev here : InitiatorState
     here = record s { layer = J }
 
-    module _ (t : Turn) (target_is : t.1.target ≡ s.target) (was : (r : Running) → t.1.operation ≡ Some r → r.operation ≡ operations.Rom → s.operation ≡ Some r) where
+    -- each read stands, or is what ended; and that was one
+    abbrev Stands : Option Purpose → Type 0
+    Stands q = (n a : ℕ) → RomAt s.layer s.target n a → RomAt J s.target n a ⊎ (q ≡ Some (purposes.Rom a))
+
+    abbrev Ends : Option Purpose → Type 0
+    Ends q = (a : ℕ) → q ≡ Some (purposes.Rom a) → IsGone J a
+
+    module _ (t : Turn) (target_is : t.1.target ≡ s.target) (was : IfRom t.1 (λ r. s.operation ≡ Some r)) where
       -- where it leaves the layer so
-      pub plainly : t.1.layer.peers ≡ J.peers → t.1.layer.generation ≡ J.generation → ((n a : ℕ) → RomAt s.layer s.target n a → RomAt J s.target n a) → ((r : Running) → s.operation ≡ Some r → r.operation ≡ operations.Rom → (t.1.operation ≡ Some r) × IsQuiet t) → CallRom s t
+      pub plainly : t.1.layer.peers ≡ J.peers → t.1.layer.generation ≡ J.generation → Within s.layer J s.target → IfRom s (λ r. (t.1.operation ≡ Some r) × IsQuiet t) → CallRom s t
       plainly peers g forth rom =
           plain_call s h t target_is
           (λ n a x. back n a (at_same t.1.layer J s.target n (Some (purposes.Rom a)) (sym peers) x))
@@ -212,7 +228,7 @@ module _ (ready : Bool) (i : ℕ) (s : InitiatorState) (own : IsCalled ready i s
             by (goes_on body asked fits step sent same) = next_call s h t target_is small J valid_J called_J none_left body asked k.running fits (same ∙ k.is) k.kind step sent
 
         -- one for something else
-        other_call : (purpose : Purpose) → is_plain purpose ≡ true → Fits purpose s.operation → ((n a : ℕ) → RomAt s.layer s.target n a → RomAt J s.target n a) → t ≡ By purpose → CallRom s t
+        other_call : (purpose : Purpose) → is_plain purpose ≡ true → Fits purpose s.operation → Within s.layer J s.target → t ≡ By purpose → CallRom s t
         other_call purpose plain fits forth is =
             let any : Running = record { operation = operations.Rom; act = 0; managed = None } in
             let layer_is : t.1.layer ≡ J = ap (λ (x : Turn). x.1.layer) is ∙ (ended_leaves any ⊥ purpose ending empty_outbox (called here) plain (λ x. absurd x)).layer in
@@ -220,17 +236,17 @@ module _ (ready : Bool) (i : ℕ) (s : InitiatorState) (own : IsCalled ready i s
             (λ r e k. (let l = ended_leaves r (Unit {0}) purpose ending empty_outbox (called here) plain (λ x. apart_fits r purpose k (subst (Fits purpose) e fits)) in
             (ap (λ (x : Turn). x.1.operation) is ∙ l.operation tt e, sends_none (ap (λ (x : Turn). x.0.packets) is ∙ l.packets))))
 
-        pub ended_call : (purpose : Option Purpose) → IfFor (λ q. Fits q s.operation) purpose → ((n a : ℕ) → RomAt s.layer s.target n a → RomAt J s.target n a ⊎ (purpose ≡ Some (purposes.Rom a))) → ((a : ℕ) → purpose ≡ Some (purposes.Rom a) → IsGone J a) → t ≡ ended_for purpose ending empty_outbox (called here) → CallRom s t
+        pub ended_call : (purpose : Option Purpose) → IfFor (λ q. Fits q s.operation) purpose → Stands purpose → Ends purpose → t ≡ ended_for purpose ending empty_outbox (called here) → CallRom s t
         ended_call purpose fits forth gone is = by purpose fits forth gone is
           where
-            stay : (q : Option Purpose) → ((a : ℕ) → q ≡ Some (purposes.Rom a) → ⊥) → ((n a : ℕ) → RomAt s.layer s.target n a → RomAt J s.target n a ⊎ (q ≡ Some (purposes.Rom a))) → (n a : ℕ) → RomAt s.layer s.target n a → RomAt J s.target n a
+            stay : (q : Option Purpose) → ((a : ℕ) → q ≡ Some (purposes.Rom a) → ⊥) → Stands q → (n a : ℕ) → RomAt s.layer s.target n a → RomAt J s.target n a
             stay q never f n a x = pick (f n a x)
               where
                 pick : RomAt J s.target n a ⊎ (q ≡ Some (purposes.Rom a)) → RomAt J s.target n a
                 pick (inl y) = y
                 pick (inr y) = absurd (never a y)
 
-            by : (q : Option Purpose) → IfFor (λ p. Fits p s.operation) q → ((n a : ℕ) → RomAt s.layer s.target n a → RomAt J s.target n a ⊎ (q ≡ Some (purposes.Rom a))) → ((a : ℕ) → q ≡ Some (purposes.Rom a) → IsGone J a) → t ≡ ended_for q ending empty_outbox (called here) → CallRom s t
+            by : (q : Option Purpose) → IfFor (λ p. Fits p s.operation) q → Stands q → Ends q → t ≡ ended_for q ending empty_outbox (called here) → CallRom s t
             by None f g k e = plainly (ap (λ (x : Turn). x.1.layer.peers) e) (ap (λ (x : Turn). x.1.layer.generation) e) (stay None (λ a x. (let differ : None ≡ Some (purposes.Rom a) = x in cc)) g) (λ r o m. (ap (λ (x : Turn). x.1.operation) e ∙ o, sends_none (ap (λ (x : Turn). x.0.packets) e)))
             by (Some (purposes.Rom a)) f g k e = rom_call a (k a refl) e
             by (Some (purposes.Pointer list)) f g k e = other_call (purposes.Pointer list) refl f (stay (Some (purposes.Pointer list)) (λ a x. cc) g) e
@@ -267,7 +283,7 @@ module _ (ready : Bool) (i : ℕ) (s : InitiatorState) (own : IsCalled ready i s
     heard_target = (receive_left generation bytes s).target_is
 
     -- where it is no response
-    quietly : ((a : ℕ) → ClosedFor finding (Some (purposes.Rom a)) → ⊥) → (t : Turn) → heard_turn ≡ t → t.1.layer.peers ≡ heard_layer.peers → t.1.layer.generation ≡ heard_layer.generation → ((r : Running) → s.operation ≡ Some r → r.operation ≡ operations.Rom → (t.1.operation ≡ Some r) × IsQuiet t) → CallRom s t
+    quietly : ((a : ℕ) → ClosedFor finding (Some (purposes.Rom a)) → ⊥) → (t : Turn) → heard_turn ≡ t → t.1.layer.peers ≡ heard_layer.peers → t.1.layer.generation ≡ heard_layer.generation → IfRom s (λ r. (t.1.operation ≡ Some r) × IsQuiet t) → CallRom s t
     quietly none t is peers g rom =
         plainly heard_layer called_heard valid_heard (judging_stays s.layer generation bytes) back_heard t (ap (λ (x : Turn). x.1.target) (sym is) ∙ heard_target) (λ r e k. was_heard r (ap (λ (x : Turn). x.1.operation) is ∙ e)) peers g
         (λ n a x. forth n a (judge_goes s.layer s.target n (Some (purposes.Rom a)) called_layer x generation bytes)) rom

@@ -9,10 +9,10 @@ use Rattle.label_table.specs.declared.reply.ReplyKind.{ReplyKind}
 use Rattle.packet_store.specs.declared.sent.Sent.{Sent}
 use Rattle.rbc_disk.specs.Disk.{Disk}
 use Rattle.sbp_bus.specs.Generations.{id_of}
-use Rattle.sbp_bus.specs.Packets.{end_note, judged_note}
+use Rattle.sbp_bus.specs.Packets.{judged_note}
 use Rattle.sbp_initiator.specs.Effects.{Turn as Called}
 use Rattle.sbp_initiator.specs.Initiators.{new_state}
-use Rattle.sbp_initiator.specs.Receiving.{expire_step, receive_step}
+use Rattle.sbp_initiator.specs.Receiving.{receive_step}
 use Rattle.sbp_initiator.specs.Seeing.{see_step}
 use Rattle.sbp_initiator.specs.declared.purpose.Purpose.{Purpose}
 use Rattle.sbp_initiator.specs.declared.purpose.Purpose.TheVariants as purposes
@@ -32,18 +32,18 @@ use Rattle.sbp_laws.specs.Budget.{initiators}
 use Rattle.sbp_laws.specs.Hosts.{Underway, host_at, is_rom, ready_host}
 use Rattle.sbp_laws.specs.Packets.{begun_in, is_of_now, is_under_way, is_waiting_for, waits_for}
 use Rattle.sbp_laws.specs.SentLaw.{AfterTurn, RomRuns, RomsRun, end_of}
-use Rattle.sbp_laws.specs.Turns.{EachTurn, Where}
+use Rattle.sbp_laws.specs.Turns.{Where}
 use Rattle.sbp_target.specs.Nodes as target
 use Rattle.sbp_target.specs.Receiving.{received, seen, ticked}
 use Rattle.sbp_world.specs.Delivering.{marked, whole_of}
 use Rattle.sbp_world.specs.Handing.{handed_out}
 use Rattle.sbp_world.specs.Hosts.Core.{Core, operation_by, work_in, work_of}
 use Rattle.sbp_world.specs.Lines.{weight_in}
-use Rattle.sbp_world.specs.Making.{new_world, notes_begin, ready_logins}
+use Rattle.sbp_world.specs.Making.{new_world, notes_begin}
 use Rattle.sbp_world.specs.Nodes.{told_seen, with_seen}
-use Rattle.sbp_world.specs.Runs.{Run, beginning}
+use Rattle.sbp_world.specs.Runs.{beginning}
 use Rattle.sbp_world.specs.Settling.{settled_from}
-use Rattle.sbp_world.specs.Worlds.{Scene, WorldState, initiator_at, with_initiator, with_note, with_target, without_notes}
+use Rattle.sbp_world.specs.Worlds.{Scene, initiator_at, with_initiator, with_note, with_target, without_notes}
 use Rattle.sbp_world.proofs.Agents.Management.Begins.{first_past}
 use Rattle.sbp_world.proofs.Agents.Management.Holding.{past_terms, was_sent}
 use Rattle.sbp_world.proofs.Agents.Management.Still.{hist}
@@ -55,7 +55,7 @@ use Rattle.sbp_world.proofs.Making.{initiators_size}
 use Rattle.sbp_world.proofs.Wire.Nodes.{marked_alike}
 use Rattle.sbp_world.proofs.Wire.Starts.{states_at}
 use Rattle.turn_laws.specs.UnderWay.{AfterLaw, RomsWait, RomsWaitLaw, TargetWaits}
-use Rattle.turn_laws.proofs.AnswerNotes.{SameBus, judged_bus}
+use Rattle.turn_laws.proofs.AnswerNotes.{judged_bus}
 use Rattle.turn_laws.proofs.BehindTurns.{lined, noted as noted_behind}
 use Rattle.turn_laws.proofs.Calls.{CarriedCases}
 use Rattle.turn_laws.proofs.EachTurns.{joined_law}
@@ -168,9 +168,13 @@ module _ (units ready : ℕ) (start : List Disk) where
   knows past s here k = roms_here units ready start past s here k
 
   -- which packets were injected stays, behind what was judged
-  heard_injected : (past : List Moment) (s : Scene) → Place units ready start past s → (serial : ℕ) (one : Sent) → (terms (hist past s.world)).sent serial ≡ Some (as_sending one) → (judged : Judged) → (noted (judged_note serial judged) (terms (hist past s.world))).injected ≡ (terms (hist past s.world)).injected
-  heard_injected past s here serial one was judgements.Got = got_injected serial (as_sending one) (terms (hist past s.world)) was
-  heard_injected past s here serial one was (judgements.Ignored cause) = (ignored_same ((terms (hist past s.world)).sent serial) cause serial (terms (hist past s.world))).1.1.1.1.0
+  module _ (past : List Moment) (s : Scene) (serial : ℕ) (one : Sent) where
+    abbrev old_terms : Terms
+    old_terms = terms (hist past s.world)
+
+    heard_injected : old_terms.sent serial ≡ Some (as_sending one) → (judged : Judged) → (noted (judged_note serial judged) old_terms).injected ≡ old_terms.injected
+    heard_injected was judgements.Got = got_injected serial (as_sending one) old_terms was
+    heard_injected was (judgements.Ignored cause) = (ignored_same (old_terms.sent serial) cause serial old_terms).1.1.1.1.0
 
   settled_roms : (past : List Moment) (s : Scene) (done : Bool) → RomsOf (hist past s.world) s.world → RomsOf (hist past (settled_from done s).world) (settled_from done s).world
   settled_roms past s true k = note_turn (hist past s.world) s.world k notes.Settled (with_note notes.Settled s.world) refl (λ j. refl)
@@ -197,7 +201,7 @@ module _ (units ready : ℕ) (start : List Disk) where
         let keeps = noted_keeps past s.world note v fresh mine in
         let same = (marked_alike u serial again).initiators in
         let bus = judged_bus note serial again s.world u (record { last = refl; generations = refl }) in
-        let injected = ap (λ ns. (terms (map said ns ++ past)).injected) fresh ∙ heard_injected past s here serial one (was_sent s.world here.holds.sound.stands serial one found) x.0 in
+        let injected = ap (λ ns. (terms (map said ns ++ past)).injected) fresh ∙ heard_injected past s serial one (was_sent s.world here.holds.sound.stands serial one found) x.0 in
         let rom = call_roms units ready start past s here i inside (k.each i inside) past x.1 0 v own bus same (keeps i) injected _ behind refl told.line (heard_roms units ready start past s here i inside (k.each i inside) one.generation one.bytes) in
         let later = own_turn (hist past s.world) s.world k past v keeps (noted_count past s.world note v fresh mine) i 0 x.1.0 x.1.1 inside same own rom in
         (noted_behind Law start note (suc i) x.1.0 s.world v past fresh (knows past _ behind later), later);
