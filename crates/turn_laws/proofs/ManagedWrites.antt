@@ -192,6 +192,14 @@ module _ (units ready : ℕ) (has : 0 < units) (start : List Disk) (past : List 
       table : (target_at start (behind_turn (turn ms (said (judged_note serial judged)) rest))).table ≡ logins
       sound : IsSound logins.places
 
+    -- a call hands out its packets, and leaves its logins
+    abbrev Hands : Judged → List Note → Whole → Type 0
+    Hands judged rest x = HandsOut rest (scene_of x).outbox.packets × Leaves judged rest (scene_of x).node.logins
+
+    -- the first note is of this judgement
+    abbrev Tells : Judged → Type 0
+    Tells judged = (v.fresh ≡ judged_note serial judged ∷ w.fresh) × AreJudged (said (judged_note serial judged) ∷ ms)
+
     module _ (fresh_is : v.fresh ≡ notes.Got serial ∷ w.fresh) (judged : AreJudged (said (notes.Got serial) ∷ ms)) (p : Packet) (read : reading one.bytes ≡ Ok p) (some : is_some (reply_kind p) ≡ true) (label : LabelParts) (layer : Layer Purpose) where
       abbrev r : ManagerStep × (Machine × Table)
       r = reply_step node.manager node.logins node.keys (answer_in p)
@@ -261,16 +269,18 @@ module _ (units ready : ℕ) (has : 0 < units) (start : List Disk) (past : List 
             let n = operator_node_of start (Now rest) in followed rest leaves (hands n ∙ sym (idle_writes (Now rest) n node.manager node.logins node.keys (answer_in p) under))
 
       -- by what it was for
-      response : (purpose : Option Purpose) → judging_step node.layer one.generation one.bytes ≡ (of_response p label purpose, layer) → (x : Whole) → Found node (of_response p label purpose) layer x → (rest : List Note) → HandsOut rest (scene_of x).outbox.packets
-          → Leaves judgements.Got rest (scene_of x).node.logins → FollowsFor start (Now rest) (call_of T (Now rest))
-      response None e x f rest hands leaves = subst (FollowsFor start (Now rest)) (sym (nobody_calls units ready has start past s here serial one found zero_to judged p read some label layer None e refl)) tt
-      response (Some purposes.Unsolicited) e x f rest hands leaves =
+      abbrev Is : Option Purpose → Type 0
+      Is purpose = judging_step node.layer one.generation one.bytes ≡ (of_response p label purpose, layer)
+
+      response : (purpose : Option Purpose) → Is purpose → (x : Whole) → Found node (of_response p label purpose) layer x → (rest : List Note) → Hands judgements.Got rest x → FollowsFor start (Now rest) (call_of T (Now rest))
+      response None e x f rest hands = subst (FollowsFor start (Now rest)) (sym (nobody_calls units ready has start past s here serial one found zero_to judged p read some label layer None e refl)) tt
+      response (Some purposes.Unsolicited) e x f rest hands =
           subst (FollowsFor start (Now rest)) (sym (unsolicited_calls units ready has start past s here serial one found zero_to judged p read some label layer (Some purposes.Unsolicited) e refl)) tt
-      response (Some (purposes.Agent place)) e x f rest hands leaves =
+      response (Some (purposes.Agent place)) e x f rest hands =
           subst (FollowsFor start (Now rest)) (sym (agent_calls units ready has start past s here serial one found zero_to judged p read some label layer (Some (purposes.Agent place)) e place refl)) tt
-      response (Some purposes.Management) e x f rest hands leaves =
+      response (Some purposes.Management) e x f rest hands =
           subst (FollowsFor start (Now rest)) (sym (manager_calls units ready has start past s here serial one found zero_to judged p read some label layer (Some purposes.Management) e refl))
-          (managed e rest (subst (Leaves judgements.Got rest) f.1 leaves) (source_in node.manager.operation) refl (λ n. hands n ∙ ap (packet_writes n w.generations) f.0))
+          (managed e rest (subst (Leaves judgements.Got rest) f.1 hands.1) (source_in node.manager.operation) refl (λ n. hands.0 n ∙ ap (packet_writes n w.generations) f.0))
 
     -- a packet that is judged so
     abbrev Goal : Judged → List Note → Type 0
@@ -283,28 +293,26 @@ module _ (units ready : ℕ) (has : 0 < units) (start : List Disk) (past : List 
     abbrev Finds : Finding Purpose → Layer Purpose → Judged → Type 0
     Finds f layer judged = (judging_step node.layer one.generation one.bytes ≡ (f, layer)) × (judged ≡ (received_as run one.bytes f (with_layer layer (whole_of node s.media))).0)
 
-    by_finding : (f : Finding Purpose) (layer : Layer Purpose) (judged : Judged) → Finds f layer judged → IsFound f node.layer layer one.bytes → v.fresh ≡ judged_note serial judged ∷ w.fresh → AreJudged (said (judged_note serial judged) ∷ ms)
-        → (x : Whole) → Found node f layer x → (rest : List Note) → HandsOut rest (scene_of x).outbox.packets → Leaves judged rest (scene_of x).node.logins → Goal judged rest
-    by_finding of_generation layer judged e f fresh_is j x packets rest hands leaves = subst (λ y. Goal y rest) (sym e.1) tt
-    by_finding of_grammar layer judged e f fresh_is j x packets rest hands leaves = subst (λ y. Goal y rest) (sym e.1) tt
-    by_finding of_label layer judged e f fresh_is j x packets rest hands leaves = subst (λ y. Goal y rest) (sym e.1) tt
-    by_finding (of_again p rcode) layer judged e f fresh_is j x packets rest hands leaves = subst (λ y. Goal y rest) (sym e.1) tt
-    by_finding (of_response p label purpose) layer judged e f fresh_is j x packets rest hands leaves =
+    by_finding : (f : Finding Purpose) (layer : Layer Purpose) (judged : Judged) → Finds f layer judged → IsFound f node.layer layer one.bytes → Tells judged → (x : Whole) → Found node f layer x → (rest : List Note) → Hands judged rest x → Goal judged rest
+    by_finding of_generation layer judged e f told x packets rest hands = subst (λ y. Goal y rest) (sym e.1) tt
+    by_finding of_grammar layer judged e f told x packets rest hands = subst (λ y. Goal y rest) (sym e.1) tt
+    by_finding of_label layer judged e f told x packets rest hands = subst (λ y. Goal y rest) (sym e.1) tt
+    by_finding (of_again p rcode) layer judged e f told x packets rest hands = subst (λ y. Goal y rest) (sym e.1) tt
+    by_finding (of_response p label purpose) layer judged e f told x packets rest hands =
         subst (λ y. Goal y rest) (sym e.1)
-        (response (fresh_is ∙ ap (λ y. judged_note serial y ∷ w.fresh) e.1) (subst (λ y. AreJudged (said (judged_note serial y) ∷ ms)) e.1 j) p f.read f.kind label layer purpose e.0 x packets rest hands (subst (λ y. Leaves y rest (scene_of x).node.logins) e.1 leaves))
-    by_finding (of_request p) layer judged e f fresh_is j x packets rest hands leaves = request p f.1.read (no_kind (reply_kind p) f.1.kind) judged rest
+        (response (told.0 ∙ ap (λ y. judged_note serial y ∷ w.fresh) e.1) (subst (λ y. AreJudged (said (judged_note serial y) ∷ ms)) e.1 told.1) p f.read f.kind label layer purpose e.0 x packets rest (hands.0, subst (λ y. Leaves y rest (scene_of x).node.logins) e.1 hands.1))
+    by_finding (of_request p) layer judged e f told x packets rest hands = request p f.1.read (no_kind (reply_kind p) f.1.kind) judged rest
 
     abbrev Received : Judged → Whole → Type 0
-    Received judged x =
-        v.fresh ≡ judged_note serial judged ∷ w.fresh → AreJudged (said (judged_note serial judged) ∷ ms) → (rest : List Note) → HandsOut rest (scene_of x).outbox.packets → Leaves judged rest (scene_of x).node.logins → Goal judged rest
+    Received judged x = Tells judged → (rest : List Note) → Hands judged rest x → Goal judged rest
 
     target_follows : (let x = received run one.generation one.bytes (whole_of node s.media) in Received x.0 x.1)
     unfolding received
-    target_follows fresh_is j rest hands leaves =
+    target_follows told rest hands =
         let f = judging_step node.layer one.generation one.bytes in
         let x = received run one.generation one.bytes (whole_of node s.media) in
         let there = found_as node.layer one.generation one.bytes in
-        by_finding f.0 f.1 x.0 (refl, refl) there fresh_is j x.1 (found_so node good run s.media.disks one.generation one.bytes f.0 f.1 refl there) rest hands leaves
+        by_finding f.0 f.1 x.0 (refl, refl) there told x.1 (found_so node good run s.media.disks one.generation one.bytes f.0 f.1 refl there) rest hands
 
   own_follows : (serial : ℕ) (one : Sent) (found : found_sent serial w.store.kept ≡ Some one) (j : ℕ) → one.to ≡ suc j → (judged : Judged) (rest : List Note) → FollowsAt start (turn ms (said (judged_note serial judged)) rest) (said (judged_note serial judged))
   own_follows serial one found j to_is judgements.Got rest =
@@ -334,11 +342,13 @@ module _ (units ready : ℕ) (has : 0 < units) (start : List Disk) where
         let x = received run one.generation one.bytes (whole_of s.world.target s.media) in
         let after = with_target x.1.node s.world in
         let v = with_note (judged_note serial x.0) (marked serial again after) in
-        target_follows units ready has start past s here serial again run one found zero_to x.1.outbox v behind.holds.sound.stands (ap (λ ns. judged_note serial x.0 ∷ ns) (marked_fresh serial again after)) judged (handed 0 0 x.1.outbox v)
-        (λ n. handed_writes n x.1.outbox v others ∙ ap (λ g. packet_writes n g x.1.outbox.packets) (marked_generations serial again after))
-        (let logins : v.target.logins ≡ x.1.node.logins = ap (λ (n : NodeState). n.logins) (marked_alike after serial again).target in
-        let left = left_logins units ready has start past s.world v (judged_note serial x.0) x.1.outbox (ap (λ ns. judged_note serial x.0 ∷ ns) (marked_fresh serial again after)) (held x.1.disks (faults_after run one s.world.target s.media)) behind in
-        record { table = left.0 ∙ logins; sound = subst (λ (t : Table). IsSound t.places) logins left.1 });
+        let fresh = ap (λ ns. judged_note serial x.0 ∷ ns) (marked_fresh serial again after) in
+        let logins : v.target.logins ≡ x.1.node.logins = ap (λ (n : NodeState). n.logins) (marked_alike after serial again).target in
+        let left = left_logins units ready has start past s.world v (judged_note serial x.0) x.1.outbox fresh (held x.1.disks (faults_after run one s.world.target s.media)) behind in
+        target_follows units ready has start past s here serial again run one found zero_to x.1.outbox v behind.holds.sound.stands (fresh, judged) (handed 0 0 x.1.outbox v) (
+          λ n. handed_writes n x.1.outbox v others ∙ ap (λ g. packet_writes n g x.1.outbox.packets) (marked_generations serial again after),
+          record { table = left.0 ∙ logins; sound = subst (λ (t : Table). IsSound t.places) logins left.1 },
+        );
     heard_own = λ past s serial again one j found to_is inside own here behind judged.
         let x = receive_step one.generation one.bytes empty_outbox (initiator_at s.world j) in
         own_follows units ready has start past s here serial one found j to_is x.0 (handed (suc j) 0 x.1.0 (with_note (judged_note serial x.0) (marked serial again (with_initiator j x.1.1 s.world))));
