@@ -13,7 +13,6 @@ use Rattle.sbp_bus.specs.Generations.{GenerationsState, node_of, topology_at}
 use Rattle.sbp_initiator.proofs.FirstRow.{refusal_law}
 use Rattle.sbp_initiator.specs.Acting.{act_step, asked_as, asked_for, demand_of, demanded_as, facts_with, judged_as, manage_demand}
 use Rattle.sbp_initiator.specs.Effects.{Turn as Called}
-use Rattle.sbp_initiator.specs.Histories.Ends.{own}
 use Rattle.sbp_initiator.specs.Refusals.{refusal, rows_of}
 use Rattle.sbp_initiator.specs.Refusing.{finds_label}
 use Rattle.sbp_initiator.specs.States.{wanted_body}

@@ -1,8 +1,8 @@
 -- In each turn of every run the packets behind the response begin with the request that an agent has first.
-use Rattle.std.proofs.Common.{arith, ◌≡◌, ◌∙◌, refl, sym, ap, subst, ℕ, ◌+◌, ◌<◌, Bool, true, false, cond, List, [], ◌∷◌, ◌++◌, append_assoc, drop, length, Option, Some, None}
+use Rattle.std.proofs.Common.{arith, ◌≡◌, ◌∙◌, refl, sym, ap, subst, ℕ, ◌<◌, Bool, true, false, cond, List, [], ◌∷◌, ◌++◌, append_assoc, drop, length, Option, Some, None}
 use Rattle.std.specs.List.{AllByRecursion}
 use Rattle.rbc_disk.specs.Disk.{Disk}
-use Rattle.sbp_journal.specs.Run.{Moment, asked, said}
+use Rattle.sbp_journal.specs.Run.{Moment, said}
 use Rattle.sbp_journal.specs.Transactions.{Sending}
 use Rattle.sbp_journal.specs.Wire.{Terms, begun_in, gets, noted, terms}
 use Rattle.sbp_journal.specs.declared.note.Note.{Note}
@@ -15,7 +15,6 @@ use Rattle.sbp_laws.specs.SentLaw.{end_of}
 use Rattle.sbp_laws.specs.SentRequests.{before_requests, behind_answer}
 use Rattle.sbp_laws.specs.Targets.{Target}
 use Rattle.sbp_laws.specs.Turns.{EachTurn, Turn, effects_of, is_sent, sends_of}
-use Rattle.sbp_world.proofs.Agents.Management.Still.{hist}
 use Rattle.sbp_world.proofs.Common.{untrue}
 use Rattle.sbp_world.proofs.Wire.Starts.{laws_of}
 use Rattle.turn_laws.specs.AgentRequests.{AgentAsksFirst, AgentRequestsLaw, BeginAs, first_requests}

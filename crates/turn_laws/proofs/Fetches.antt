@@ -20,9 +20,8 @@ use Rattle.rbc_disk.specs.Disk.{Disk}
 use Rattle.rbc_disk.specs.Runs.{Told}
 use Rattle.rbc_disk.specs.Units.{PlainDisk}
 use Rattle.sbp_journal.specs.Run.{Moment}
-use Rattle.sbp_laws.specs.Agents.{replies}
 use Rattle.sbp_laws.specs.Progress.{Progress, gets_ahead, gets_by, gets_main, progress, reads_main, sends as progress_sends}
-use Rattle.sbp_laws.specs.Targets.{Agent, agent_at, agent_over, ahead_lost, closed, cut_agent, is_nothing, is_serial, main_lost, moved, new_agent, over, pointed_by, points, rings, sends_of, target_at, wants}
+use Rattle.sbp_laws.specs.Targets.{Agent, agent_at, agent_over, ahead_lost, closed, cut_agent, is_nothing, is_serial, main_lost, moved, new_agent, over, pointed_by, sends_of, target_at, wants}
 use Rattle.sbp_world.proofs.Common.{same_number, untrue}
 use Rattle.sbp_world.proofs.Lists.MainStays.{wanted}
 use Rattle.turn_laws.proofs.EndShapes.{IsShapedStep, IsUnderWay, lost_shaped, reply_shaped}

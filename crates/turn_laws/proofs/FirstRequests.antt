@@ -19,9 +19,8 @@ use Rattle.command_agent.specs.declared.phase.Phase.{Phase}
 use Rattle.command_agent.specs.declared.phase.Phase.TheVariants as phases
 use Rattle.command_agent.specs.declared.step.AgentStep.{AgentStep}
 use Rattle.rbc_disk.specs.Disk.{Disk}
-use Rattle.sbp_journal.specs.declared.note.Note.{Note}
 use Rattle.sbp_journal.specs.declared.outbox.Outgoing.{Outgoing}
-use Rattle.sbp_laws.specs.Agents.{AgentTurn, Outcomes, Request, agent_outcomes, body_of, fifo_in, finds_first, is_answer, is_answering, is_write_body, last_try, lost_main, requests_of, target_before, tried, wire_after, wire_before}
+use Rattle.sbp_laws.specs.Agents.{AgentTurn, Outcomes, Request, body_of, fifo_in, finds_first, is_answer, is_write_body, last_try, lost_main, requests_of, target_before, tried, wire_after, wire_before}
 use Rattle.sbp_laws.specs.Agents as laws
 use Rattle.sbp_laws.specs.Packets.{finds_label}
 use Rattle.sbp_laws.specs.SentRequests.{behind_answer}
@@ -32,7 +31,6 @@ use Rattle.sbp_target.specs.declared.purpose.Purpose.TheVariants as purposes
 use Rattle.sbp_target.specs.Agents.{agent_body}
 use Rattle.sbp_world.specs.Agents.Alike.{answers}
 use Rattle.sbp_world.specs.Sending.{sent}
-use Rattle.sbp_world.specs.Worlds.{WorldState}
 use Rattle.sbp_world.proofs.Common.{untrue}
 use Rattle.sbp_world.proofs.FitTarget.Nodes.{IfBody}
 use Rattle.turn_laws.specs.AgentRequests.{first_requests}

@@ -1,5 +1,5 @@
 -- What follows a step of an agent tells of runs, ends, deaths and unsolicited statuses alone, so nobody's place changes.
-use Rattle.std.proofs.Common.{◌≡◌, ◌∙◌, refl, ap, ℕ, ◌+◌, Bool, false, cond, List, [], ◌∷◌, ◌++◌, append_assoc, append-nil}
+use Rattle.std.proofs.Common.{◌≡◌, ◌∙◌, refl, ap, ℕ, Bool, false, cond, List, [], ◌∷◌, ◌++◌, append_assoc, append-nil}
 use Rattle.std.proofs.lemmas.List.Elements.{filter-append}
 use Rattle.login_table.specs.declared.login.Login.{Login}
 use Rattle.command_agent.specs.declared.step.AgentStep.{AgentStep}

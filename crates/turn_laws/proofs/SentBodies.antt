@@ -1,5 +1,5 @@
 -- A packet that a node sent itself is a request of the law where its bytes are those of the request's body, whatever its label: it has the number, the generation, the label and the spelling that each packet has.
-use Rattle.std.proofs.Common.{arith, ◌≡◌, ◌∙◌, refl, sym, ap, subst, ℕ, ◌+◌, ◌<◌, ◌≤◌, Bool, true, false, List, [], ◌∷◌, length, Some, Ok}
+use Rattle.std.proofs.Common.{arith, ◌≡◌, ◌∙◌, refl, sym, ap, subst, ℕ, ◌+◌, ◌≤◌, List, length, Some, Ok}
 use Rattle.async_packet.specs.Canon.{IsValid, canon}
 use Rattle.async_packet.specs.Packet.{Packet, header_in}
 use Rattle.async_packet.specs.declared.packet.Header.{Header}
@@ -10,10 +10,9 @@ use Rattle.bus_transactions.specs.Sent as bus
 use Rattle.bus_transactions.specs.Wire.{transaction}
 use Rattle.bus_transactions.proofs.MoveAsk.{AskedBytes, asked_bytes}
 use Rattle.label_table.specs.Bodies.{Body, block_read, block_write, header_to, quadlet_read, quadlet_write, request_with}
-use Rattle.label_table.specs.Requests.{label_of, with_label}
+use Rattle.label_table.specs.Requests.{with_label}
 use Rattle.label_table.proofs.Requests.{least_spelled}
 use Rattle.label_table.proofs.Rewritten.{writes_labels}
-use Rattle.sbp_journal.specs.Transactions.{request}
 use Rattle.sbp_journal.specs.Wire.{Terms}
 use Rattle.sbp_laws.specs.Agents.{Request}
 use Rattle.sbp_laws.specs.Packets.{id_for, id_of, label_for, request_bytes, serves}

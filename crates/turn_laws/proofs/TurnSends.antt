@@ -1,5 +1,5 @@
 -- What the target sends in a turn of an agent, behind the response of the turn: the agent's requests, and others behind them.
-use Rattle.std.proofs.Common.{◌≡◌, ◌∙◌, refl, sym, ap, subst, ℕ, Bool, true, false, List, [], ◌∷◌, ◌++◌, is_some, drop, length, Option, Some, None, Ok}
+use Rattle.std.proofs.Common.{◌≡◌, ◌∙◌, refl, sym, ap, ℕ, Bool, true, false, List, [], ◌∷◌, ◌++◌, is_some, drop, length, Option, Some, None, Ok}
 use Rattle.async_packet.specs.Packet.{Packet}
 use Rattle.async_packet.specs.Reading.{reading}
 use Rattle.bus_transactions.specs.Judging.{facts_of, may_get}
@@ -19,15 +19,15 @@ use Rattle.sbp_laws.specs.SentRequests.{behind_answer}
 use Rattle.sbp_laws.specs.JudgementLaw.{is_response}
 use Rattle.sbp_laws.specs.Turns.{Turn, sends_of}
 use Rattle.sbp_world.specs.Hosts.Handing.{AreOthers}
-use Rattle.sbp_world.specs.Sending.{sent, sent_all}
+use Rattle.sbp_world.specs.Sending.{sent}
 use Rattle.sbp_world.specs.Telling.{told_all}
 use Rattle.sbp_world.specs.Worlds.{WorldState}
 use Rattle.sbp_world.proofs.Common.{untrue}
 use Rattle.sbp_world.proofs.Lists.StatusOffice.{sides_generations}
-use Rattle.sbp_world.proofs.Wire.Alike.{all_alike}
 use Rattle.turn_laws.proofs.Handed.{handed, notes_sent, notes_told, packet_note}
 use Rattle.turn_laws.proofs.PushSends.{Pushes}
 use Rattle.turn_laws.proofs.SentAnswers.{others_unsent, sends_behind, told_unsent}
+use Rattle.turn_laws.proofs.TurnWrites.{sent_generations}
 
 -- these stand first, and go to one node
 pub record SendsOwn (start : List Disk) (t : Turn) (peer node : ℕ) (out : List Outgoing) : Type 0 where
@@ -52,10 +52,6 @@ handed_sends : (o : OutboxState) (w : WorldState) → AreOthers o.sides → send
 handed_sends o w others =
     let v = told_all 0 o.sides w in
     sends_behind (notes_told 0 o.sides w) (notes_sent 0 o.packets v) (told_unsent 0 o.sides w (others_unsent o.sides others)) ∙ all_sent o.packets v
-
-sent_generations : (packet : Outgoing) (w : WorldState) → (sent 0 packet w).generations ≡ w.generations
-unfolding sent_all
-sent_generations packet w = (all_alike 0 (packet ∷ []) w).generations
 
 module _ (start : List Disk) (t : Turn) (peer node : ℕ) (g : GenerationsState) (there : node_of g 0 peer ≡ Some node) (o : OutboxState) (w : WorldState) (same : w.generations ≡ g) (others : AreOthers o.sides) (rest_is : t.rest ≡ handed 0 0 o w) (places : List (Option Login)) (unit place : ℕ) (out : List Outgoing) where
   abbrev v : WorldState

@@ -46,6 +46,10 @@ pub reads_write : (node : ℕ) (packets : List Outgoing) → AllRead packets →
 reads_write node [] h = refl
 reads_write node (packet ∷ later) h = ap (λ ws. ws ++ all_writes node later) (access_reads node (access_in_bytes packet.bytes) h.0) ∙ reads_write node later h.1
 
+pub sent_generations : (packet : Outgoing) (w : WorldState) → (sent 0 packet w).generations ≡ w.generations
+unfolding sent_all
+sent_generations packet w = (all_alike 0 (packet ∷ []) w).generations
+
 module _ (node : ℕ) where
   -- ---- among the notes of a call
   one_told : (side : Side) (w : WorldState) (rest : List Note) → IsOther side → writes_to node (note_of side w ++ rest) ≡ writes_to node rest
@@ -69,10 +73,6 @@ module _ (node : ℕ) where
   one_sent : (to : Option ℕ) (packet : Outgoing) (w : WorldState) (rest : List Note) → writes_to node (packet_note to 0 packet w ++ rest) ≡ write_by to packet.bytes ++ writes_to node rest
   one_sent None packet w rest = refl
   one_sent (Some to) packet w rest = refl
-
-  sent_generations : (packet : Outgoing) (w : WorldState) → (sent 0 packet w).generations ≡ w.generations
-  unfolding sent_all
-  sent_generations packet w = (all_alike 0 (packet ∷ []) w).generations
 
   sent_writes : (packets : List Outgoing) (w : WorldState) → writes_to node (notes_sent 0 packets w) ≡ packet_writes w.generations packets
   sent_writes [] w = refl
