@@ -338,25 +338,25 @@ module _ (units ready : ℕ) (has : 0 < units) (start : List Disk) where
 
   pub follow_cases : Cases units ready start (FollowsResponses start)
   follow_cases = record {
-    heard = λ past s serial again run one found zero_to may others here behind judged.
+    heard = λ past s serial again run one found zero_to may others here behind noted.
         let x = received run one.generation one.bytes (whole_of s.world.target s.media) in
         let after = with_target x.1.node s.world in
         let v = with_note (judged_note serial x.0) (marked serial again after) in
         let fresh = ap (λ ns. judged_note serial x.0 ∷ ns) (marked_fresh serial again after) in
         let logins : v.target.logins ≡ x.1.node.logins = ap (λ (n : NodeState). n.logins) (marked_alike after serial again).target in
         let left = left_logins units ready has start past s.world v (judged_note serial x.0) x.1.outbox fresh (held x.1.disks (faults_after run one s.world.target s.media)) behind in
-        target_follows units ready has start past s here serial again run one found zero_to x.1.outbox v behind.holds.sound.stands (fresh, judged) (handed 0 0 x.1.outbox v) (
+        target_follows units ready has start past s here serial again run one found zero_to x.1.outbox v behind.holds.sound.stands (fresh, noted.judged) (handed 0 0 x.1.outbox v) (
           λ n. handed_writes n x.1.outbox v others ∙ ap (λ g. packet_writes n g x.1.outbox.packets) (marked_generations serial again after),
           record { table = left.0 ∙ logins; sound = subst (λ (t : Table). IsSound t.places) logins left.1 },
         );
-    heard_own = λ past s serial again one j found to_is inside own here behind judged.
+    heard_own = λ past s serial again one j found to_is inside own here behind noted.
         let x = receive_step one.generation one.bytes empty_outbox (initiator_at s.world j) in
         own_follows units ready has start past s here serial one found j to_is x.0 (handed (suc j) 0 x.1.0 (with_note (judged_note serial x.0) (marked serial again (with_initiator j x.1.1 s.world))));
-    late = λ past s serial request done t found node_is e others here behind judged. tt;
-    late_own = λ past s serial request j outbox state found node_is inside e own here behind judged. tt;
-    sees = λ past s others here behind judged. tt;
-    sees_own = λ past s j inside own here behind judged. tt;
-    ticks = λ past s others here behind judged. tt;
+    late = λ past s serial request done t found node_is e others here behind noted. tt;
+    late_own = λ past s serial request j outbox state found node_is inside e own here behind noted. tt;
+    sees = λ past s others here behind noted. tt;
+    sees_own = λ past s j inside own here behind noted. tt;
+    ticks = λ past s others here behind noted. tt;
     ends = λ past s done here behind. ends (hist past s.world) done;
     acts = λ past s line j action outbox state inside e own here behind. tt;
     lines = λ past s line event rest behind brings fresh here there. tt;

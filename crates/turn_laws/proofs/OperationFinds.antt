@@ -40,7 +40,7 @@ use Rattle.sbp_world.proofs.Wire.Deliver.{judged_marked}
 use Rattle.sbp_world.proofs.Wire.Holding.{latest_small}
 use Rattle.sbp_world.proofs.Wire.Nodes.{marked_alike}
 use Rattle.turn_laws.proofs.Flown.{got_flies}
-use Rattle.turn_laws.proofs.RequestLabels.{access_at, body_access, finds_at}
+use Rattle.turn_laws.proofs.RequestLabels.{access_in_body, body_access, bytes_at, finds_at}
 use Rattle.turn_laws.proofs.Operators.{IsOperator}
 use Rattle.turn_laws.proofs.Places.{Place}
 
@@ -99,8 +99,9 @@ module _ (units ready : ℕ) (has : 0 < units) (start : List Disk) (past : List 
         finds_at v h 0 (suc i) (omega arith) (subst (λ n. suc i ≤ n) (ap length (sym alike.initiators)) inside) layer own source (id_there (suc i) inside ∙ source_is) body valid purposes.Management
 
     spells_there : (asked : Asked) → (asking_step layer source body purposes.Management).0 ≡ Some asked → access_in_bytes asked.bytes ≡ body_access body
-    spells_there =
-        access_at v h 0 (suc i) (omega arith) (subst (λ n. suc i ≤ n) (ap length (sym alike.initiators)) inside) layer own source (id_there (suc i) inside ∙ source_is) body valid purposes.Management
+    spells_there asked e =
+        access_in_body body asked.bytes
+        (bytes_at v h 0 (suc i) (omega arith) (subst (λ n. suc i ≤ n) (ap length (sym alike.initiators)) inside) layer own source (id_there (suc i) inside ∙ source_is) body valid purposes.Management asked e)
 
   module _ (serial : ℕ) (one : Sent) (found : found_sent serial w.store.kept ≡ Some one) (zero_to : one.to ≡ 0) where
     -- ---- behind a response
