@@ -38,6 +38,8 @@ use Rattle.sbp_world.proofs.Common.{none_is, untrue}
 use Rattle.sbp_world.proofs.Hosts.Acts.{NoRow}
 use Rattle.sbp_world.proofs.Hosts.Appends.{lowest_is}
 use Rattle.sbp_world.proofs.Pointers.Asks.{ring_rings, ring_wanted}
+use Rattle.std.proofs.lemmas.Bool.{not-false}
+use Rattle.sbp_world.proofs.Wire.Kept.{and_false}
 
 -- an address, as 8 bytes
 more_same : (a b : ℕ) (xs ys : List ℕ) → a ≡ b → xs ≡ ys → a ∷ xs ≡ b ∷ ys
@@ -47,10 +49,6 @@ eight : (x : ℕ) → address_bytes x ≡ big_bytes 8 x
 eight x =
     more_same _ _ _ _ (omega arith) (more_same _ _ _ _ (omega arith) (more_same _ _ _ _ (omega arith) (more_same _ _ _ _ (omega arith)
     (more_same _ _ _ _ (omega arith) (more_same _ _ _ _ (omega arith) (more_same _ _ _ _ (omega arith) (more_same _ _ _ _ (omega arith) refl)))))))
-
-not_none : (b : Bool) → not b ≡ false → b ≡ true
-not_none true e = refl
-not_none false e = untrue (sym e)
 
 none_written : (p : Option ℕ) (b : Bool) → is_some p ≡ not b → p ≡ None → b ≡ true
 none_written None true e f = refl
@@ -151,12 +149,12 @@ module _ (past : List Moment) (i : ℕ) (s : InitiatorState) (own : IsHost past 
   pub bodies : (action : Action) (has_label : Bool) → (manages (operation_of action) ≡ true → Offset) → NoRow (rows_of action (facts_with has_label s action)) → action_body action past i host ≡ body_in (demand_of action s)
   bodies actions.Rom b f n = refl
   bodies actions.AgentReset b f n =
-      let live = not_none (is_in_live (session_of s.seat)) n.wrong_state in
+      let live = not-false (is_in_live (session_of s.seat)) n.wrong_state in
       ap (λ x. Some (quadlet_write x host.running)) (register_is agent_reset live) ∙ ap (λ x. Some (quadlet_write (own_acts.register_of s 0x04) x)) running_is
-  bodies actions.State b f n = ap (λ x. Some (quadlet_read x)) (register_is agent_state (not_none (is_in_live (session_of s.seat)) n.wrong_state))
-  bodies actions.Enable b f n = ap (λ x. Some (quadlet_write x 1)) (register_is unsolicited_enable (not_none (is_in_live (session_of s.seat)) n.wrong_state))
-  bodies actions.Ring b f n = ap Some (rings_present s.lists.slots.present refl (not_none (is_in_live (session_of s.seat)) n.wrong_state) (not_none (is_some s.lists.slots.present) n.no_orb))
-  bodies (actions.Append cmd) b f n = ap Some (rings_any s.lists.slots.present refl (not_none (is_in_live (session_of s.seat)) n.wrong_state) (not_none (is_some (lowest s.lists.slots.slots)) n.no_slot))
+  bodies actions.State b f n = ap (λ x. Some (quadlet_read x)) (register_is agent_state (not-false (is_in_live (session_of s.seat)) n.wrong_state))
+  bodies actions.Enable b f n = ap (λ x. Some (quadlet_write x 1)) (register_is unsolicited_enable (not-false (is_in_live (session_of s.seat)) n.wrong_state))
+  bodies actions.Ring b f n = ap Some (rings_present s.lists.slots.present refl (not-false (is_in_live (session_of s.seat)) n.wrong_state) (not-false (is_some s.lists.slots.present) n.no_orb))
+  bodies (actions.Append cmd) b f n = ap Some (rings_any s.lists.slots.present refl (not-false (is_in_live (session_of s.seat)) n.wrong_state) (not-false (is_some (lowest s.lists.slots.slots)) n.no_slot))
   bodies (actions.Put cmd) b f n = refl
   bodies actions.Low b f n = refl
   bodies actions.Link b f n = refl
@@ -182,13 +180,9 @@ module _ (past : List Moment) (i : ℕ) (s : InitiatorState) (own : IsHost past 
   abbrev pub Finds : Action → Type 0
   Finds action = (demand : Demand) → demand_of action s ≡ Some demand → is_some (asked_for demand s).0 ≡ finds_label (terms past) (suc i) 0 (wanted_body demand.wanted)
 
-  none_lacks : (b : Bool) → (b && false) ≡ false
-  none_lacks true = refl
-  none_lacks false = refl
-
   lacks_by : (action : Action) → Finds action → (d : Option Demand) → demand_of action s ≡ d
       → lacks_label (terms past) i (body_in d) ≡ (sends action && not (finds_for d s))
-  lacks_by action finds None e = sym (none_lacks (sends action))
+  lacks_by action finds None e = sym (and_false (sends action))
   lacks_by action finds (Some demand) e =
       ap not (sym (finds demand e)) ∙ ap (λ b. b && not (is_some (asked_for demand s).0)) (sym (sends_some action demand e))
 

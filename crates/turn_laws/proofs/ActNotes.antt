@@ -8,16 +8,16 @@ use Rattle.sbp_journal.specs.declared.event.Action.{Action}
 use Rattle.sbp_journal.specs.declared.event.Action.TheVariants as actions
 use Rattle.sbp_journal.specs.declared.note.Note.{Note}
 use Rattle.sbp_journal.specs.declared.outbox.Outgoing.{Outgoing}
-use Rattle.sbp_journal.specs.declared.side.Side.TheVariants as sides
 use Rattle.sbp_laws.specs.ActionLaw.{Acts}
 use Rattle.sbp_laws.specs.Actions.{action_notes, link_notes, new_list, new_number}
 use Rattle.sbp_laws.specs.Turns.{effects_of, sends_of}
 use Rattle.sbp_world.specs.Sending.{sent}
-use Rattle.sbp_world.specs.Telling.{told, told_all}
+use Rattle.sbp_world.specs.Telling.{told_all}
 use Rattle.sbp_world.specs.Worlds.{WorldState}
 use Rattle.turn_laws.proofs.Handed.{handed, notes_sent, notes_told, packet_note}
 use Rattle.turn_laws.proofs.KindNotes.{none_behind}
 use Rattle.turn_laws.proofs.SentAnswers.{AllUnsent, sends_behind}
+use Rattle.turn_laws.proofs.OwnNotes.{own_told}
 
 -- ---- notes of packets
 effects_behind : (a b : List Note) → AllUnsent a → effects_of (a ++ b) ≡ a ++ effects_of b
@@ -37,10 +37,6 @@ all_sent from [] w = record { effects = refl; sends = refl }
 all_sent from (packet ∷ later) w = one_more (node_of w.generations from packet.to) from packet w (notes_sent from later (sent from packet w)) (all_sent from later (sent from packet w))
 
 -- ---- what an action tells
-own_told : (weight : ℕ) (ns : List Note) (w : WorldState) → notes_told weight (own ns) w ≡ ns
-own_told weight [] w = refl
-own_told weight (note ∷ later) w = ap (λ ns. note ∷ ns) (own_told weight later (told weight (sides.Own note) w))
-
 links_unsent : (i n k : ℕ) (rest : List Note) → AllUnsent rest → AllUnsent (link_notes i n k ++ rest)
 links_unsent i n zero rest h = h
 links_unsent i n (suc k) rest h = (refl, (refl, h))

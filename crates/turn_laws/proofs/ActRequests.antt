@@ -11,7 +11,7 @@ use Rattle.packet_store.specs.Stored.{Stored}
 use Rattle.rbc_disk.specs.Disk.{Disk}
 use Rattle.sbp_bus.specs.Generations.{GenerationsState, node_of, topology_at}
 use Rattle.sbp_initiator.proofs.FirstRow.{refusal_law}
-use Rattle.sbp_initiator.specs.Acting.{act_step, asked_as, asked_for, demand_of, demanded_as, facts_with, judged_as, manage_demand}
+use Rattle.sbp_initiator.specs.Acting.{act_step, asked_as, asked_for, demand_of, demanded_as, facts_with, judged_as}
 use Rattle.sbp_initiator.specs.Effects.{Turn as Called}
 use Rattle.sbp_initiator.specs.Refusals.{refusal, rows_of}
 use Rattle.sbp_initiator.specs.Refusing.{finds_label}
@@ -60,6 +60,7 @@ use Rattle.turn_laws.proofs.Handed.{handed, notes_sent, packet_note}
 use Rattle.turn_laws.proofs.Pass.{call_no_act, of_every_run}
 use Rattle.turn_laws.proofs.Places.{Place}
 use Rattle.turn_laws.proofs.RequestLabels.{IsSpelled, spelled_at}
+use Rattle.sbp_world.proofs.Lists.ManageWrites.{manage_asks}
 
 -- ---- what an action sends: the request that it asks for, where it asks for one
 module _ (action : Action) (s : InitiatorState) where
@@ -95,18 +96,6 @@ module _ (action : Action) (s : InitiatorState) where
   goes_through : (act_step action empty_outbox s).0 ≡ None → NoRow (rows_of action (facts_with (finds_label action s) s action))
   unfolding refusal
   goes_through e = no_row (rows_of action (facts_with (finds_label action s) s action)) (sym (refusal_law.first action empty_outbox s) ∙ e)
-
--- what an action with a management ORB asks for
-managed_demand : (action : Action) (s : InitiatorState) → manages (operation_of action) ≡ true → demand_of action s ≡ Some (manage_demand s)
-managed_demand (actions.Login unit reconnect exclusive password) s e = refl
-managed_demand (actions.Query unit) s e = refl
-managed_demand actions.Reconnect s e = refl
-managed_demand actions.Logout s e = refl
-managed_demand (actions.Abort orb) s e = refl
-managed_demand actions.AbortSet s e = refl
-managed_demand actions.UnitReset s e = refl
-managed_demand actions.TargetReset s e = refl
-managed_demand _ s e = untrue e
 
 -- what an action tells leaves the wire
 append_wire : (i n k : ℕ) (cmd : Cmd) (past : List Moment) → terms (once_told past (append_notes i n k cmd ++ [])) ≡ terms past
@@ -247,7 +236,7 @@ module _ (units ready : ℕ) (start : List Disk) where
       pub managed_are : manages (operation_of action) ≡ true
           → ArePackets (before_requests start asking) (suc i) (behind_answer start asking) (requests_to 0 (Some (managed_body (unwrap_or old.management 0) ms i)))
       managed_are managed =
-          packets_for (Some (managed_body (unwrap_or old.management 0) ms i)) (managed_bodies units ready start past s here i inside ∙ ap body_in (sym (managed_demand action old managed)))
+          packets_for (Some (managed_body (unwrap_or old.management 0) ms i)) (managed_bodies units ready start past s here i inside ∙ ap body_in (sym (manage_asks action old managed)))
 
       requests_are : asks_more action ≡ false → RequestsLaw start asking
       requests_are more not_silent =

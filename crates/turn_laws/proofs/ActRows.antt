@@ -2,10 +2,10 @@
 use Rattle.std.proofs.Common.{◌≡◌, ◌∙◌, refl, sym, ap, subst, ℕ, ◌&&◌, ◌||◌, not, is_none, is_some, Bool, true, false, cond, List, Option, Some, None}
 use Rattle.sbp_initiator.proofs.FirstRow.{refusal_law}
 use Rattle.sbp_initiator.specs.Acting.{act_step, facts_with}
-use Rattle.sbp_initiator.specs.Refusals.{is_in_stuck, fits_session, refusal, rows_of}
+use Rattle.sbp_initiator.specs.Refusals.{refusal, rows_of}
 use Rattle.sbp_initiator.specs.Refusals as own_rows
 use Rattle.sbp_initiator.specs.Refusing.{finds_label}
-use Rattle.sbp_initiator.specs.States.{operation_in, session_of}
+use Rattle.sbp_initiator.specs.States.{operation_in}
 use Rattle.sbp_initiator.specs.declared.state.InitiatorState.{InitiatorState}
 use Rattle.sbp_journal.specs.Outgoings.{OutboxState}
 use Rattle.sbp_journal.specs.Rows.{Refusals, refusal_of}
@@ -15,42 +15,20 @@ use Rattle.sbp_journal.specs.declared.event.Action.{Action}
 use Rattle.sbp_journal.specs.declared.event.Action.TheVariants as actions
 use Rattle.sbp_journal.specs.declared.operation.Operation.{Operation}
 use Rattle.sbp_laws.specs.Actions.{cuts_list, is_list_step, is_pointing, is_right_state, needs_rom, prepares, refusal_at, refusals, rings, running_operation}
-use Rattle.sbp_laws.specs.Hosts.{Host, Underway, host_at, is_stuck}
+use Rattle.sbp_laws.specs.Hosts.{Host, host_at, is_stuck}
 use Rattle.sbp_session.specs.Seats.{points}
-use Rattle.sbp_session.specs.declared.seat.Seat.{Seat}
-use Rattle.sbp_session.specs.declared.seat.Seat.TheVariants as seats
 use Rattle.sbp_world.specs.Hosts.Acting.{HasRows}
 use Rattle.sbp_world.specs.Hosts.Core.{Core, host_core, operation_by, own_core, session_in}
 use Rattle.sbp_world.specs.Hosts.Fits.{AreRows}
 use Rattle.sbp_world.specs.Hosts.Worlds.{IsHost}
-use Rattle.sbp_world.proofs.Common.{untrue}
 use Rattle.sbp_world.proofs.Hosts.Acts.{NoRow}
 use Rattle.sbp_world.proofs.Hosts.Deciding.{rows_same}
-use Rattle.sbp_world.proofs.Hosts.Hosted.{cuts_same, worked, working}
+use Rattle.sbp_world.proofs.Hosts.Hosted.{cuts_same, worked, working, stuck_row, right_row, some_running}
 use Rattle.sbp_world.proofs.Hosts.Telling.{action_law}
 use Rattle.sbp_world.proofs.Lists.ManageActs.{same_operation}
+use Rattle.sbp_world.proofs.Hosts.PointerRuns.{stuck_first}
 
 -- ---- the two tables
-
-stuck_row : (seat : Seat) → is_stuck (session_in seat) ≡ is_in_stuck (session_of seat)
-stuck_row (seats.Stuck origin) = refl
-stuck_row _ = refl
-
-right_row : (action : Action) (seat : Seat) → is_right_state action (session_in seat) ≡ fits_session action (session_of seat)
-right_row actions.Rom (seats.Out out) = refl
-right_row _ (seats.Out out) = refl
-right_row actions.Rom (seats.Entering entering) = refl
-right_row _ (seats.Entering entering) = refl
-right_row actions.Rom (seats.Live live) = refl
-right_row _ (seats.Live live) = refl
-right_row actions.Rom (seats.Held response) = refl
-right_row _ (seats.Held response) = refl
-right_row actions.Rom (seats.Returning response) = refl
-right_row _ (seats.Returning response) = refl
-right_row actions.Rom (seats.Leaving response) = refl
-right_row _ (seats.Leaving response) = refl
-right_row actions.Rom (seats.Stuck origin) = refl
-right_row _ (seats.Stuck origin) = refl
 
 needs_same : (action : Action) → needs_rom action ≡ own_rows.needs_rom action
 needs_same actions.Rom = refl
@@ -67,10 +45,6 @@ cares_same _ = refl
 some_is : (operation : Option Operation) → not (is_none operation) ≡ is_some operation
 some_is None = refl
 some_is (Some operation) = refl
-
-some_running : (u : Option Underway) → not (is_none u) ≡ is_some (running_operation u)
-some_running None = refl
-some_running (Some underway) = refl
 
 -- ---- what the terms are tied to
 pub record Tied (past : List Moment) (i : ℕ) (s : InitiatorState) : Type 0 where
@@ -94,11 +68,6 @@ last_row q b f =
     ap (λ x. cond x (Some 10) None)
     (f (record { stuck = a; wrong_state = c; no_rom = d; waiting = e; mid_link = g; not_linking = h; dead_seen = k; no_orb = l; no_slot = m }))
     )))))))))
-
-stuck_first : (a c : Bool) → a ≡ c → a ≡ true → (x y : Option ℕ) → cond a (Some 1) x ≡ cond c (Some 1) y
-stuck_first true true e f x y = refl
-stuck_first true false e f x y = untrue (sym e)
-stuck_first false c e f x y = untrue f
 
 refused_same : (r q : Refusals) → r.stuck ≡ q.stuck → r.wrong_state ≡ q.wrong_state → r.no_rom ≡ q.no_rom → (r.stuck ≡ false → r.waiting ≡ q.waiting) → HasRows r q → r.dead_seen ≡ q.dead_seen → (NoRow q → r.no_label ≡ q.no_label)
     → refusal_of r ≡ refusal_of q

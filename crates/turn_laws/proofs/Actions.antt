@@ -1,5 +1,5 @@
 -- What an action of an initiator brings, in each turn of every run that begins with its line.
-use Rattle.std.proofs.Common.{◌≡◌, ◌∙◌, refl, sym, ap, subst, ℕ, ◌+◌, ◌<◌, ◌&&◌, ◌||◌, is_some, not, Bool, true, false, List, length, Option, Some, None, inl, inr}
+use Rattle.std.proofs.Common.{◌≡◌, ◌∙◌, refl, sym, ap, subst, ℕ, ◌+◌, ◌<◌, ◌&&◌, ◌||◌, is_some, not, Bool, true, false, List, length, Option, Some, None}
 use Rattle.rbc_disk.specs.Disk.{Disk}
 use Rattle.sbp_initiator.specs.Acting.{act_step, facts_with}
 use Rattle.sbp_initiator.specs.Effects.{Turn as Called}
@@ -128,12 +128,12 @@ module _ (units ready : ℕ) (start : List Disk) where
         let acts = acts_as_told ms i (i + 1) weight action outbox w (sides_are outbox state e) in
         let so : (number : Option ℕ) → number ≡ (act_step action empty_outbox old).0 → ActsOr number ms line i action told =
         λ number n. by_notes number ms line i action told (n ∙ ap (λ (x : Option ℕ × Called). x.0) e) acts in
-        (inr acts, (but_those line told so, where_known line told so))
+        (but_those line told so, where_known line told so)
 
     pub refuses_so : (line number : ℕ) → (act_step action empty_outbox old).0 ≡ Some number → ActsByRows (turn ms (asked line (events.Act i action)) (refused line number))
     refuses_so line number e =
         let so : (x : Option ℕ) → x ≡ (act_step action empty_outbox old).0 → ActsOr x ms line i action (refused line number) = λ x n. by_refusal x ms line i action (refused line number) number (n ∙ e) refl in
-        (inl (number, refl), (but_those line (refused line number) so, where_known line (refused line number) so))
+        (but_those line (refused line number) so, where_known line (refused line number) so)
 
   no_action : (past : List Moment) (line : ℕ) (event : Event) (rest : List Note) → is_act event ≡ false → ActsByRows (turn past (asked line event) rest)
   no_action past line (events.Act i action) rest e = untrue (sym e)

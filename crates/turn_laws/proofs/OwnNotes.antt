@@ -54,7 +54,7 @@ pub target_none : (outbox : OutboxState) (w : WorldState) → AreOthers outbox.s
 target_none outbox w o = kind_handed is_operation_note is_told 0 0 outbox w ∙ others_none 0 outbox.sides w o
 
 -- ---- an initiator tells its own
-own_told : (weight : ℕ) (told_notes : List Note) (w : WorldState) → notes_told weight (own told_notes) w ≡ told_notes
+pub own_told : (weight : ℕ) (told_notes : List Note) (w : WorldState) → notes_told weight (own told_notes) w ≡ told_notes
 own_told weight [] w = refl
 own_told weight (note ∷ later) w = ap (λ ns. note ∷ ns) (own_told weight later (told_one weight (sides.Own note) w))
 

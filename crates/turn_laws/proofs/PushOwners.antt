@@ -8,7 +8,6 @@ use Rattle.async_packet.specs.Packet.{Packet, lock, lock_response, read_block, r
 use Rattle.async_packet.specs.Reading.{reading}
 use Rattle.async_packet.specs.declared.fault.PacketFault.{PacketFault}
 use Rattle.bus_transactions.specs.Packets.{SerialsCount}
-use Rattle.command_agent.specs.declared.step.Which.TheVariants.{Ahead, Main}
 use Rattle.orb_layout.specs.declared.ask.Ask.{Ask}
 use Rattle.orb_layout.specs.declared.ask.Ask.TheVariants.{Nothing}
 use Rattle.rbc_disk.specs.Disk.{Disk}
@@ -22,7 +21,7 @@ use Rattle.sbp_journal.specs.declared.outbox.Outgoing.{Outgoing}
 use Rattle.sbp_journal.specs.declared.side.Side.{Side}
 use Rattle.sbp_journal.specs.declared.side.Side.TheVariants as sides
 use Rattle.sbp_laws.specs.Packets.{access_in, access_in_bytes, spelled_by}
-use Rattle.sbp_laws.specs.Targets.{Agent, Reply, Target, agent_at, agent_over, for_agent, for_manager, for_nobody, is_serial, is_write_access, new_agent, over, purpose_among, purpose_of, sends_of, sent_as, sent_for, taken_on, target_at, wants, wants_it}
+use Rattle.sbp_laws.specs.Targets.{Agent, Target, agent_at, agent_over, for_manager, for_nobody, is_serial, is_write_access, new_agent, over, purpose_among, purpose_of, sends_of, sent_as, sent_for, taken_on, target_at, wants, wants_it}
 use Rattle.sbp_world.specs.Agents.Crews.{agent_in}
 use Rattle.sbp_bus.specs.Generations.{node_of}
 use Rattle.sbp_world.specs.Handing.{handed_out}
@@ -39,6 +38,9 @@ use Rattle.turn_laws.proofs.LaterTerms.{Pushes}
 use Rattle.turn_laws.proofs.PendingTerms.{upd_other}
 use Rattle.turn_laws.proofs.PushSerials.{Has, Small, counted, small_none}
 use Rattle.turn_laws.proofs.SerialsStay.{Reads, takes_on}
+use Rattle.sbp_world.proofs.Lists.OrbWaits.{taken_none}
+use Rattle.sbp_world.proofs.Lists.MainAnswers.{sends_as}
+use Rattle.sbp_world.proofs.Lists.MainLater.{among_not}
 
 -- the packets that were sent before the last ones
 abbrev pub before_packets : List Moment → ℕ
@@ -151,23 +153,6 @@ new_for None serial t e reads = by (wants t.manager_asks true)
     by false = inl (inl refl)
 
 -- ---- a packet that is sent
-settled_none : (reply : Option Reply) (t : Target) → t.reply ≡ reply → (taken_on None reply t).reply ≡ None
-settled_none None t e = e
-settled_none (Some reply) t e = refl
-
-same_reply : (place : Option ℕ) (w : Bool) (serial : ℕ) (t : Target) → (sent_for place w serial t).reply ≡ t.reply
-same_reply (Some k) w serial t = refl
-same_reply None w serial t = by (wants t.manager_asks w)
-  where
-    by : (b : Bool) → (cond b (record t { manages = Some serial; manager_asks = Nothing }) (record t { pushes = serial ∷ t.pushes })).reply ≡ t.reply
-    by true = refl
-    by false = refl
-
-same_as : (part : Part) (w : Bool) (serial : ℕ) (t : Target) → (sent_as part w serial t).reply ≡ t.reply
-same_as (request label kind) w serial t = same_reply (position (wants_it w) t.agents) w serial t
-same_as (response label kind) w serial t = refl
-same_as no_packet w serial t = refl
-
 -- whatever a history of packets leads to
 abbrev pub IsPacket : List Moment → Type 0
 IsPacket (said (notes.Sent serial generation from to bytes) ∷ past) = Unit {0}
@@ -190,8 +175,8 @@ module _ (start : List Disk) (serial generation from to : ℕ) (bytes : List ℕ
   Sent b = cond b (sent_as (part_of bytes) w serial settled) settled
 
   reply_by : (b : Bool) → (Sent b).reply ≡ None
-  reply_by true = same_as (part_of bytes) w serial settled ∙ settled_none T.reply T refl
-  reply_by false = settled_none T.reply T refl
+  reply_by true = sends_as (part_of bytes) w serial settled ∙ taken_none T.reply T refl
+  reply_by false = taken_none T.reply T refl
 
   pub no_reply : (target_at start now).reply ≡ None
   no_reply = reply_by (from == 0)
@@ -272,18 +257,6 @@ module _ (start : List Disk) where
   owned (said note ∷ past) c s l m x = absurd (omega (arith, l, m))
 
 -- ---- as the turn is over
-among_not : (k : ℕ) (agents : List Agent) (p s : ℕ) → (agent_in agents p).main ≡ Some s → purpose_among k agents s ≡ for_nobody → ⊥
-among_not k [] p s e f = absurd (let no : None ≡ Some s = e in cc)
-among_not k (a ∷ agents) zero s e f =
-    let same : is_serial a.main s ≡ true = ap (λ o. is_serial o s) e ∙ (let z : nat_eq s s ≡ true = grind (arith, nat_tests) in z) in
-    absurd (let no : for_agent k Main ≡ for_nobody = sym (ap (λ b. cond b (for_agent k Main) (cond (is_serial a.ahead s) (for_agent k Ahead) (purpose_among (k + 1) agents s))) same) ∙ f in cc)
-among_not k (a ∷ agents) (suc p) s e f = by (λ g. among_not (k + 1) agents p s e g) (is_serial a.main s) (is_serial a.ahead s) f
-  where
-    by : (purpose_among (k + 1) agents s ≡ for_nobody → ⊥) → (x y : Bool) → cond x (for_agent k Main) (cond y (for_agent k Ahead) (purpose_among (k + 1) agents s)) ≡ for_nobody → ⊥
-    by later true y g = absurd (let no : for_agent k Main ≡ for_nobody = g in cc)
-    by later false true g = absurd (let no : for_agent k Ahead ≡ for_nobody = g in cc)
-    by later false false g = later g
-
 manager_not : for_manager ≡ for_nobody → ⊥
 manager_not e = cc
 

@@ -17,6 +17,7 @@ use Rattle.sbp_target.specs.Histories.Moves.{Announced, Heard, pushes, stay, wit
 use Rattle.sbp_target.proofs.Histories.Moved.{announced_moves}
 use Rattle.sbp_target.proofs.Histories.Views.{kept}
 use Rattle.sbp_world.proofs.Common.{and_first, and_second, equal, same_number, untrue}
+use Rattle.std.proofs.lemmas.Bool.{not-true}
 
 -- it goes to another live login of the unit
 pub record IsPush (places : List (Option Login)) (unit from : ℕ) (packet : Outgoing) : Type 0 where
@@ -51,13 +52,9 @@ module _ (places : List (Option Login)) (unit from : ℕ) where
       logins : s.node.logins.places ≡ places
       sends : Pushes places unit from first s.outbox.packets
 
-    none_false : (b : Bool) → not b ≡ true → b ≡ false
-    none_false true e = untrue e
-    none_false false e = refl
-
     apart : (place : ℕ) → not (place == from) ≡ true → place ≡ from → ⊥
     apart place e f =
-        let same : (place == place) ≡ false = ap (λ n. place == n) f ∙ none_false (place == from) e in
+        let same : (place == place) ≡ false = ap (λ n. place == n) f ∙ not-true (place == from) e in
         untrue (sym same ∙ same_number place)
 
     is_push : (place : ℕ) (other : Login) (s : Scene) (packet : Outgoing) → Heard unit from place other s → At s → packet.to ≡ other.node → IsPush places unit from packet

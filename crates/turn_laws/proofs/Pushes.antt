@@ -6,7 +6,7 @@ use Rattle.std.proofs.lemmas.Bool.Decides.{nat_tests}
 use Rattle.async_packet.specs.Labels.{LabelParts}
 use Rattle.async_packet.specs.Packet.{Packet, header_in}
 use Rattle.bus_transactions.specs.Bare.{bare}
-use Rattle.bus_transactions.specs.Fitting.{AreBytes, FitsRequest}
+use Rattle.bus_transactions.specs.Fitting.{FitsRequest}
 use Rattle.bus_transactions.proofs.Rooms.{HasRoom}
 use Rattle.label_table.specs.Bodies.{Body}
 use Rattle.label_table.specs.History as wire_calls
@@ -15,7 +15,6 @@ use Rattle.label_table.specs.Peers.{peer_of}
 use Rattle.label_table.specs.declared.judgement.Asked.{Asked}
 use Rattle.login_table.specs.Table.{Table, expired_ids, is_live, place_at}
 use Rattle.login_table.specs.declared.login.Login.{Login}
-use Rattle.media_bay.specs.Unsolicited.{block, block_head}
 use Rattle.packet_store.specs.Kept.{found_sent}
 use Rattle.packet_store.specs.declared.sent.Sent.{Sent}
 use Rattle.rbc_disk.specs.Disk.{Disk, disk_at}
@@ -79,7 +78,6 @@ use Rattle.sbp_world.proofs.Agents.Management.Calm.{AreQuiet}
 use Rattle.sbp_world.proofs.Agents.Management.Holding.{good_of}
 use Rattle.sbp_world.proofs.Agents.Management.Still.{hist}
 use Rattle.sbp_world.proofs.Common.{and_first, and_second, equal, untrue}
-use Rattle.sbp_world.proofs.FitTarget.Agents.{quads_bytes}
 use Rattle.sbp_world.proofs.Formed.{AreOwn}
 use Rattle.sbp_world.proofs.Lists.RunTells.{NoneRan, RanBy, TellsRun, delivery_tells as runs_tell, served_there}
 use Rattle.sbp_world.proofs.Wire.Asks.{upd_own}
@@ -109,6 +107,7 @@ use Rattle.turn_laws.proofs.PushSides.{AreSilent, NoPushes, if_pushes, decision_
 use Rattle.turn_laws.proofs.SerialsStay.{ends_turn}
 use Rattle.turn_laws.proofs.StatusCalls.{Got, Hears, hears as hears_all}
 use Rattle.turn_laws.proofs.TurnWires.{Judges, alone, judged_stands, repeated}
+use Rattle.sbp_world.proofs.FitTarget.Pass.{block_few, block_bytes}
 
 -- ---- where nothing is told of a disc
 names_none : (T : Target) (after : Terms) (logins : List Login) → [] ≡ map (λ login. initiator_with after login.node) logins → [] ≡ push_notes T after logins
@@ -132,14 +131,6 @@ any_true f (x ∷ xs) r (inr h) e = by (f x) (any_true f xs r h e)
     by : (b : Bool) → list_any f xs ≡ true → (b || list_any f xs) ≡ true
     by true g = refl
     by false g = g
-
-block_few : length block ≤ 2048
-unfolding block_head
-block_few = omega arith
-
-block_bytes : AreBytes block
-unfolding block_head
-block_bytes = quads_bytes (0x85000000 ∷ 0x00000000 ∷ 0x02062800 ∷ 0 ∷ 0 ∷ 0 ∷ [])
 
 -- the IDs of the nodes stay as a packet is got
 got_id : (serial : ℕ) (ms : List Moment) (n : ℕ) → Id (terms (said (notes.Got serial) ∷ ms)) n ≡ Id (terms ms) n

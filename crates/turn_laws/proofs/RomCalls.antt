@@ -3,9 +3,9 @@ use Rattle.std.proofs.Common.{arith, ◌≡◌, ◌∙◌, inl, inr, ◌⊎◌, 
 use Rattle.async_packet.specs.Labels.{LabelParts}
 use Rattle.bus_transactions.specs.Fitting.{IsLayer}
 use Rattle.bus_transactions.proofs.FitSteps.{expires_same, goes}
-use Rattle.label_table.specs.History.{Told, and_before, ended, expired, is_same, lets_expire, life, told_by_expiring, under_way, over}
+use Rattle.label_table.specs.History.{Told, and_before, ended, expired, is_same, lets_expire, life, told_by_expiring, under_way}
 use Rattle.label_table.specs.History as wire
-use Rattle.label_table.specs.Layer.{Layer, expiring_step, seen_in_generation, seeing_step}
+use Rattle.label_table.specs.Layer.{Layer, expiring_step, seeing_step}
 use Rattle.label_table.specs.Peers.{state_for}
 use Rattle.label_table.specs.declared.judgement.Asked.{Asked}
 use Rattle.label_table.specs.declared.reply.ReplyKind.{ReplyKind}
@@ -18,7 +18,7 @@ use Rattle.sbp_initiator.specs.Histories.Ends.{is_managed}
 use Rattle.sbp_initiator.specs.Receiving.{called, expire_step, expired_as}
 use Rattle.sbp_initiator.specs.Refusals.{refusal}
 use Rattle.sbp_initiator.specs.Refusals as refusals
-use Rattle.sbp_initiator.specs.Seeing.{interrupted, resets_told, see_step, seen_as}
+use Rattle.sbp_initiator.specs.Seeing.{see_step}
 use Rattle.sbp_initiator.specs.States.{wanted_body}
 use Rattle.sbp_initiator.specs.declared.purpose.Demand.{Demand}
 use Rattle.sbp_initiator.specs.declared.purpose.Ending.TheVariants as endings
@@ -27,7 +27,7 @@ use Rattle.sbp_initiator.specs.declared.purpose.Purpose.TheVariants as purposes
 use Rattle.sbp_initiator.specs.declared.purpose.Wanted.TheVariants as wants
 use Rattle.sbp_initiator.specs.declared.purpose.Running.{Running}
 use Rattle.sbp_initiator.specs.declared.state.InitiatorState.{InitiatorState}
-use Rattle.sbp_initiator.proofs.Histories.Effects.{Fits, list_drops}
+use Rattle.sbp_initiator.proofs.Histories.Effects.{Fits}
 use Rattle.sbp_initiator.proofs.Histories.Lives.{of_same}
 use Rattle.sbp_initiator.proofs.Histories.Purposes.{IfFor}
 use Rattle.sbp_journal.specs.Outgoings.{empty_outbox}
@@ -56,7 +56,8 @@ use Rattle.sbp_world.proofs.Pointers.Finds.{expires_at, none_ended, same_serial}
 use Rattle.sbp_world.proofs.Pointers.WaitActs.{none_seen}
 use Rattle.turn_laws.proofs.OwnTurns.{by_life}
 use Rattle.turn_laws.proofs.ReadsUnderWay.{LapsedFor, expire_goes}
-use Rattle.turn_laws.proofs.RomLabels.{CallRom, IfRom, IsGone, OneRom, RomAt, Within, called_layer, ended_call, from, next_call, plainly, same_rom, reads, sends_none, was_by}
+use Rattle.turn_laws.proofs.RomLabels.{CallRom, IsGone, OneRom, RomAt, Within, called_layer, ended_call, from, next_call, plainly, same_rom, sends_none, was_by}
+use Rattle.sbp_world.proofs.Lists.ManageSees.{none_later}
 
 -- ---- a transaction that timed out is over
 module _ (layer : Layer Purpose) (peer : ℕ) (label : LabelParts) (purpose : Option Purpose) (c : Called layer) (f : (expiring_step layer peer label).0 ≡ Ok purpose) where
@@ -274,12 +275,6 @@ module _ (ready : Bool) (i : ℕ) (s : InitiatorState) (own : IsCalled ready i s
         by (packet ∷ other ∷ more) e r = absurd r
 
 -- ---- a sight of a later generation: no label is left, and no operation
-see_over : (generation id target : ℕ) (s : InitiatorState) → nat_lt s.layer.generation generation ≡ true → (see_step generation id target empty_outbox s).1.operation ≡ None
-unfolding see_step seeing_step
-see_over generation id target s e =
-    ap (λ b. (seen_as (cond b (true, seen_in_generation s.layer generation id) (false, s.layer)) target empty_outbox s).1.operation) e
-    ∙ (let u : InitiatorState = record s { layer = seen_in_generation s.layer generation id } in (list_drops (resets_told u.number u.operation u.states empty_outbox) (interrupted u target)).operation)
-
 module _ (ready : Bool) (generation id target : ℕ) (past : List Moment) (i : ℕ) (s : InitiatorState) where
   pub seen_rom : (seeing_step s.layer generation id).0 ≡ not (generation == (terms past).generation (suc i)) → IsAimed ready i s → nat_lt s.layer.generation generation ≡ true → OneRom (see_step generation id target empty_outbox s).1
   seen_rom flag aimed later =
@@ -288,5 +283,5 @@ module _ (ready : Bool) (generation id target : ℕ) (past : List Moment) (i : �
       record {
         runs = λ n a x. absurd (none t.1.target n (Some (purposes.Rom a)) x);
         one = λ n a m b x y. absurd (none t.1.target n (Some (purposes.Rom a)) x);
-        has = λ r e k. none_is r (sym (see_over generation id target s later) ∙ e);
+        has = λ r e k. none_is r (sym (none_later generation id target s later) ∙ e);
       }

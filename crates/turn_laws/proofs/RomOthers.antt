@@ -4,7 +4,7 @@ use Rattle.bus_transactions.specs.Wire.{transaction}
 use Rattle.sbp_bus.specs.Generations.{node_of}
 use Rattle.sbp_journal.specs.Outgoings.{OutboxState}
 use Rattle.sbp_journal.specs.Run.{Moment, said}
-use Rattle.sbp_journal.specs.Transactions.{Sending, asked_by, begun_by, begun_if, part_of}
+use Rattle.sbp_journal.specs.Transactions.{Sending, begun_by, part_of}
 use Rattle.sbp_journal.specs.Wire.{Terms, terms}
 use Rattle.sbp_journal.specs.declared.note.Note.TheVariants as notes
 use Rattle.sbp_journal.specs.declared.outbox.Outgoing.{Outgoing}
@@ -23,6 +23,7 @@ use Rattle.sbp_world.proofs.Hosts.Cores.{wire_is}
 use Rattle.turn_laws.proofs.Handed.{handed, note_of, notes_sent, notes_told, packet_note}
 use Rattle.turn_laws.proofs.RomTerms.{Keeps, NoneMine, none_both, sent_current}
 use Rattle.turn_laws.proofs.RomTies.{told_none}
+use Rattle.bus_transactions.proofs.Facts.{injected_begun}
 
 -- ---- the target tells no packet either
 side_none : (i : ℕ) (side : Side) (w : WorldState) → IsOther side → NoneMine i (note_of side w)
@@ -70,10 +71,6 @@ module _ (i from : ℕ) (other : (from == suc i) ≡ false) where
       let v = told_all weight outbox.sides w in none_both i (notes_told weight outbox.sides w) (notes_sent from outbox.packets v) (told_none i weight outbox.sides w o) (sent_none outbox.packets v)
 
 -- ---- a packet that was injected
-begun_none : (q : Sending) → q.injected ≡ true → begun_by q ≡ None
-unfolding begun_by
-begun_none q e = ap (λ b. begun_if b (asked_by q)) e
-
 masked : (a b : Bool) (old x : Host) → b ≡ true → cond (a && not b) x old ≡ old
 masked true b old x e = by b e
   where
@@ -95,4 +92,4 @@ keeps_injected i serial generation from to bytes past injected = record {
     packet = record { generation = generation; from = from; to = to; bytes = bytes; injected = (terms past).injected serial }
 
     none : begun_by packet ≡ None
-    none = begun_none packet injected
+    none = injected_begun packet injected

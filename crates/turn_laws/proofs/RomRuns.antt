@@ -70,6 +70,7 @@ use Rattle.turn_laws.proofs.RomPlaces.{act_roms, call_roms, heard_roms, late_rom
 use Rattle.turn_laws.proofs.RomTerms.{Keeps, is_mine, keeps_line}
 use Rattle.turn_laws.proofs.RomTies.{RomOf}
 use Rattle.turn_laws.proofs.TargetWaits.{target_waits_law}
+use Rattle.sbp_world.proofs.Lists.ManageRuns.{first_none}
 
 -- ---- at a place
 where_so : (b : Bool) (X : Type 0) → (b ≡ true → X) → Where b X
@@ -266,25 +267,21 @@ module _ (units ready : ℕ) (start : List Disk) where
           by false = tt
 
 -- ---- where a run begins no initiator has anything under way
-first_none : (i n a : ℕ) (ready : Bool) → RomAt (new_state i ready).layer (new_state i ready).target n a → ⊥
+first_unread : (i n a : ℕ) (ready : Bool) → RomAt (new_state i ready).layer (new_state i ready).target n a → ⊥
 unfolding new_state
-first_none i n a ready x = not_yet x.kind (Some (purposes.Rom a)) (at_life (0xffc1 + i) [] (new_state i ready).target n (Some (purposes.Rom a)) x)
+first_unread i n a ready x = not_yet x.kind (Some (purposes.Rom a)) (at_life (0xffc1 + i) [] (new_state i ready).target n (Some (purposes.Rom a)) x)
   where
     not_yet : (kind : ReplyKind) (purpose : Option Purpose) → not_begun ≡ under_way kind purpose → ⊥
     not_yet kind purpose e = cc
 
-idle_first : (i : ℕ) (ready : Bool) → (new_state i ready).operation ≡ None
-unfolding new_state
-idle_first i ready = refl
-
 first_rom : (past : List Moment) (i : ℕ) (ready : Bool) → RomOf past i (new_state i ready)
 first_rom past i ready = record {
   one = record {
-    runs = λ n a x. absurd (first_none i n a ready x);
-    one = λ n a m b x y. absurd (first_none i n a ready x);
-    has = λ r e f. none_is r (sym (idle_first i ready) ∙ e);
+    runs = λ n a x. absurd (first_unread i n a ready x);
+    one = λ n a m b x y. absurd (first_unread i n a ready x);
+    has = λ r e f. none_is r (sym (first_none i ready) ∙ e);
   };
-  tie = λ n a x u e. absurd (first_none i n a ready x);
+  tie = λ n a x u e. absurd (first_unread i n a ready x);
 }
 
 first_roms : Begins Carried

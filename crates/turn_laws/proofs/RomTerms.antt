@@ -12,7 +12,6 @@ use Rattle.bus_transactions.proofs.Facts.{none_begun}
 use Rattle.bus_transactions.proofs.PacketParts.{same_is}
 use Rattle.byteorder.specs.Endian.{big_bytes}
 use Rattle.label_table.specs.Bodies.{response_to}
-use Rattle.orb_layout.specs.Replies.{Answer, Done, Expired, NoLabel, Payload, Refused}
 use Rattle.sbp_journal.specs.Run.{Moment, asked, said}
 use Rattle.sbp_journal.specs.Transactions.{Kind, Part, Sending, Transaction, asked_as, asked_by, begun_by, between, is_same, is_same_kind, no_packet, part_by, part_in, part_of, request, response}
 use Rattle.sbp_journal.specs.Wire.{Held, Owed, Terms, arrives, asked_in, begins, closes, closes_if, free, gets, gets_as, gives, ignores, ignores_that, is_news, is_served, judges, judges_if, noted, opened, pays, puts, rests, sends, terms, times_out, waits}
@@ -25,9 +24,9 @@ use Rattle.sbp_journal.specs.declared.note.Note.TheVariants as notes
 use Rattle.sbp_journal.specs.declared.operation.Operation.{Operation}
 use Rattle.sbp_journal.specs.declared.operation.Operation.TheVariants as operations
 use Rattle.sbp_journal.specs.declared.operation.OpWord.{OpWord}
-use Rattle.sbp_laws.specs.Hosts.{Host, Underway, goes_on, got_by, host_at, is_serial, known_host, list_begins, op_ended, pointer_answered, reset_seen, sent_as, sent_in}
+use Rattle.sbp_laws.specs.Hosts.{Host, Underway, goes_on, got_by, host_at, is_serial, known_host, list_begins, op_ended, reset_seen, sent_as, sent_in}
 use Rattle.sbp_laws.specs.Lists.{present_list}
-use Rattle.sbp_laws.specs.Packets.{answer_in, answered_at, packet_at, receiver_in, sender_in}
+use Rattle.sbp_laws.specs.Packets.{answered_at, receiver_in, sender_in}
 use Rattle.sbp_laws.specs.Turns.{event_of}
 use Rattle.sbp_world.proofs.Common.{none_is, same_number, untrue}
 use Rattle.sbp_world.proofs.Hosts.Carries.{IsNoAct}
@@ -36,6 +35,7 @@ use Rattle.sbp_world.proofs.Hosts.Mild.{quad_tcode}
 use Rattle.sbp_world.proofs.Lists.BegunBy.{transaction_of}
 use Rattle.sbp_world.proofs.Lists.FedHeld.{same_self}
 use Rattle.turn_laws.proofs.Handed.{onto}
+use Rattle.sbp_world.proofs.Lists.ManageFirsts.{got_operation}
 
 -- ---- a response is no request, by its tcode
 abbrev pub is_asking : Part → Bool
@@ -197,18 +197,6 @@ Stays old new = (new.operation ≡ old.operation) ⊎ (new.operation ≡ None)
 picks : (b : Bool) (old x : Host) → Stays old x → Stays old (cond b x old)
 picks true old x h = h
 picks false old x h = inl refl
-
-pointer_operation : (answer : Answer) (own : Bool) (host : Host) → (pointer_answered answer own host).operation ≡ host.operation
-pointer_operation Done true host = refl
-pointer_operation Done false host = refl
-pointer_operation (Payload bytes) own host = refl
-pointer_operation (Refused rcode) own host = refl
-pointer_operation Expired own host = refl
-pointer_operation NoLabel own host = refl
-
-got_operation : (own : Option ℕ) (wire : Terms) (serial : ℕ) (present : Option ℕ) (host : Host) → (got_by own wire serial present host).operation ≡ host.operation
-got_operation (Some own) wire serial present host = pointer_operation (answer_in (packet_at wire serial)) (is_serial host.pointer own) host
-got_operation None wire serial present host = refl
 
 list_stays : (k : ℕ) (host : Host) → Stays host (list_begins k host)
 list_stays zero host = inl refl

@@ -26,7 +26,7 @@ use Rattle.sbp_laws.specs.Lists.{present_list}
 use Rattle.sbp_laws.specs.Turns.{event_of}
 use Rattle.sbp_world.specs.Telling.{told, told_all}
 use Rattle.sbp_world.specs.Worlds.{WorldState}
-use Rattle.sbp_world.proofs.Common.{none_is, same_number, untrue}
+use Rattle.sbp_world.proofs.Common.{none_is, same_number}
 use Rattle.sbp_world.proofs.Formed.{AreOwn, IsNoRun}
 use Rattle.sbp_world.proofs.Hosts.Asked.{IsRequest, number_in}
 use Rattle.sbp_world.proofs.Hosts.Carries.{IsNoAct}
@@ -36,6 +36,7 @@ use Rattle.turn_laws.proofs.Handed.{handed, notes_sent, notes_told, onto, onto_b
 use Rattle.turn_laws.proofs.RomCalls.{ActRom, LeavesRom, act_other, act_quiet}
 use Rattle.turn_laws.proofs.RomLabels.{CallRom, IsQuiet, OneRom, RomAt, reads, sends_none, sends_reply, stays}
 use Rattle.turn_laws.proofs.RomTerms.{Keeps, NoneMine, Stays, asked_latest, begun_current, is_mine, keeps_reply, keeps_rest, keeps_then, sent_current}
+use Rattle.sbp_world.proofs.Lists.ManageFirsts.{so_if}
 
 pub record RomOf (past : List Moment) (i : ℕ) (s : InitiatorState) : Type 0 where
   pub one : OneRom s
@@ -83,10 +84,6 @@ either : (b : Bool) (x y : Host) → x.operation ≡ y.operation → (cond b x y
 either true x y e = e
 either false x y e = refl
 
-so : (b : Bool) (x y : Host) → b ≡ true → cond b x y ≡ x
-so true x y f = refl
-so false x y f = untrue f
-
 latest_in : (serial : ℕ) → Option Underway → ℕ
 latest_in serial None = serial
 latest_in serial (Some u) = u.latest
@@ -102,7 +99,7 @@ module _ (action : Action) (mid : List Moment) (i serial generation to label : �
   sent_is =
       ap (λ p. sent_as p (event_of mid) i (present_list mid i) serial host) part
       ∙ ap (λ e. sent_in e i (present_list mid i) serial host) line
-      ∙ so (nat_eq i i) (acts_as (operation_of action)) (goes_on host.operation serial host) (same_number i)
+      ∙ so_if (nat_eq i i) (acts_as (operation_of action)) (goes_on host.operation serial host) (same_number i)
 
   act_stays : operation_of action ≡ None → (host_at (said (notes.Sent serial generation (suc i) to bytes) ∷ mid) i).operation ≡ host.operation
   act_stays none =
@@ -118,7 +115,7 @@ module _ (action : Action) (mid : List Moment) (i serial generation to label : �
 
       now_is : host_at (said (notes.Sent serial generation (suc i) to bytes) ∷ mid) i ≡ acts_as (operation_of action)
       now_is =
-          so ((nat_eq (suc i) (suc i)) && not ((known_host mid i).wire.injected serial)) (sent_as (part_of bytes) (event_of mid) i (present_list mid i) serial host) host
+          so_if ((nat_eq (suc i) (suc i)) && not ((known_host mid i).wire.injected serial)) (sent_as (part_of bytes) (event_of mid) i (present_list mid i) serial host) host
           (ap (λ b. b && not ((known_host mid i).wire.injected serial)) (same_number (suc i)) ∙ ap not own)
           ∙ sent_is
 

@@ -7,7 +7,7 @@ use Rattle.bus_transactions.specs.Sent as bus
 use Rattle.label_table.specs.Bodies.{Body, block_read, block_write, quadlet_read, quadlet_write}
 use Rattle.sbp_journal.specs.Run.{Moment, said}
 use Rattle.sbp_journal.specs.Transactions.{Sending, Transaction, begun_by}
-use Rattle.sbp_journal.specs.Wire.{Owed, Terms, begins, gives, noted, pays, puts, sends, terms}
+use Rattle.sbp_journal.specs.Wire.{Terms, begins, noted, puts, sends, terms}
 use Rattle.sbp_journal.specs.declared.note.Note.{Note}
 use Rattle.sbp_journal.specs.declared.note.Note.TheVariants as notes
 use Rattle.sbp_laws.specs.ActionLaw.{in_order}
@@ -23,6 +23,7 @@ use Rattle.turn_laws.proofs.LaterTerms.{Clean}
 use Rattle.turn_laws.proofs.PresentOrbs.{told_one}
 use Rattle.turn_laws.proofs.RequestLabels.{AreOf}
 use Rattle.turn_laws.proofs.SentBodies.{is_request}
+use Rattle.sbp_world.proofs.Agents.Management.Still.{pays_injected}
 
 -- ---- a note that says nothing of the wire
 abbrev pub IsStill : Note → Type 0
@@ -142,19 +143,11 @@ module _ (s : ℕ) (q : Sending) where
   begun_sent None t = (refl, refl)
   begun_sent (Some u) t = (refl, refl)
 
-  given_sent : (u : Option Transaction) (rcode : ℕ) (t : Terms) → ((gives u rcode t).injected ≡ t.injected) × ((gives u rcode t).count ≡ t.count)
-  given_sent None rcode t = (refl, refl)
-  given_sent (Some u) rcode t = (refl, refl)
-
-  paid_sent : (o : Option Owed) (sent : ℕ → Option Sending) (t : Terms) → ((pays o sent s q t).injected ≡ t.injected) × ((pays o sent s q t).count ≡ t.count)
-  paid_sent None sent t = (refl, refl)
-  paid_sent (Some owed) sent t = given_sent _ _ t
-
   pub sent_clean : (t : Terms) → Clean t → Clean (sends s q t)
   sent_clean t c r l =
       let put = puts (begun_by q) s q t in
       let begun = begun_sent (begun_by q) put in
-      let paid = paid_sent t.owes t.sent (begins (begun_by q) s q put) in
+      let paid = pays_injected t.owes t.sent s q (begins (begun_by q) s q put) in
       let count : (sends s q t).count ≡ t.count + 1 = paid.1 ∙ begun.1 in
       ap (λ f. f r) (paid.0 ∙ begun.0) ∙ c r (omega (arith, count, l))
 

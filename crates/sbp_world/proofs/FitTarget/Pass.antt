@@ -40,6 +40,15 @@ use Rattle.sbp_target.specs.Histories.Moves.{Announced, pushes, stay, withholds}
 use Rattle.sbp_target.proofs.Histories.Moved.{announced_moves}
 use Rattle.sbp_target.proofs.Histories.Views.{cuts_keep, heard_live, kept}
 
+-- ---- the block of an unsolicited status
+pub block_few : length block ≤ 2048
+unfolding block_head
+block_few = omega arith
+
+pub block_bytes : AreBytes block
+unfolding block_head
+block_bytes = quads_bytes (0x85000000 ∷ 0x00000000 ∷ 0x02062800 ∷ 0 ∷ 0 ∷ 0 ∷ [])
+
 -- what is said of a layer, the packets handed out, and what was told
 abbrev pub Said : Type 1
 Said = Layer Purpose → List Outgoing → List Side → Type 0
@@ -285,14 +294,6 @@ module _ (known : ℕ → Type 0) (P : Said) where
         }
     announced place peer s (None, (layer, outbox)) h m =
         record { made = k.leaves.tells layer outbox.packets outbox.sides _ tt m; fits = fits_layer known s.node layer h.fits }
-
-    block_few : length block ≤ 2048
-    unfolding block_head
-    block_few = omega arith
-
-    block_bytes : AreBytes block
-    unfolding block_head
-    block_bytes = quads_bytes (0x85000000 ∷ 0x00000000 ∷ 0x02062800 ∷ 0 ∷ 0 ∷ 0 ∷ [])
 
     served : (place : ℕ) (login : Login) (s : Scene) → login_at s.node place ≡ Some login → is_live login ≡ true → In known P s → IsServed known login
     served place login s e live h = let f = subst (FitsLogin known) e (h.fits.logins place) in record { there = f.1 live; fifo = f.0 }

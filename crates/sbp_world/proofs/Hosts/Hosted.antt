@@ -226,7 +226,7 @@ core_of_runs line run r i b = (of_runs (Cored run.ready) (cored_carried run.read
 
 -- ---- the rows of a refusal that read the session
 
-stuck_row : (seat : Seat) → is_stuck (session_in seat) ≡ is_in_stuck (session_of seat)
+pub stuck_row : (seat : Seat) → is_stuck (session_in seat) ≡ is_in_stuck (session_of seat)
 stuck_row (seats.Out out) = refl
 stuck_row (seats.Entering entering) = refl
 stuck_row (seats.Live live) = refl
@@ -235,7 +235,7 @@ stuck_row (seats.Returning response) = refl
 stuck_row (seats.Leaving response) = refl
 stuck_row (seats.Stuck origin) = refl
 
-right_row : (action : Action) (seat : Seat) → is_right_state action (session_in seat) ≡ fits_session action (session_of seat)
+pub right_row : (action : Action) (seat : Seat) → is_right_state action (session_in seat) ≡ fits_session action (session_of seat)
 right_row (actions.Put cmd) (seats.Out out) = refl
 right_row (actions.Put cmd) (seats.Entering entering) = refl
 right_row (actions.Put cmd) (seats.Live live) = refl
@@ -372,7 +372,7 @@ pub worked : (r : Option Running) → operation_in r ≡ operation_by (work_in r
 worked None = refl
 worked (Some running) = refl
 
-some_running : (u : Option Underway) → not (is_none u) ≡ is_some (running_operation u)
+pub some_running : (u : Option Underway) → not (is_none u) ≡ is_some (running_operation u)
 some_running None = refl
 some_running (Some underway) = refl
 

@@ -120,7 +120,7 @@ first_same : (r q : Refusals) → r.stuck ≡ q.stuck → r.wrong_state ≡ q.wr
 first_same r q e f g n m h = first_rows r.stuck q.stuck e r.wrong_state q.wrong_state r.waiting q.waiting f g h r.no_rom q.no_rom n m _ _
 
 -- a stuck one is refused by its first row
-stuck_first : (a c : Bool) → a ≡ c → a ≡ true → (x y : Option ℕ) → cond a (Some 1) x ≡ cond c (Some 1) y
+pub stuck_first : (a c : Bool) → a ≡ c → a ≡ true → (x y : Option ℕ) → cond a (Some 1) x ≡ cond c (Some 1) y
 stuck_first true true e f x y = refl
 stuck_first true false e f x y = untrue (sym e)
 stuck_first false c e f x y = untrue f

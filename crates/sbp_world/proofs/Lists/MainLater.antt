@@ -44,7 +44,7 @@ agents_not place which e = cc
 manager_not : for_manager ≡ for_nobody → ⊥
 manager_not e = cc
 
-among_not : (from : ℕ) (agents : List Agent) (p serial : ℕ) → (agent_in agents p).main ≡ Some serial → purpose_among from agents serial ≡ for_nobody → ⊥
+pub among_not : (from : ℕ) (agents : List Agent) (p serial : ℕ) → (agent_in agents p).main ≡ Some serial → purpose_among from agents serial ≡ for_nobody → ⊥
 among_not from [] p serial e f = absurd (let g : None ≡ Some serial = e in cc)
 among_not from (a ∷ agents) p serial e f = by (λ q h i. among_not (from + 1) agents q serial h i) (is_serial a.main serial) refl (is_serial a.ahead serial) p e f
   where

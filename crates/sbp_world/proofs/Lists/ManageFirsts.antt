@@ -123,7 +123,7 @@ pointer_operation (Refused rcode) own host = refl
 pointer_operation Expired own host = refl
 pointer_operation NoLabel own host = refl
 
-got_operation : (own : Option ℕ) (wire : Terms) (serial : ℕ) (present : Option ℕ) (host : Host) → (got_by own wire serial present host).operation ≡ host.operation
+pub got_operation : (own : Option ℕ) (wire : Terms) (serial : ℕ) (present : Option ℕ) (host : Host) → (got_by own wire serial present host).operation ≡ host.operation
 got_operation (Some own) wire serial present host = pointer_operation (answer_in (packet_at wire serial)) (is_serial host.pointer own) host
 got_operation None wire serial present host = refl
 
@@ -186,7 +186,7 @@ told_first (_ ∷ later) past i h = absurd h.0
 
 -- ---- the packet by which an operation begins
 
-so_if : (b : Bool) (x y : Host) → b ≡ true → cond b x y ≡ x
+pub so_if : (b : Bool) (x y : Host) → b ≡ true → cond b x y ≡ x
 so_if true x y e = refl
 so_if false x y e = untrue e
 

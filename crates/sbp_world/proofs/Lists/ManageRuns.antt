@@ -145,7 +145,7 @@ module _ (ready : Bool) (start : List Disk) where
 
 -- ---- the beginning
 
-first_none : (i : ℕ) (ready : Bool) → (new_state i ready).operation ≡ None
+pub first_none : (i : ℕ) (ready : Bool) → (new_state i ready).operation ≡ None
 unfolding new_state
 first_none i ready = refl
 

@@ -33,7 +33,7 @@ seen_none true generation id target s e =
 seen_none false generation id target s e = untrue e
 
 -- a later one leaves no operation under way
-none_later : (generation id target : ℕ) (s : InitiatorState) → nat_lt s.layer.generation generation ≡ true → (see_step generation id target empty_outbox s).1.operation ≡ None
+pub none_later : (generation id target : ℕ) (s : InitiatorState) → nat_lt s.layer.generation generation ≡ true → (see_step generation id target empty_outbox s).1.operation ≡ None
 unfolding see_step seeing_step
 none_later generation id target s e = seen_none (nat_lt s.layer.generation generation) generation id target s e
 

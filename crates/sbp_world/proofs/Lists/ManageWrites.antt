@@ -117,7 +117,7 @@ module _ (action : Action) (s : InitiatorState) (packet : Outgoing) where
   act_bytes e f = judged_bytes (refusal action (facts_with true s action)) e f
 
 -- one that begins an operation of management asks for the write, and tells nothing
-manage_asks : (action : Action) (s : InitiatorState) → manages (operation_of action) ≡ true → demand_of action s ≡ Some (manage_demand s)
+pub manage_asks : (action : Action) (s : InitiatorState) → manages (operation_of action) ≡ true → demand_of action s ≡ Some (manage_demand s)
 manage_asks (actions.Login unit reconnect exclusive password) s e = refl
 manage_asks (actions.Query unit) s e = refl
 manage_asks actions.Reconnect s e = refl

@@ -54,7 +54,7 @@ gives_injected : (begun : Option Transaction) (rcode : ℕ) (t : Terms) → ((gi
 gives_injected None rcode t = (refl, refl)
 gives_injected (Some u) rcode t = (refl, refl)
 
-pays_injected : (owed : Option Owed) (given : ℕ → Option Sending) (s : ℕ) (q : Sending) (t : Terms) → ((pays owed given s q t).injected ≡ t.injected) × ((pays owed given s q t).count ≡ t.count)
+pub pays_injected : (owed : Option Owed) (given : ℕ → Option Sending) (s : ℕ) (q : Sending) (t : Terms) → ((pays owed given s q t).injected ≡ t.injected) × ((pays owed given s q t).count ≡ t.count)
 pays_injected None given s q t = (refl, refl)
 pays_injected (Some owed) given s q t = gives_injected (asked_in (given owed.serial)) _ t
 
