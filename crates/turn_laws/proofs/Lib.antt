@@ -189,3 +189,6 @@ pub mod SentOwn
 pub mod TurnSends
 pub mod FirstRequests
 pub mod AgentRequests
+pub mod RequestPackets
+pub mod ManagerRequests
+pub mod PushRequests

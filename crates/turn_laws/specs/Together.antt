@@ -24,7 +24,9 @@ use Rattle.turn_laws.specs.Failing.{FailsByRows}
 use Rattle.turn_laws.specs.Failures.{FailsWhereDue}
 use Rattle.turn_laws.specs.Ends.{EndsWhereDue}
 use Rattle.turn_laws.specs.Faults.{DiesBeforeFaults}
+use Rattle.turn_laws.specs.ManagerRequests.{ManagerAsks}
 use Rattle.turn_laws.specs.Once.{DiesOnce}
+use Rattle.turn_laws.specs.PushRequests.{PushesAsk}
 use Rattle.turn_laws.specs.Pushes.{PushesWhereDue}
 use Rattle.turn_laws.specs.Runs.{OfEveryRun}
 use Rattle.turn_laws.specs.Silent.{EndsHeard}
@@ -36,6 +38,8 @@ pub record LawfulInTurns (start : List Disk) (past : List Moment) : Type 0 where
   pub actions : EachTurn ActsByRows past
   pub act_requests : EachTurn (ActsByRequests start) past
   pub agent_requests : EachTurn (AgentAsksFirst start) past
+  pub manager_requests : EachTurn (ManagerAsks start) past
+  pub push_requests : EachTurn (PushesAsk start) past
   pub ordered : EachTurn Ordered past
   pub cuts : EachTurn (CutsWhereDue start) past
   pub cleared : EachTurn (ClearsWhereDue start) past
