@@ -28,7 +28,7 @@ use Rattle.turn_laws.proofs.Pass.{of_every_run}
 use Rattle.turn_laws.proofs.PendingFirsts.{got_injected, late_injected}
 use Rattle.turn_laws.proofs.PendingTurns.{clean_here}
 use Rattle.turn_laws.proofs.PushSerials.{note_count}
-use Rattle.turn_laws.proofs.SentOwn.{AllOwn, AllStill, AreFor, BeginFor, asked_all, asked_exactly, begin_as, effects_still, own_begun, sent_clean, still_terms, told_both}
+use Rattle.turn_laws.proofs.SentOwn.{AllOwn, AllStill, AreFor, asked_exactly, begin_as, effects_still, own_begun, sent_clean, still_terms, told_both}
 
 -- ---- before a turn no serial that was not sent is of an injected packet
 module _ (units ready : ℕ) (has : 0 < units) (start : List Disk) where
@@ -176,9 +176,6 @@ module _ (start : List Disk) (t : Turn) (sound : Sound start t) (ready : IsReady
         let past = before_requests start t in
         let sends : AllSends own = sends_first own more (subst AllSends is (sends_behind due packets (subst AllSends split (all_sends t.rest)))) in
         asked_exactly node more wants (once_told past own) (sends_clean own past sends clean_there) (subst AllOwn (whole ∙ (ap (once_told past) is ∙ told_both own more past)) sound.own) b
-
-    pub turn_first : BeginFor node packets wants → BeginAs (before_requests start t) node packets wants
-    turn_first b = asked_all node packets wants (before_requests start t) clean_there (subst AllOwn whole sound.own) b
 
 -- of a delivery and of a time-out
 module _ (start : List Disk) (t : Turn) (sound : Sound start t) (serial : ℕ) where

@@ -168,19 +168,12 @@ abbrev pub AskFor : Bool → Body → List ℕ → Type 0
 AskFor true (block_write offset payload) bytes = AreChunk offset (length payload) bytes
 AskFor is_untold body bytes = AreOf body bytes
 
--- the packets begin with those of these requests
-abbrev pub BeginFor : (node : ℕ) → List Note → List Request → Type 0
-BeginFor node packets [] = Unit {0}
-BeginFor node (notes.Sent serial generation from to bytes ∷ rest) (want ∷ requests) =
-    ((from ≡ node) × ((to ≡ want.to) × AskFor want.is_untold want.body bytes)) × BeginFor node rest requests
-BeginFor node rest (want ∷ requests) = ⊥
-
 -- the packets are those of these requests, one by one
 abbrev pub AreFor : (node : ℕ) → List Note → List Request → Type 0
 AreFor node [] [] = Unit {0}
 AreFor node (notes.Sent serial generation from to bytes ∷ rest) (want ∷ requests) =
     ((from ≡ node) × ((to ≡ want.to) × AskFor want.is_untold want.body bytes)) × AreFor node rest requests
-AreFor node rest requests = ⊥
+AreFor node packets requests = ⊥
 
 pub both_for : (node : ℕ) (a b : List Note) (x y : List Request) → AreFor node a x → AreFor node b y → AreFor node (a ++ b) (x ++ y)
 both_for node [] b [] y h k = k
@@ -198,38 +191,23 @@ module _ (t : Terms) (node : ℕ) (want : Request) (serial generation from to : 
   asked_as true (block_read offset len) a = is_request t generation node want bytes own (block_read offset len) a serial from to number sender receiver
   asked_as false body a = is_request t generation node want bytes own body a serial from to number sender receiver
 
--- of the next packet
-next_asked : (node serial generation from to : ℕ) (bytes : List ℕ) (rest : List Note) (want : Request) (past : List Moment) → Clean (terms past) → AllOwn (once_told past (notes.Sent serial generation from to bytes ∷ rest))
-    → (from ≡ node) × ((to ≡ want.to) × AskFor want.is_untold want.body bytes)
-    → (let now = said (notes.Sent serial generation from to bytes) ∷ past in IsAsked want.is_untold want.body (terms past) node want serial generation from to bytes × (Clean (terms now) × AllOwn (once_told now rest)))
-next_asked node serial generation from to bytes rest want past clean own b =
+pub asked_exactly : (node : ℕ) (packets : List Note) (requests : List Request) (past : List Moment) → Clean (terms past) → AllOwn (once_told past packets) → AreFor node packets requests → ArePackets past node packets requests
+asked_exactly node [] [] past clean own b = tt
+asked_exactly node [] (want ∷ requests) past clean own b = absurd b
+asked_exactly node (notes.Sent serial generation from to bytes ∷ rest) [] past clean own b = absurd b
+asked_exactly node (notes.Sent serial generation from to bytes ∷ rest) (want ∷ requests) past clean own b =
     let t = terms past in
     let note = notes.Sent serial generation from to bytes in
     let behind = subst AllOwn (told_one note rest past) own in
     let here = own_begun rest (said note ∷ past) behind in
     let number : serial ≡ t.count + 1 = here.1.0 in
     let honest : t.injected serial ≡ false = clean serial (omega (arith, number)) in
-    let its = subst (λ x. bus.IsOwn t generation node x bytes) b.1.0 (subst (λ x. bus.IsOwn t generation x to bytes) b.0 (here.0.0 honest)) in
+    let its = subst (λ x. bus.IsOwn t generation node x bytes) b.0.1.0 (subst (λ x. bus.IsOwn t generation x to bytes) b.0.0 (here.0.0 honest)) in
     let q : Sending = record { generation = generation; from = from; to = to; bytes = bytes; injected = t.injected serial } in (
-      asked_as t node want serial generation from to bytes number b.0 b.1.0 its want.is_untold want.body b.1.1,
-      (sent_clean serial q t clean, behind),
+      asked_as t node want serial generation from to bytes number b.0.0 b.0.1.0 its want.is_untold want.body b.0.1.1,
+      asked_exactly node rest requests (said note ∷ past) (sent_clean serial q t clean) behind b.1,
     )
-
-pub asked_all : (node : ℕ) (packets : List Note) (requests : List Request) (past : List Moment) → Clean (terms past) → AllOwn (once_told past packets) → BeginFor node packets requests → BeginAs past node packets requests
-asked_all node packets [] past clean own b = tt
-asked_all node [] (want ∷ requests) past clean own b = absurd b
-asked_all node (notes.Sent serial generation from to bytes ∷ rest) (want ∷ requests) past clean own b =
-    let x = next_asked node serial generation from to bytes rest want past clean own b.0 in (x.0, asked_all node rest requests (said (notes.Sent serial generation from to bytes) ∷ past) x.1.0 x.1.1 b.1)
-asked_all node (note ∷ rest) (want ∷ requests) past clean own b = absurd b
-
-pub asked_exactly : (node : ℕ) (packets : List Note) (requests : List Request) (past : List Moment) → Clean (terms past) → AllOwn (once_told past packets) → AreFor node packets requests → ArePackets past node packets requests
-asked_exactly node [] [] past clean own b = tt
-asked_exactly node [] (want ∷ requests) past clean own b = absurd b
-asked_exactly node (notes.Sent serial generation from to bytes ∷ rest) [] past clean own b = absurd b
-asked_exactly node (notes.Sent serial generation from to bytes ∷ rest) (want ∷ requests) past clean own b =
-    let x = next_asked node serial generation from to bytes rest want past clean own b.0 in (x.0, asked_exactly node rest requests (said (notes.Sent serial generation from to bytes) ∷ past) x.1.0 x.1.1 b.1)
-asked_exactly node (note ∷ rest) [] past clean own b = absurd b
-asked_exactly node (note ∷ rest) (want ∷ requests) past clean own b = absurd b
+asked_exactly node (note ∷ rest) requests past clean own b = absurd b
 
 -- so packets begin where those are the first
 pub begin_as : (node : ℕ) (first more : List Note) (requests : List Request) (past : List Moment) → ArePackets past node first requests → BeginAs past node (first ++ more) requests

@@ -74,6 +74,12 @@ sent_for g (packet ∷ later) (want ∷ requests) w same h =
     let v = sent 0 packet w in
     one_for (node_of w.generations 0 packet.to) packet w want (notes_sent 0 later v) requests (ap (λ (x : GenerationsState). node_of x 0 packet.to) same ∙ h.0.0) h.0.1 (sent_for g later requests v (sent_generations packet w ∙ same) h.1)
 
+pub both_sent : (g : GenerationsState) (a b : List Outgoing) (x y : List Request) → AreSentFor g a x → AreSentFor g b y → AreSentFor g (a ++ b) (x ++ y)
+both_sent g [] b [] y h k = k
+both_sent g [] b (want ∷ x) y h k = absurd h
+both_sent g (packet ∷ a) b [] y h k = absurd h
+both_sent g (packet ∷ a) b (want ∷ x) y h k = (h.0, both_sent g a b x y h.1 k)
+
 -- the notes of two, and the bus between them
 pub notes_both : (a b : List Outgoing) (w : WorldState) → notes_sent 0 (a ++ b) w ≡ notes_sent 0 a w ++ notes_sent 0 b (sent_all 0 a w)
 unfolding sent_all

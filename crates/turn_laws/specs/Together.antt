@@ -14,7 +14,7 @@ use Rattle.sbp_laws.specs.SentPackets.{SentAt}
 use Rattle.sbp_laws.specs.SentWrites.{DecisionsAreSent, StatusesAreSent}
 use Rattle.sbp_laws.specs.Turns.{EachMoment, EachTurn}
 use Rattle.turn_laws.specs.ActRequests.{ActsByRequests}
-use Rattle.turn_laws.specs.AgentRequests.{AgentAsksFirst}
+use Rattle.turn_laws.specs.AgentRequests.{AgentAsks}
 use Rattle.turn_laws.specs.Actions.{ActsByRows}
 use Rattle.turn_laws.specs.Cleared.{ClearsWhereDue}
 use Rattle.turn_laws.specs.Codes.{EndsWithCodes}
@@ -37,7 +37,7 @@ pub record LawfulInTurns (start : List Disk) (past : List Moment) : Type 0 where
   pub login : LoginLaw start past
   pub actions : EachTurn ActsByRows past
   pub act_requests : EachTurn (ActsByRequests start) past
-  pub agent_requests : EachTurn (AgentAsksFirst start) past
+  pub agent_requests : EachTurn (AgentAsks start) past
   pub manager_requests : EachTurn (ManagerAsks start) past
   pub push_requests : EachTurn (PushesAsk start) past
   pub ordered : EachTurn Ordered past

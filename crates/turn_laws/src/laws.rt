@@ -290,14 +290,14 @@ pub fn lines_of_actions_bring_their_notes()
     ensures { ActEntriesLaw }
 {}
 
-/// In each turn of every run, whatever anybody injected, the packets behind the response begin with the request that
-/// an agent of the target has first, where the laws have one: that of its step, or, where that finds no label, the
-/// status of the ORB that fails so. It has the next serial, goes in the target's generation to the initiator of the
-/// login, and is spelled canonically under the lowest label that serves it; of a chunk that its medium did not tell
-/// the number of its bytes is due. So much of `requests` of the sent law: not the read ahead, and not what is sent
-/// behind it.
+/// In each turn of every run, whatever anybody injected, the packets behind the response begin with the requests that
+/// an agent of the target has, where the laws have some: that of its step, or, where that finds no label, the status of
+/// the ORB that fails so; then the read ahead of the next ORB, where 16 labels are left. Each has the next serial, goes
+/// in the target's generation to the initiator of the login, and is spelled canonically under the lowest label that
+/// serves it; of a chunk that its medium did not tell the number of its bytes is due. So much of `requests` of the sent
+/// law: not what is sent behind them.
 #[tactic(auto, using(crate::proofs::AgentRequests::agent_requests_law))]
-pub fn agents_send_their_requests_first()
+pub fn agents_send_their_requests()
     ensures { AgentRequestsLaw }
 {}
 

@@ -5,7 +5,7 @@ mod laws;
 
 pub use laws::{
     actions_are_done_or_refused, actions_send_their_requests, agents_die_once,
-    agents_send_their_requests_first, commands_end_as_read, deaths_have_rows,
+    agents_send_their_requests, commands_end_as_read, deaths_have_rows,
     decisions_are_sent_where_due, decisions_stand_as_told, discs_are_announced_where_due,
     ends_are_heard, failures_have_rows, faults_follow_deaths, illegal_orbs_have_codes,
     judgements_are_lawful, lines_of_actions_bring_their_notes, lists_are_cut_where_due,
