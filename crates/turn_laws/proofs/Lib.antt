@@ -35,6 +35,7 @@ pub mod RequestWrites
 pub mod FetchSteps
 pub mod EndNotes
 pub mod EndFound
+pub mod ReadAheads
 pub mod AgentEnds
 pub mod FoundLabels
 pub mod AgentDue
@@ -44,6 +45,7 @@ pub mod LateEnds
 pub mod ReplyEnds
 pub mod GotEnds
 pub mod RequestEvents
+pub mod OnlyAnswers
 pub mod AskEnds
 pub mod RequestEnds
 pub mod TargetEnds
@@ -135,6 +137,8 @@ pub mod Announcing
 pub mod StatusKinds
 pub mod PushOwners
 pub mod OtherLabels
+pub mod FreeLabels
+pub mod FirstLayers
 pub mod FollowLayers
 pub mod AnnouncedLayers
 pub mod PushNotes
@@ -187,5 +191,9 @@ pub mod RomRuns
 pub mod SentBodies
 pub mod SentOwn
 pub mod TurnSends
-pub mod FirstRequests
+pub mod AgentSends
+pub mod RequestPackets
 pub mod AgentRequests
+pub mod RequestPackets
+pub mod ManagerRequests
+pub mod PushRequests
