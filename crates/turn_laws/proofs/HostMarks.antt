@@ -19,7 +19,7 @@ use Rattle.sbp_journal.specs.declared.operation.Operation.{Operation}
 use Rattle.sbp_journal.specs.declared.operation.Operation.TheVariants as operations
 use Rattle.sbp_journal.specs.declared.operation.OpWord.{OpWord}
 use Rattle.sbp_journal.specs.declared.operation.OpWord.TheVariants as words
-use Rattle.sbp_laws.specs.Hosts.{Host, Underway, acted, got_by, goes_on, host_at, is_serial, known_host, list_begins, op_ended, op_left, operation_of, pointer_answered, reset_seen, ring, says_dead}
+use Rattle.sbp_laws.specs.Hosts.{Host, Underway, acted, got_by, goes_on, host_at, is_serial, known_host, list_begins, op_ended, operation_of, pointer_answered, reset_seen, ring, says_dead}
 use Rattle.sbp_laws.specs.Lists.{present_list}
 use Rattle.sbp_laws.specs.Packets.{answer_in, answered_at, packet_at, receiver_in, sender_in}
 use Rattle.sbp_laws.specs.Turns.{event_of}
@@ -51,11 +51,6 @@ own_marks s = marks (is_answered s.marks.pointing) s.marks.is_dead
 same_if : (b : Bool) (x y : Host) → marks_in x ≡ marks_in y → marks_in (cond b x y) ≡ marks_in y
 same_if true x y e = e
 same_if false x y e = refl
-
-left_marks : (operation : Operation) (word : OpWord) (host : Host) → marks_in (op_left operation word host) ≡ marks_in host
-left_marks operations.Rom words.Done host = refl
-left_marks operations.Login words.Done host = refl
-left_marks _ _ host = refl
 
 ended_marks : (operation : Operation) (word : OpWord) (host : Host) → marks_in (op_ended operation word host) ≡ marks_in host
 ended_marks operations.Rom words.Done host = refl
@@ -141,7 +136,7 @@ pointed_by (Refused rcode) mine host = refl
 pointed_by Expired mine host = refl
 pointed_by NoLabel mine host = refl
 
-or_none : (b : Bool) → b ≡ (b || false)
+pub or_none : (b : Bool) → b ≡ (b || false)
 or_none true = refl
 or_none false = refl
 

@@ -97,9 +97,6 @@ module _ (ready : Bool) (i : ℕ) (s : InitiatorState) (h : IsCalled ready i s) 
   abbrev pub Tells : Finding Purpose → Turn → Type 0
   Tells f t = IsTold s (finding_note f s) (drop_if (finding_drops f s) s.lists.slots.present) t
 
-  has : HasOrb s.operation
-  has = subst (λ (x : InitiatorState). HasOrb x.operation) h.is (sound i ready h.calls).orb
-
   closed_told : (p : Packet) (label : LabelParts) (purpose : Option Purpose) (layer : Layer Purpose) → IfEnds purpose s → Tells (of_response p label purpose) (ended_for purpose (ending_of p) empty_outbox (called (record s { layer = layer })))
   closed_told p label None layer f = silent s _ refl
   closed_told p label (Some purpose) layer f =
@@ -115,7 +112,7 @@ module _ (ready : Bool) (i : ℕ) (s : InitiatorState) (h : IsCalled ready i s) 
       subst (λ (r : Judged × Turn). Tells (of_again p rcode) r.1) (sym is)
       (silent s _ (answer_silent (answering_step layer p bytes rcode []) (header_in p).source empty_outbox (record s { layer = layer })))
   by_finding (of_request p) layer e f is =
-      let a = request_answers bytes empty_outbox s has p in
+      let a = request_answers bytes empty_outbox s (subst (λ (x : InitiatorState). HasOrb x.operation) h.is (sound i ready h.calls).orb) p in
       subst (λ (r : Judged × Turn). Tells (of_request p) r.1) (sym (served s generation bytes p (ap (λ (x : Finding Purpose × Layer Purpose). x.0) e)))
       (record { op = a.op; state = None; stuck = false; sides = a.sides })
 

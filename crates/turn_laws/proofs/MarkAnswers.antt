@@ -47,6 +47,7 @@ use Rattle.sbp_world.proofs.Pointers.Ending.{read_in}
 use Rattle.sbp_world.proofs.Pointers.Finds.{closed_over, closes_at}
 use Rattle.sbp_world.proofs.Pointers.Guarded.{Guarded}
 use Rattle.sbp_world.proofs.Wire.Deliver.{judging_stays}
+use Rattle.sbp_world.proofs.Wire.Kept.{and_false}
 use Rattle.sbp_world.specs.Hosts.Rows.{present_in}
 use Rattle.turn_laws.proofs.HostMarks.{dead_at, dead_by, is_done, points_at, points_by}
 use Rattle.turn_laws.proofs.HostReads.{Reads, is_gone}
@@ -61,10 +62,10 @@ abbrev is_complete : Ending → Bool
 is_complete (endings.Complete value) = true
 is_complete ending = false
 
-kind_same : (n l : ℕ) (k m : Kind) → response n k ≡ response l m → k ≡ m
+pub kind_same : (n l : ℕ) (k m : Kind) → response n k ≡ response l m → k ≡ m
 kind_same n l k m e = cc
 
-no_response : {A : Type 0} (n l : ℕ) (k m : Kind) → request n k ≡ response l m → A
+pub no_response : {A : Type 0} (n l : ℕ) (k m : Kind) → request n k ≡ response l m → A
 no_response n l k m e = absurd (let no : request n k ≡ response l m = e in cc)
 
 done_if : (b : Bool) (rcode : ℕ) → is_done (cond b Done (Refused rcode)) ≡ is_complete (cond b (endings.Complete 0) (endings.Refused rcode))
@@ -229,10 +230,6 @@ closed_states (of_request p) act list e = absurd e
 state_same : (a b : ℕ) (x y : Option ℕ) → Some (purposes.State a x) ≡ Some (purposes.State b y) → (a ≡ b) × (x ≡ y)
 state_same a b x y e = (cc, cc)
 
-and_none : (b : Bool) → (b && false) ≡ false
-and_none true = refl
-and_none false = refl
-
 pointed_if : (list : ℕ) (ending : Ending) (present : Option PresentList) → is_list present list ≡ true → is_complete ending ≡ answers_pointer (purposes.Pointer list) ending present
 pointed_if list (endings.Complete value) present e = sym e
 pointed_if list (endings.Refused rcode) present e = refl
@@ -364,11 +361,11 @@ module _ (ready : Bool) (serial generation : ℕ) (bytes : List ℕ) (past : Lis
     where
       by_number : (m n : ℕ) → pointer past i ≡ Some m → answered_at T serial ≡ Some n → (b : Bool) → (m == n) ≡ b → (is_done answer && b) ≡ false
       by_number m n p e true f = absurd (never (named_closed n (p ∙ ap Some (equal m n f)) e))
-      by_number m n p e false f = and_none (is_done answer)
+      by_number m n p e false f = and_false (is_done answer)
 
       by : (found : Option ℕ) → answered_at T serial ≡ found → (named : Option ℕ) → (host_at past i).pointer ≡ named → points_by found answer (host_at past i) ≡ false
       by None e named p = refl
-      by (Some n) e None p = ap (λ o. is_done answer && is_serial o n) p ∙ and_none (is_done answer)
+      by (Some n) e None p = ap (λ o. is_done answer && is_serial o n) p ∙ and_false (is_done answer)
       by (Some n) e (Some m) p = ap (λ o. is_done answer && is_serial o n) p ∙ by_number m n p e (m == n) refl
 
   pointed_so : (p : Packet) (label : LabelParts) (list : ℕ) → finding ≡ of_response p label (Some (purposes.Pointer list)) → points_at past serial i ≡ answers_pointer (purposes.Pointer list) (ending_of p) s.lists.slots.present

@@ -30,9 +30,10 @@ use Rattle.sbp_world.proofs.Common.{itself, least, untrue}
 use Rattle.sbp_world.proofs.Hosts.PointerNotes.{Fit}
 use Rattle.sbp_world.proofs.Hosts.Shown.{IsHeard, IsShown}
 use Rattle.sbp_world.proofs.Pointers.Guarded.{Guarded, receive_got}
+use Rattle.sbp_world.proofs.Wire.Kept.{and_false}
 use Rattle.sbp_world.specs.Hosts.Calls.{behind}
 use Rattle.sbp_world.specs.Hosts.Worlds.{IsHost}
-use Rattle.turn_laws.proofs.HostMarks.{AllOf, marks_in, others_host, IfOf, Marks, all_both, begun_with, behind_both, dead_at, dropped, got_marks, is_of, late_marks, marks, marks_at, marks_behind, note_marks, own_marks, own_marks_behind, seen_marks, taken, told_marks, told_of_it}
+use Rattle.turn_laws.proofs.HostMarks.{AllOf, or_none, marks_in, others_host, IfOf, Marks, all_both, begun_with, behind_both, dead_at, dropped, got_marks, is_of, late_marks, marks, marks_at, marks_behind, note_marks, own_marks, own_marks_behind, seen_marks, taken, told_marks, told_of_it}
 use Rattle.turn_laws.proofs.HostReads.{Reads, gone_by, is_gone}
 use Rattle.turn_laws.proofs.HostTold.{IsTold, expire_told, receive_told, resets_keep, told_notes}
 use Rattle.turn_laws.proofs.MarkAnswers.{dead_same, points_same, response_dead}
@@ -73,10 +74,6 @@ use Rattle.sbp_world.proofs.Hosts.Statuses.Waits.{waits_so}
 use Rattle.sbp_world.specs.Hosts.Rows.{present_in}
 
 -- ---- what a delivery tells
-or_none : (b : Bool) → b ≡ (b || false)
-or_none true = refl
-or_none false = refl
-
 -- the status that it takes marks the list
 abbrev taken_dead : Finding Purpose → InitiatorState → Bool
 taken_dead (of_request p) s = takes_dead (brought p s) s
@@ -109,11 +106,7 @@ module _ (s : InitiatorState) where
   kind_taken kinds.Aborted block m = one_taken (waits_there block) kinds.Aborted (take_lists s.lists block).1 m refl
   kind_taken (kinds.Illegal meaning) block m = one_taken (waits_there block) (kinds.Illegal meaning) (take_lists s.lists block).1 m refl
   kind_taken kinds.Failed block m = one_taken (waits_there block) kinds.Failed (take_lists s.lists block).1 m refl
-  kind_taken (kinds.Management code) block m = none_taken m ∙ ap (λ b. marks m.pointed (m.dead || b)) (sym (and_none (is_some (waits_there block))))
-    where
-      and_none : (b : Bool) → (b && false) ≡ false
-      and_none true = refl
-      and_none false = refl
+  kind_taken (kinds.Management code) block m = none_taken m ∙ ap (λ b. marks m.pointed (m.dead || b)) (sym (and_false (is_some (waits_there block))))
 
   brought_taken : (b : Brought) (m : Marks) → taken (block_note b s) m ≡ marks m.pointed (m.dead || takes_dead b s)
   brought_taken nothing m = none_taken m

@@ -110,7 +110,7 @@ use Rattle.sbp_world.specs.Hosts.Rows.{present_in}
 use Rattle.sbp_world.specs.Hosts.Worlds.{IsHost}
 use Rattle.turn_laws.proofs.HostMarks.{Marks, acted_marks, apart_marks, marks, marks_at, marks_in, own_marks, seen_marks, sent_marks}
 use Rattle.turn_laws.proofs.MarksKept.{IsLive, acted_live, acted_marked, acted_others, acted_sides, acted_unanswered, heard_live, heard_marked, heard_others, late_live, late_marked, late_others, seen_marked, seen_others}
-use Rattle.turn_laws.proofs.RequestKinds.{Kinds, asking_kinds, ended_kinds, still_kinds}
+use Rattle.turn_laws.proofs.RequestKinds.{Kinds, asking_kinds, ended_kinds, generation_is, still_kinds}
 
 -- ---- what is carried on
 pub record Paired (ready : Bool) (past : List Moment) (i : ℕ) (s : InitiatorState) : Type 0 where
@@ -695,9 +695,6 @@ module _ (ready : Bool) (action : Action) (past : List Moment) (i : ℕ) (s : In
         purpose_is : x.demand.purpose ≡ purposes.State s.counts.acts list
         purpose_is = ap (λ (d : Demand). d.purpose) (sym (same_Some _ x.demand (ap (λ a. demand_of a s) (sym is) ∙ x.is)))
 
-        generation_is : generation ≡ s.layer.generation
-        generation_is = (f.sent.0 honest).now ∙ ap (λ (y : Terms). y.generation (suc i)) told.wire ∙ sym shown.generation
-
         abbrev new_read : StateRead
         new_read = record { serial = serial; list = told_of (host_at ms i).pointed (present_list ms i) }
 
@@ -736,7 +733,8 @@ module _ (ready : Bool) (action : Action) (past : List Moment) (i : ℕ) (s : In
               ap (λ g. (terms now).held (transaction g (suc i) 0 number)) stays
               ∙ sent_begun serial sending (terms ms) (begun_at number)
               (asked_begun sending (between sending sending.from sending.to (number_in packet.label)) honest (request_asked sending (number_in packet.label) q.kind q.part)
-              ∙ ap (λ g. Some (transaction g (suc i) 0 (number_in packet.label))) generation_is
+              ∙ ap (λ g. Some (transaction g (suc i) 0 (number_in packet.label)))
+              (generation_is action past i s done_is known shown called_now (h.kinds fit_past) left packet one serial generation injected q f)
               ∙ ap (λ m. Some (begun_at m)) (ap number_in x.label));
           order = λ u e r g.
               let w = (goes_now (same_operation action ∙ none_begins)).on u e in

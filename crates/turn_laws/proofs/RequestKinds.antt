@@ -220,7 +220,7 @@ module _ (action : Action) (past : List Moment) (i : ℕ) (s : InitiatorState) (
     honest : T.injected serial ≡ false
     honest = ap (λ (y : Terms). y.injected serial) told.wire ∙ injected
 
-    generation_is : generation ≡ s.layer.generation
+    pub generation_is : generation ≡ s.layer.generation
     generation_is = (fit.sent.0 honest).now ∙ ap (λ (y : Terms). y.generation (suc i)) told.wire ∙ sym shown.generation
 
     begins : (m : ℕ) → m ≡ x.asked.label.number → (terms now).held (own m) ≡ waits q.kind serial
