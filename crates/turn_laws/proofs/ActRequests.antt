@@ -57,8 +57,10 @@ use Rattle.turn_laws.proofs.ActTies.{asked_bodies, fits, managed_bodies}
 use Rattle.turn_laws.proofs.Actions.{none_asked, number_is, sides_are}
 use Rattle.turn_laws.proofs.Calls.{Brings, Cases, calls, injects, is_act, loses, refuses, refuses_action, resets, sets_key}
 use Rattle.turn_laws.proofs.Handed.{handed, notes_sent, packet_note}
-use Rattle.turn_laws.proofs.Pass.{call_no_act, of_every_run}
+use Rattle.turn_laws.proofs.Pass.{call_no_act}
 use Rattle.turn_laws.proofs.Places.{Place}
+use Rattle.turn_laws.proofs.ReadsUnderWay.{AreTimely}
+use Rattle.turn_laws.proofs.Timely.{Timely, of_timely_turns}
 use Rattle.turn_laws.proofs.RequestLabels.{IsSpelled, spelled_at}
 use Rattle.sbp_world.proofs.Lists.ManageWrites.{manage_asks}
 
@@ -112,7 +114,7 @@ told_wire (actions.Dummy k) ms i past = refl
 told_wire _ ms i past = refl
 
 module _ (units ready : ℕ) (start : List Disk) where
-  module _ (past : List Moment) (s : Scene) (here : Place units ready start past s) (i : ℕ) (inside : i < length s.world.initiators) (action : Action) (line : ℕ) where
+  module _ (past : List Moment) (s : Scene) (here : Place units ready start past s) (i : ℕ) (inside : i < length s.world.initiators) (action : Action) (line : ℕ) (timely : AreTimely (hist past s.world)) where
     abbrev w : WorldState
     w = s.world
 
@@ -220,7 +222,7 @@ module _ (units ready : ℕ) (start : List Disk) where
 
       packets_for : (found : Option Body) → found ≡ body_in (demand_of action old) → ArePackets (before_requests start asking) (suc i) (behind_answer start asking) (requests_to 0 found)
       packets_for found bodies =
-          let sides = sides_are units ready start past s here i inside action outbox state e in
+          let sides = sides_are units ready start past s here i inside action timely outbox state e in
           let rest = handed (i + 1) weight outbox v in
           let now = once_told asks (effects_of rest ++ []) in
           let before : terms now ≡ terms asks =
@@ -240,14 +242,14 @@ module _ (units ready : ℕ) (start : List Disk) where
 
       requests_are : asks_more action ≡ false → RequestsLaw start asking
       requests_are more not_silent =
-          let none : refusal_at ms i action ≡ None = number_is units ready start past s here i inside action more ∙ done in
+          let none : refusal_at ms i action ≡ None = number_is units ready start past s here i inside action timely more ∙ done in
           subst (λ number. ArePackets (before_requests start asking) (suc i) (behind_answer start asking) (unless_refused number (requests_to 0 (action_body action ms i (host_at ms i))))) (sym none)
-          (packets_are (none_asked action more).1.0)
+          (packets_are (none_asked action more).1)
 
     -- a refused action sends nothing
     refused_requests : (number : ℕ) → (act_step action empty_outbox old).0 ≡ Some number → asks_more action ≡ false → RequestsLaw start (turn ms (asked line (events.Act i action)) (refused line number))
     refused_requests number e more not_silent =
-        let is : refusal_at ms i action ≡ Some number = number_is units ready start past s here i inside action more ∙ e in
+        let is : refusal_at ms i action ≡ Some number = number_is units ready start past s here i inside action timely more ∙ e in
         subst (λ x. ArePackets (once_told asks (refused line number ++ [])) (suc i) [] (unless_refused x (requests_to 0 (action_body action ms i (host_at ms i))))) (sym is) tt
 
     where_known : (t : Turn) → (asks_more action ≡ false → RequestsLaw start t) → Where (not (asks_more action)) (RequestsLaw start t)
@@ -288,29 +290,29 @@ module _ (units ready : ℕ) (start : List Disk) where
   no_action past line (events.Act i action) rest e = untrue (sym e)
   no_action past line _ rest e = tt
 
-  line_asks : (past : List Moment) (s : Scene) (line : ℕ) (event : Event) (rest : List Note) → Place units ready start past s → Brings line s event rest → ActsByRequests start (turn (hist past s.world) (asked line event) rest)
-  line_asks past s line event rest here (calls is_event c) = no_action (hist past s.world) line event rest (call_no_act event c)
-  line_asks past s line event rest here (refuses is_event r) = no_action (hist past s.world) line event rest r.no_act
-  line_asks past s line event rest here (refuses_action i action number e) = refuses_all past s here i e.inside action line number e.is
-  line_asks past s line event rest here (resets physical generation e) = tt
-  line_asks past s line event rest here (loses serial) = tt
-  line_asks past s line event rest here (sets_key unit key) = tt
-  line_asks past s line event rest here (injects i bytes serial generation from to) = tt
+  line_asks : (past : List Moment) (s : Scene) (line : ℕ) (event : Event) (rest : List Note) → Place units ready start past s → AreTimely (hist past s.world) → Brings line s event rest → ActsByRequests start (turn (hist past s.world) (asked line event) rest)
+  line_asks past s line event rest here timely (calls is_event c) = no_action (hist past s.world) line event rest (call_no_act event c)
+  line_asks past s line event rest here timely (refuses is_event r) = no_action (hist past s.world) line event rest r.no_act
+  line_asks past s line event rest here timely (refuses_action i action number e) = refuses_all past s here i e.inside action line timely number e.is
+  line_asks past s line event rest here timely (resets physical generation e) = tt
+  line_asks past s line event rest here timely (loses serial) = tt
+  line_asks past s line event rest here timely (sets_key unit key) = tt
+  line_asks past s line event rest here timely (injects i bytes serial generation from to) = tt
 
-  request_cases : Cases units ready start (ActsByRequests start)
+  request_cases : Cases units ready start (Timely (ActsByRequests start))
   request_cases = record {
-    heard = λ past s serial again run one found zero_to may others here behind judged. tt;
-    heard_own = λ past s serial again one i found to_is inside own here behind judged. tt;
-    late = λ past s serial request done t found node_is e others here behind judged. tt;
-    late_own = λ past s serial request i outbox state found node_is inside e own here behind judged. tt;
-    sees = λ past s others here behind judged. tt;
-    sees_own = λ past s i inside own here behind judged. tt;
-    ticks = λ past s others here behind judged. tt;
-    ends = λ past s done here behind. tt;
-    acts = λ past s line i action outbox state inside e own here behind. does_ask past s here i inside action line outbox state e;
-    lines = λ past s line event rest behind brings fresh here there. line_asks past s line event rest here brings;
-    begins = λ line initiators is_ready. tt;
+    heard = λ past s serial again run one found zero_to may others here behind judged timely. tt;
+    heard_own = λ past s serial again one i found to_is inside own here behind judged timely. tt;
+    late = λ past s serial request done t found node_is e others here behind judged timely. tt;
+    late_own = λ past s serial request i outbox state found node_is inside e own here behind judged timely. tt;
+    sees = λ past s others here behind judged timely. tt;
+    sees_own = λ past s i inside own here behind judged timely. tt;
+    ticks = λ past s others here behind judged timely. tt;
+    ends = λ past s done here behind timely. tt;
+    acts = λ past s line i action outbox state inside e own here behind timely. does_ask past s here i inside action line timely outbox state e;
+    lines = λ past s line event rest behind brings fresh here there timely. line_asks past s line event rest here timely brings;
+    begins = λ line initiators is_ready timely. tt;
   }
 
 pub act_requests_law : ActRequestsLaw
-act_requests_law = of_every_run (λ start. ActsByRequests start) (λ units ready start has. request_cases units ready start)
+act_requests_law = of_timely_turns (λ start. ActsByRequests start) (λ units ready start has. request_cases units ready start)

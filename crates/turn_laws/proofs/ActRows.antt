@@ -51,6 +51,7 @@ pub record Tied (past : List Moment) (i : ℕ) (s : InitiatorState) : Type 0 whe
   pub host : IsHost past i s
   pub core : host_core (host_at past i) ≡ own_core s
   pub points : is_stuck (host_at past i).session ≡ false → is_pointing (terms past) (host_at past i).pointer ≡ points s.seat
+  pub dead : (host_at past i).marked_dead ≡ s.marks.is_dead
 
 same_where : (b x y : Bool) → (b ≡ true → x ≡ y) → (b && x) ≡ (b && y)
 same_where true x y f = f refl
@@ -117,36 +118,34 @@ module _ (past : List Moment) (i : ℕ) (s : InitiatorState) (tied : Tied past i
         let h = tied.host in
         subst (λ j. HasRows (refusals past j action host) has) h.number (action_law.rows past s action host has_label (subst (λ j. AreRows past j s.lists.slots) (sym h.number) h.rows))
 
-    -- where the rows of the ROM and of a dead list are these, and that of its label is what it has or where no other holds
-    rows_with : (no_rom no_label : Bool) → no_rom ≡ has.no_rom → (NoRow has → no_label ≡ has.no_label) → refusal_of (record told { no_rom = no_rom; dead_seen = has.dead_seen; no_label = no_label }) ≡ refusal_of has
+    dead_same : told.dead_seen ≡ has.dead_seen
+    dead_same = ap (λ b. b && host.marked_dead) (cares_same action) ∙ ap (λ b. (own_rows.prepares action || own_rows.rings action) && b) tied.dead
+
+    -- where the row of the ROM is this, and that of its label is what it has or where no other holds
+    rows_with : (no_rom no_label : Bool) → no_rom ≡ has.no_rom → (NoRow has → no_label ≡ has.no_label) → refusal_of (record told { no_rom = no_rom; no_label = no_label }) ≡ refusal_of has
     rows_with no_rom no_label e l =
         let h = lists_same in
-        refused_same (record told { no_rom = no_rom; dead_seen = has.dead_seen; no_label = no_label }) has (ap is_stuck session_is ∙ stuck_row s.seat)
+        refused_same (record told { no_rom = no_rom; no_label = no_label }) has (ap is_stuck session_is ∙ stuck_row s.seat)
         (ap (λ x. not (is_right_state action x)) session_is ∙ ap not (right_row action s.seat)) e
-        (waits_same session_is) (record { mid_link = h.mid_link; not_linking = h.not_linking; no_orb = h.no_orb; no_slot = h.no_slot }) refl l
+        (waits_same session_is) (record { mid_link = h.mid_link; not_linking = h.not_linking; no_orb = h.no_orb; no_slot = h.no_slot }) dead_same l
 
   module _ (o : OutboxState) where
     abbrev found : Bool
     found = finds_label action s
 
     -- by its own rows of these
-    pub refuses_own : refusal_of (record (told found) { no_rom = (has found).no_rom; dead_seen = (has found).dead_seen; no_label = (has found).no_label }) ≡ (act_step action o s).0
+    pub refuses_own : refusal_of (record (told found) { no_rom = (has found).no_rom; no_label = (has found).no_label }) ≡ (act_step action o s).0
     unfolding refusal
     refuses_own = rows_with found (has found).no_rom (has found).no_label refl (λ n. refl) ∙ sym (refusal_law.first action o s)
 
     -- by the terms, where they are tied to what it has
     module _ (l : NoRow (has found) → (told found).no_label ≡ (has found).no_label) (rom : own_rows.needs_rom action ≡ true → is_none host.management ≡ not (is_some s.management)) where
-      pub refuses_but : refusal_of (record (told found) { dead_seen = (has found).dead_seen }) ≡ (act_step action o s).0
+      -- so an action is refused as the rows say
+      pub refuses_as : refusal_at past i action ≡ (act_step action o s).0
       unfolding refusal
-      refuses_but =
+      refuses_as =
           rows_with found (told found).no_rom (told found).no_label (ap (λ b. b && is_none host.management) (needs_same action) ∙ same_where (own_rows.needs_rom action) _ _ rom) l
           ∙ sym (refusal_law.first action o s)
-
-      -- so an action is refused as the rows say
-      pub refuses_as : ((own_rows.prepares action || own_rows.rings action) ≡ true → host.marked_dead ≡ s.marks.is_dead) → refusal_at past i action ≡ (act_step action o s).0
-      refuses_as dead =
-          ap (λ b. refusal_of (record (told found) { dead_seen = b })) (ap (λ b. b && host.marked_dead) (cares_same action) ∙ same_where (own_rows.prepares action || own_rows.rings action) _ _ dead)
-          ∙ refuses_but
 
 -- what needs no ROM has no row of it
 pub none_needed : (past : List Moment) (i : ℕ) (host : Host) (action : Action) → own_rows.needs_rom action ≡ false → (refusals past i action host).no_rom ≡ false

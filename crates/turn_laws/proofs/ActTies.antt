@@ -1,5 +1,5 @@
 -- At a place of a run the terms of an initiator that its actions are judged by are tied to what it has.
-use Rattle.std.proofs.Common.{arith, ◌≡◌, ◌∙◌, refl, sym, ap, subst, ℕ, suc, ◌+◌, ◌<◌, ◌||◌, is_none, is_some, not, unwrap_or, true, List, Option, Some, length}
+use Rattle.std.proofs.Common.{arith, ◌≡◌, ◌∙◌, refl, sym, ap, subst, ℕ, suc, ◌+◌, ◌<◌, is_none, is_some, not, unwrap_or, true, List, Option, Some, length}
 use Rattle.std.proofs.lemmas.Bool.Decides.{nat_tests}
 use Rattle.bus_transactions.specs.Fitting.{FitsRequest}
 use Rattle.bus_transactions.specs.Reached.{IsAwaited}
@@ -8,7 +8,7 @@ use Rattle.orb_list.specs.declared.list.PresentList.{PresentList}
 use Rattle.rbc_disk.specs.Disk.{Disk}
 use Rattle.sbp_initiator.proofs.Histories.Effects.{HasMarks}
 use Rattle.sbp_initiator.specs.Acting.{act_step, asked_for, demand_of, facts_with, manage_demand}
-use Rattle.sbp_initiator.specs.Refusals.{needs_rom, prepares, rings, rows_of}
+use Rattle.sbp_initiator.specs.Refusals.{needs_rom, rows_of}
 use Rattle.sbp_initiator.specs.Refusing.{finds_label}
 use Rattle.sbp_initiator.specs.States.{is_list, wanted_body}
 use Rattle.sbp_initiator.specs.declared.purpose.Demand.{Demand}
@@ -43,8 +43,10 @@ use Rattle.sbp_world.proofs.Wire.Holding.{TargetOf}
 use Rattle.sbp_world.proofs.Wire.Starts.{laws_of}
 use Rattle.turn_laws.specs.ActRequests.{managed_body}
 use Rattle.turn_laws.proofs.ActBodies.{bodies, body_in, label_row, managed_is}
-use Rattle.turn_laws.proofs.ActRows.{Tied, refuses_as, refuses_but, refuses_own}
+use Rattle.turn_laws.proofs.ActRows.{Tied, refuses_as, refuses_own}
+use Rattle.turn_laws.proofs.HostMarks.{Marks}
 use Rattle.turn_laws.proofs.Places.{Place}
+use Rattle.turn_laws.proofs.ReadsUnderWay.{AreTimely}
 
 module _ (units ready : ℕ) (start : List Disk) (past : List Moment) (s : Scene) (here : Place units ready start past s) (i : ℕ) (inside : i < length s.world.initiators) where
   abbrev w : WorldState
@@ -106,31 +108,28 @@ module _ (units ready : ℕ) (start : List Disk) (past : List Moment) (s : Scene
   abbrev pub Offset : Type 0
   Offset = management_offset (host_at ms i).management ≡ unwrap_or old.management 0
 
-  abbrev pub Dead : Type 0
-  Dead = (host_at ms i).marked_dead ≡ old.marks.is_dead
+  dead : AreTimely ms → (host_at ms i).marked_dead ≡ old.marks.is_dead
+  dead timely = (let laws = laws_of past w here.holds.sound.stands in ap (λ (m : Marks). m.dead) ((here.reads i inside).paired.marked (record { serials = laws.serials; sent = laws.sent }) timely))
 
-  tied : Tied ms i old
-  tied = record { host = here.hosts i inside; core = here.cores i inside; points = writes.points_while }
+  tied : AreTimely ms → Tied ms i old
+  tied timely = record { host = here.hosts i inside; core = here.cores i inside; points = writes.points_while; dead = dead timely }
 
-  module _ (action : Action) (o : OutboxState) where
+  module _ (timely : AreTimely ms) (action : Action) (o : OutboxState) where
     abbrev pub told : Refusals
     told = refusals ms i action (host_at ms i)
 
     abbrev pub has : Refusals
     has = rows_of action (facts_with (finds_label action old) old action)
 
-    pub refused_by_own : refusal_of (record told { no_rom = has.no_rom; dead_seen = has.dead_seen; no_label = has.no_label }) ≡ (act_step action o old).0
-    refused_by_own = refuses_own ms i old tied action o
+    pub refused_by_own : refusal_of (record told { no_rom = has.no_rom; no_label = has.no_label }) ≡ (act_step action o old).0
+    refused_by_own = refuses_own ms i old (tied timely) action o
 
     module _ (rom : needs_rom action ≡ true → Rom) (offset : manages (operation_of action) ≡ true → Offset) where
       labelled : NoRow has → told.no_label ≡ has.no_label
       labelled = label_row ms i old (here.hosts i inside) (here.cores i inside) (here.holding i inside) marks first action (finds_label action old) offset (finds action)
 
-      pub refused_by_rows : ((prepares action || rings action) ≡ true → Dead) → refusal_at ms i action ≡ (act_step action o old).0
-      refused_by_rows dead = refuses_as ms i old tied action o labelled rom dead
-
-      pub refused_but_dead : refusal_of (record told { dead_seen = has.dead_seen }) ≡ (act_step action o old).0
-      refused_but_dead = refuses_but ms i old tied action o labelled rom
+      pub refused_by_rows : refusal_at ms i action ≡ (act_step action o old).0
+      refused_by_rows = refuses_as ms i old (tied timely) action o labelled rom
 
   -- and where no row holds it asks for what the terms say
   pub asked_bodies : (action : Action) → (manages (operation_of action) ≡ true → Offset) → NoRow (rows_of action (facts_with (finds_label action old) old action)) → action_body action ms i (host_at ms i) ≡ body_in (demand_of action old)

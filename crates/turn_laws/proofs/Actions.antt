@@ -4,7 +4,7 @@ use Rattle.rbc_disk.specs.Disk.{Disk}
 use Rattle.sbp_initiator.specs.Acting.{act_step, facts_with}
 use Rattle.sbp_initiator.specs.Effects.{Turn as Called}
 use Rattle.sbp_initiator.specs.Histories.Ends.{own}
-use Rattle.sbp_initiator.specs.Refusals.{needs_rom, prepares, rings, rows_of}
+use Rattle.sbp_initiator.specs.Refusals.{needs_rom, rows_of}
 use Rattle.sbp_initiator.specs.Refusing.{finds_label}
 use Rattle.sbp_initiator.specs.declared.state.InitiatorState.{InitiatorState}
 use Rattle.sbp_journal.specs.Outgoings.{OutboxState, empty_outbox}
@@ -30,11 +30,13 @@ use Rattle.sbp_world.proofs.Hosts.Telling.{action_law}
 use Rattle.turn_laws.specs.Actions.{ActionsLaw, ActsBut, ActsByRows, asks_more}
 use Rattle.turn_laws.proofs.ActNotes.{acts_as_told}
 use Rattle.turn_laws.proofs.ActRows.{none_needed}
-use Rattle.turn_laws.proofs.ActTies.{refused_but_dead, refused_by_own, refused_by_rows}
+use Rattle.turn_laws.proofs.ActTies.{refused_by_own, refused_by_rows}
 use Rattle.turn_laws.proofs.Calls.{Brings, Cases, calls, injects, is_act, loses, refuses, refuses_action, resets, sets_key}
 use Rattle.turn_laws.proofs.Handed.{handed}
-use Rattle.turn_laws.proofs.Pass.{call_no_act, of_every_run}
+use Rattle.turn_laws.proofs.Pass.{call_no_act}
 use Rattle.turn_laws.proofs.Places.{Place}
+use Rattle.turn_laws.proofs.ReadsUnderWay.{AreTimely}
+use Rattle.turn_laws.proofs.Timely.{Timely, of_timely_turns}
 
 by_refusal : (number : Option ℕ) (past : List Moment) (line i : ℕ) (action : Action) (told : List Note) (refusal : ℕ) → number ≡ Some refusal → told ≡ refused line refusal → ActsOr number past line i action told
 by_refusal (Some number) past line i action told refusal f g = g ∙ ap (refused line) (sym (let same : number ≡ refusal = cc in same))
@@ -45,14 +47,13 @@ by_notes None past line i action told e h = h
 by_notes (Some number) past line i action told e h = absurd (let no : Some number ≡ None = e in cc)
 
 -- where an action asks for none of these
-pub none_asked : (action : Action) → asks_more action ≡ false → ((needs_rom action ≡ false) × ((manages (operation_of action) ≡ false) × ((prepares action || rings action) ≡ false)))
-none_asked action e = split (needs_rom action) (manages (operation_of action)) (prepares action || rings action) e
+pub none_asked : (action : Action) → asks_more action ≡ false → ((needs_rom action ≡ false) × (manages (operation_of action) ≡ false))
+none_asked action e = split (needs_rom action) (manages (operation_of action)) e
   where
-    split : (a b c : Bool) → (a || (b || c)) ≡ false → ((a ≡ false) × ((b ≡ false) × (c ≡ false)))
-    split false false false e = (refl, (refl, refl))
-    split false false true e = untrue (sym e)
-    split false true c e = untrue (sym e)
-    split true b c e = untrue (sym e)
+    split : (a b : Bool) → (a || b) ≡ false → ((a ≡ false) × (b ≡ false))
+    split false false e = (refl, refl)
+    split false true e = untrue (sym e)
+    split true b e = untrue (sym e)
 
 -- what needs the ROM has a management ORB
 rom_manages : (action : Action) → manages (operation_of action) ≡ false → needs_rom action ≡ false
@@ -64,7 +65,7 @@ not_asked : {A : Type 0} (b : Bool) → b ≡ false → b ≡ true → A
 not_asked b e f = untrue (sym e ∙ f)
 
 module _ (units ready : ℕ) (start : List Disk) where
-  module _ (past : List Moment) (s : Scene) (here : Place units ready start past s) (i : ℕ) (inside : i < length s.world.initiators) (action : Action) where
+  module _ (past : List Moment) (s : Scene) (here : Place units ready start past s) (i : ℕ) (inside : i < length s.world.initiators) (action : Action) (timely : AreTimely (hist past s.world)) where
     abbrev ms : List Moment
     ms = hist past s.world
 
@@ -74,8 +75,7 @@ module _ (units ready : ℕ) (start : List Disk) where
     pub number_is : asks_more action ≡ false → refusal_at ms i action ≡ (act_step action empty_outbox old).0
     number_is e =
         let n = none_asked action e in
-        refused_by_rows units ready start past s here i inside action empty_outbox (λ f. not_asked (needs_rom action) n.0 f) (λ f. not_asked (manages (operation_of action)) n.1.0 f)
-        (λ f. not_asked (prepares action || rings action) n.1.1 f)
+        refused_by_rows units ready start past s here i inside timely action empty_outbox (λ f. not_asked (needs_rom action) n.0 f) (λ f. not_asked (manages (operation_of action)) n.1 f)
 
     abbrev rows : Refusals
     rows = rows_of action (facts_with (finds_label action old) old action)
@@ -95,21 +95,17 @@ module _ (units ready : ℕ) (start : List Disk) where
           by : (b : Bool) → manages (operation_of action) ≡ b → ActsBut ms line i action told
           by true e = record {
             no_rom = rows.no_rom;
-            dead_seen = rows.dead_seen;
             no_label = rows.no_label;
-            by_rows = so _ (refused_by_own units ready start past s here i inside action empty_outbox);
+            by_rows = so _ (refused_by_own units ready start past s here i inside timely action empty_outbox);
             rom_as = λ f. ap (λ b. b && not (is_some old.management)) f;
-            dead_as = λ f. ap (λ b. b && old.marks.is_dead) f;
             label_as = λ f. untrue (sym f ∙ e);
           }
           by false e = record {
             no_rom = (refusals ms i action (host_at ms i)).no_rom;
-            dead_seen = rows.dead_seen;
             no_label = (refusals ms i action (host_at ms i)).no_label;
             by_rows = so _
-                (refused_but_dead units ready start past s here i inside action empty_outbox (λ f. not_asked (needs_rom action) (rom_manages action e) f) (λ f. not_asked (manages (operation_of action)) e f));
+                (refused_by_rows units ready start past s here i inside timely action empty_outbox (λ f. not_asked (needs_rom action) (rom_manages action e) f) (λ f. not_asked (manages (operation_of action)) e f));
             rom_as = λ f. none_needed ms i (host_at ms i) action f;
-            dead_as = λ f. ap (λ b. b && old.marks.is_dead) f;
             label_as = λ f. refl;
           }
 
@@ -139,30 +135,30 @@ module _ (units ready : ℕ) (start : List Disk) where
   no_action past line (events.Act i action) rest e = untrue (sym e)
   no_action past line _ rest e = tt
 
-  line_acts : (past : List Moment) (s : Scene) (line : ℕ) (event : Event) (rest : List Note) → Place units ready start past s → Brings line s event rest
+  line_acts : (past : List Moment) (s : Scene) (line : ℕ) (event : Event) (rest : List Note) → Place units ready start past s → AreTimely (hist past s.world) → Brings line s event rest
       → ActsByRows (turn (hist past s.world) (asked line event) rest)
-  line_acts past s line event rest here (calls is_event c) = no_action (hist past s.world) line event rest (call_no_act event c)
-  line_acts past s line event rest here (refuses is_event r) = no_action (hist past s.world) line event rest r.no_act
-  line_acts past s line event rest here (refuses_action i action number e) = refuses_so past s here i e.inside action line number e.is
-  line_acts past s line event rest here (resets physical generation e) = tt
-  line_acts past s line event rest here (loses serial) = tt
-  line_acts past s line event rest here (sets_key unit key) = tt
-  line_acts past s line event rest here (injects i bytes serial generation from to) = tt
+  line_acts past s line event rest here timely (calls is_event c) = no_action (hist past s.world) line event rest (call_no_act event c)
+  line_acts past s line event rest here timely (refuses is_event r) = no_action (hist past s.world) line event rest r.no_act
+  line_acts past s line event rest here timely (refuses_action i action number e) = refuses_so past s here i e.inside action timely line number e.is
+  line_acts past s line event rest here timely (resets physical generation e) = tt
+  line_acts past s line event rest here timely (loses serial) = tt
+  line_acts past s line event rest here timely (sets_key unit key) = tt
+  line_acts past s line event rest here timely (injects i bytes serial generation from to) = tt
 
-  action_cases : Cases units ready start ActsByRows
+  action_cases : Cases units ready start (Timely ActsByRows)
   action_cases = record {
-    heard = λ past s serial again run one found zero_to may others here behind judged. tt;
-    heard_own = λ past s serial again one i found to_is inside own here behind judged. tt;
-    late = λ past s serial request done t found node_is e others here behind judged. tt;
-    late_own = λ past s serial request i outbox state found node_is inside e own here behind judged. tt;
-    sees = λ past s others here behind judged. tt;
-    sees_own = λ past s i inside own here behind judged. tt;
-    ticks = λ past s others here behind judged. tt;
-    ends = λ past s done here behind. tt;
-    acts = λ past s line i action outbox state inside e own here behind. does_so past s here i inside action line (weight_in action) outbox state _ e;
-    lines = λ past s line event rest behind brings fresh here there. line_acts past s line event rest here brings;
-    begins = λ line initiators is_ready. tt;
+    heard = λ past s serial again run one found zero_to may others here behind judged timely. tt;
+    heard_own = λ past s serial again one i found to_is inside own here behind judged timely. tt;
+    late = λ past s serial request done t found node_is e others here behind judged timely. tt;
+    late_own = λ past s serial request i outbox state found node_is inside e own here behind judged timely. tt;
+    sees = λ past s others here behind judged timely. tt;
+    sees_own = λ past s i inside own here behind judged timely. tt;
+    ticks = λ past s others here behind judged timely. tt;
+    ends = λ past s done here behind timely. tt;
+    acts = λ past s line i action outbox state inside e own here behind timely. does_so past s here i inside action timely line (weight_in action) outbox state _ e;
+    lines = λ past s line event rest behind brings fresh here there timely. line_acts past s line event rest here timely brings;
+    begins = λ line initiators is_ready timely. tt;
   }
 
 pub actions_law : ActionsLaw
-actions_law = of_every_run (λ start. ActsByRows) (λ units ready start has. action_cases units ready start)
+actions_law = of_timely_turns (λ start. ActsByRows) (λ units ready start has. action_cases units ready start)

@@ -15,6 +15,7 @@ use Rattle.sbp_journal.specs.Transactions.{Kind, is_same_kind, locking, no_packe
 use Rattle.sbp_laws.specs.Packets.{access_in, access_in_bytes, answer_in, answer_of, spelled_by}
 use Rattle.sbp_world.specs.Lists.Contents.{AccessOf}
 use Rattle.turn_laws.proofs.FailingRows.{MayAnswer}
+use Rattle.turn_laws.proofs.MarkAnswers.{kind_same, no_response}
 use Rattle.sbp_world.proofs.Lists.WriteAnswers.{request_kind}
 use Rattle.sbp_world.proofs.Lists.SentOwnedParts.{answers_none}
 
@@ -46,22 +47,16 @@ block_if : (b : Bool) (rcode : ℕ) (bytes : List ℕ) → AnswerOf reading_bloc
 block_if true rcode bytes = tt
 block_if false rcode bytes = tt
 
-of_kind_is : (a b : ℕ) (k l : Kind) → response a k ≡ response b l → k ≡ l
-of_kind_is a b k l e = cc
-
-not_response : {A : Type 0} (a b : ℕ) (k l : Kind) → request a k ≡ response b l → A
-not_response a b k l e = absurd (let no : request a k ≡ response b l = e in cc)
-
 answer_kind : (p : Packet) (label : ℕ) (kind : Kind) → part_in p ≡ response label kind → AnswerOf kind (answer_of p)
-answer_kind (write_response header rcode) label kind e = subst (λ k. AnswerOf k (answer_of (write_response header rcode))) (of_kind_is _ label writing kind e) (done_if (rcode == 0) rcode)
-answer_kind (read_quadlet_response header rcode value) label kind e = subst (λ k. AnswerOf k (answer_of (read_quadlet_response header rcode value))) (of_kind_is _ label reading_quadlet kind e) (quadlet_if (rcode == 0) rcode _)
-answer_kind (read_block_response header rcode payload) label kind e = subst (λ k. AnswerOf k (answer_of (read_block_response header rcode payload))) (of_kind_is _ label reading_block kind e) (block_if (rcode == 0) rcode payload)
-answer_kind (lock_response header rcode extended payload) label kind e = subst (λ k. AnswerOf k (answer_of (lock_response header rcode extended payload))) (of_kind_is _ label locking kind e) tt
-answer_kind (write_quadlet header offset value) label kind e = not_response _ label _ kind e
-answer_kind (write_block header offset payload) label kind e = not_response _ label _ kind e
-answer_kind (read_quadlet header offset) label kind e = not_response _ label _ kind e
-answer_kind (read_block header offset asked) label kind e = not_response _ label _ kind e
-answer_kind (lock header offset extended payload) label kind e = not_response _ label _ kind e
+answer_kind (write_response header rcode) label kind e = subst (λ k. AnswerOf k (answer_of (write_response header rcode))) (kind_same _ label writing kind e) (done_if (rcode == 0) rcode)
+answer_kind (read_quadlet_response header rcode value) label kind e = subst (λ k. AnswerOf k (answer_of (read_quadlet_response header rcode value))) (kind_same _ label reading_quadlet kind e) (quadlet_if (rcode == 0) rcode _)
+answer_kind (read_block_response header rcode payload) label kind e = subst (λ k. AnswerOf k (answer_of (read_block_response header rcode payload))) (kind_same _ label reading_block kind e) (block_if (rcode == 0) rcode payload)
+answer_kind (lock_response header rcode extended payload) label kind e = subst (λ k. AnswerOf k (answer_of (lock_response header rcode extended payload))) (kind_same _ label locking kind e) tt
+answer_kind (write_quadlet header offset value) label kind e = no_response _ label _ kind e
+answer_kind (write_block header offset payload) label kind e = no_response _ label _ kind e
+answer_kind (read_quadlet header offset) label kind e = no_response _ label _ kind e
+answer_kind (read_block header offset asked) label kind e = no_response _ label _ kind e
+answer_kind (lock header offset extended payload) label kind e = no_response _ label _ kind e
 
 pub answer_by : (bytes : List ℕ) (label : ℕ) (kind : Kind) → part_of bytes ≡ response label kind → AnswerOf kind (answer_in (spelled_by (reading bytes)))
 answer_by bytes label kind e = by (reading bytes) refl

@@ -4,6 +4,8 @@ use Rattle.std.specs.List.{filter}
 use Rattle.sbp_journal.specs.Run.{Moment, said}
 use Rattle.sbp_journal.specs.Transactions.{Part, Sending, no_packet, part_of, request, response}
 use Rattle.sbp_journal.specs.Wire.{Terms, terms}
+use Rattle.sbp_journal.specs.declared.cause.Judged.{Judged}
+use Rattle.sbp_journal.specs.declared.cause.Judged.TheVariants as judgements
 use Rattle.sbp_journal.specs.declared.event.Action.{Action}
 use Rattle.sbp_journal.specs.declared.event.Action.TheVariants as actions
 use Rattle.sbp_journal.specs.declared.event.Event.{Event}
@@ -21,7 +23,7 @@ use Rattle.sbp_laws.specs.Lists.{present_list}
 use Rattle.sbp_laws.specs.Packets.{answered_at, receiver_in, sender_in}
 use Rattle.sbp_laws.specs.Turns.{event_of}
 use Rattle.sbp_world.proofs.Pointers.Sending.{off as and_off}
-use Rattle.sbp_world.proofs.Common.{itself, turned, untrue}
+use Rattle.sbp_world.proofs.Common.{cond_off, itself, turned, untrue}
 use Rattle.sbp_world.proofs.Hosts.Carries.{IsNoAct, is_apart}
 use Rattle.sbp_world.proofs.Hosts.Cores.{not_so, wire_is}
 use Rattle.sbp_world.proofs.Hosts.Layered.{AreTame, is_tame}
@@ -40,10 +42,6 @@ all_kept (x ∷ xs) = ap (λ ys. x ∷ ys) (all_kept xs)
 same_if : (b : Bool) (x y : Host) → x.reads ≡ y.reads → (cond b x y).reads ≡ y.reads
 same_if true x y e = e
 same_if false x y e = refl
-
-off : (b : Bool) (x y : Host) → b ≡ false → (cond b x y).reads ≡ y.reads
-off true x y e = untrue (sym e)
-off false x y e = refl
 
 on : (b : Bool) (x y : Host) → b ≡ true → (cond b x y).reads ≡ x.reads
 on true x y e = refl
@@ -126,56 +124,68 @@ none_from : (so : Option Sending) (i : ℕ) → ((packet : Sending) → so ≡ S
 none_from None i f = refl
 none_from (Some packet) i f = f packet refl
 
-pub apart_reads : (note : Note) (past : List Moment) (i : ℕ) → is_apart i note ≡ true → IsElsewhere past i note → Reads (said note ∷ past) i ≡ Reads past i
-apart_reads (notes.Begin initiators ready) past i e w = untrue e
-apart_reads (notes.Append j n k cdb buffer) past i e w = off (nat_eq j i) (list_begins k (host_at past i)) (host_at past i) (away i j e)
-apart_reads (notes.Taken j n k status answer) past i e w = off (nat_eq j i) _ (host_at past i) (away i j e)
-apart_reads (notes.Drop j n) past i e w = off (nat_eq j i) (list_begins zero (host_at past i)) (host_at past i) (away i j e)
-apart_reads (notes.Op j operation word) past i e w = off (nat_eq j i) (op_ended operation word (host_at past i)) (host_at past i) (away i j e)
-apart_reads (notes.Stuck j) past i e w = off (nat_eq j i) _ (host_at past i) (away i j e)
-apart_reads (notes.Sent serial generation from to bytes) past i e w =
-    off ((nat_eq from (suc i)) && not ((known_host past i).wire.injected serial)) _ (host_at past i) (and_off (nat_eq from (suc i)) _ (not_so (nat_eq from (suc i)) e))
-apart_reads (notes.Got serial) past i e w =
-    off (is_serial (receiver_in ((known_host past i).wire.sent serial)) (suc i)) _ (host_at past i)
+pub apart_host : (note : Note) (past : List Moment) (i : ℕ) → is_apart i note ≡ true → IsElsewhere past i note → host_at (said note ∷ past) i ≡ host_at past i
+apart_host (notes.Begin initiators ready) past i e w = untrue e
+apart_host (notes.Append j n k cdb buffer) past i e w = cond_off (nat_eq j i) (list_begins k (host_at past i)) (host_at past i) (away i j e)
+apart_host (notes.Taken j n k status answer) past i e w = cond_off (nat_eq j i) _ (host_at past i) (away i j e)
+apart_host (notes.Drop j n) past i e w = cond_off (nat_eq j i) (list_begins zero (host_at past i)) (host_at past i) (away i j e)
+apart_host (notes.Op j operation word) past i e w = cond_off (nat_eq j i) (op_ended operation word (host_at past i)) (host_at past i) (away i j e)
+apart_host (notes.Stuck j) past i e w = cond_off (nat_eq j i) _ (host_at past i) (away i j e)
+apart_host (notes.Sent serial generation from to bytes) past i e w =
+    cond_off ((nat_eq from (suc i)) && not ((known_host past i).wire.injected serial)) _ (host_at past i) (and_off (nat_eq from (suc i)) _ (not_so (nat_eq from (suc i)) e))
+apart_host (notes.Got serial) past i e w =
+    cond_off (is_serial (receiver_in ((known_host past i).wire.sent serial)) (suc i)) _ (host_at past i)
     (ap (λ (t : Terms). is_serial (receiver_in (t.sent serial)) (suc i)) (wire_is past i) ∙ none_to ((terms past).sent serial) i w)
-apart_reads (notes.TimedOut serial) past i e w =
-    off (is_serial (sender_in ((known_host past i).wire.sent serial)) (suc i)) _ (host_at past i)
+apart_host (notes.TimedOut serial) past i e w =
+    cond_off (is_serial (sender_in ((known_host past i).wire.sent serial)) (suc i)) _ (host_at past i)
     (ap (λ (t : Terms). is_serial (sender_in (t.sent serial)) (suc i)) (wire_is past i) ∙ none_from ((terms past).sent serial) i w)
-apart_reads (notes.Seen node generation) past i e w = off (nat_eq node (suc i)) _ (host_at past i) (not_so (nat_eq node (suc i)) e)
-apart_reads _ past i e w = refl
+apart_host (notes.Seen node generation) past i e w = cond_off (nat_eq node (suc i)) _ (host_at past i) (not_so (nat_eq node (suc i)) e)
+apart_host _ past i e w = refl
+
+pub apart_reads : (note : Note) (past : List Moment) (i : ℕ) → is_apart i note ≡ true → IsElsewhere past i note → Reads (said note ∷ past) i ≡ Reads past i
+apart_reads note past i e w = ap (λ (host : Host). host.reads) (apart_host note past i e w)
 
 -- ---- a packet that leaves in a line that is no action of it
+-- of what the next read of a ROM leaves
+module _ {A : Type 0} (f : Host → A) (goes : (u : Option Underway) (serial : ℕ) (host : Host) → f (goes_on u serial host) ≡ f host) where
+  other_same : (event : Option Event) (i : ℕ) (list : Option ℕ) (serial : ℕ) (host : Host) → IsNoAct i event → f (sent_in event i list serial host) ≡ f host
+  other_same None i list serial host n = goes host.operation serial host
+  other_same (Some (events.Act j action)) i list serial host n =
+      ap f (cond_off (nat_eq j i) (acted action (operation_of action) list serial host) (goes_on host.operation serial host) (turned i j n)) ∙ goes host.operation serial host
+  other_same (Some (events.Begin initiators ready)) i list serial host n = goes host.operation serial host
+  other_same (Some (events.Reset physical)) i list serial host n = goes host.operation serial host
+  other_same (Some (events.See node)) i list serial host n = goes host.operation serial host
+  other_same (Some (events.Deliver packet)) i list serial host n = goes host.operation serial host
+  other_same (Some (events.Repeat packet)) i list serial host n = goes host.operation serial host
+  other_same (Some (events.Lose packet)) i list serial host n = goes host.operation serial host
+  other_same (Some (events.Timeout packet)) i list serial host n = goes host.operation serial host
+  other_same (Some (events.Step count)) i list serial host n = goes host.operation serial host
+  other_same (Some events.Settle) i list serial host n = goes host.operation serial host
+  other_same (Some events.Tick) i list serial host n = goes host.operation serial host
+  other_same (Some (events.Inject initiator bytes)) i list serial host n = goes host.operation serial host
+  other_same (Some (events.Key unit key)) i list serial host n = goes host.operation serial host
+
+  part_same : (part : Part) (event : Option Event) (i : ℕ) (list : Option ℕ) (serial : ℕ) (host : Host) → IsNoAct i event → f (sent_as part event i list serial host) ≡ f host
+  part_same (request label kind) event i list serial host n = other_same event i list serial host n
+  part_same (response label kind) event i list serial host n = refl
+  part_same no_packet event i list serial host n = refl
+
+  either_same : (b : Bool) (x y : Host) → f x ≡ f y → f (cond b x y) ≡ f y
+  either_same true x y e = e
+  either_same false x y e = refl
+
+  pub sent_same : (serial generation from to : ℕ) (bytes : List ℕ) (past : List Moment) (i : ℕ) → IsNoAct i (event_of past) → f (host_at (said (notes.Sent serial generation from to bytes) ∷ past) i) ≡ f (host_at past i)
+  sent_same serial generation from to bytes past i n =
+      either_same ((nat_eq from (suc i)) && not ((known_host past i).wire.injected serial)) (sent_as (part_of bytes) (event_of past) i (present_list past i) serial (host_at past i)) (host_at past i)
+      (part_same (part_of bytes) (event_of past) i (present_list past i) serial (host_at past i) n)
+
 goes_reads : (u : Option Underway) (serial : ℕ) (host : Host) → (goes_on u serial host).reads ≡ host.reads
 goes_reads None serial host = refl
 goes_reads (Some underway) serial host = refl
 
-other_reads : (event : Option Event) (i : ℕ) (list : Option ℕ) (serial : ℕ) (host : Host) → IsNoAct i event → (sent_in event i list serial host).reads ≡ host.reads
-other_reads None i list serial host n = goes_reads host.operation serial host
-other_reads (Some (events.Act j action)) i list serial host n =
-    off (nat_eq j i) (acted action (operation_of action) list serial host) (goes_on host.operation serial host) (turned i j n) ∙ goes_reads host.operation serial host
-other_reads (Some (events.Begin initiators ready)) i list serial host n = goes_reads host.operation serial host
-other_reads (Some (events.Reset physical)) i list serial host n = goes_reads host.operation serial host
-other_reads (Some (events.See node)) i list serial host n = goes_reads host.operation serial host
-other_reads (Some (events.Deliver packet)) i list serial host n = goes_reads host.operation serial host
-other_reads (Some (events.Repeat packet)) i list serial host n = goes_reads host.operation serial host
-other_reads (Some (events.Lose packet)) i list serial host n = goes_reads host.operation serial host
-other_reads (Some (events.Timeout packet)) i list serial host n = goes_reads host.operation serial host
-other_reads (Some (events.Step count)) i list serial host n = goes_reads host.operation serial host
-other_reads (Some events.Settle) i list serial host n = goes_reads host.operation serial host
-other_reads (Some events.Tick) i list serial host n = goes_reads host.operation serial host
-other_reads (Some (events.Inject initiator bytes)) i list serial host n = goes_reads host.operation serial host
-other_reads (Some (events.Key unit key)) i list serial host n = goes_reads host.operation serial host
-
-part_reads : (part : Part) (event : Option Event) (i : ℕ) (list : Option ℕ) (serial : ℕ) (host : Host) → IsNoAct i event → (sent_as part event i list serial host).reads ≡ host.reads
-part_reads (request label kind) event i list serial host n = other_reads event i list serial host n
-part_reads (response label kind) event i list serial host n = refl
-part_reads no_packet event i list serial host n = refl
-
 pub sent_reads : (serial generation from to : ℕ) (bytes : List ℕ) (past : List Moment) (i : ℕ) → IsNoAct i (event_of past)
     → Reads (said (notes.Sent serial generation from to bytes) ∷ past) i ≡ Reads past i
-sent_reads serial generation from to bytes past i n =
-    same_if ((nat_eq from (suc i)) && not ((known_host past i).wire.injected serial)) (sent_as (part_of bytes) (event_of past) i (present_list past i) serial (host_at past i)) (host_at past i)
-    (part_reads (part_of bytes) (event_of past) i (present_list past i) serial (host_at past i) n)
+sent_reads = sent_same (λ host. host.reads) goes_reads
 
 -- ---- the request of an action
 ring_reads : (pointer : Option ℕ) (serial : ℕ) (host : Host) → (ring pointer serial host).reads ≡ host.reads
@@ -207,6 +217,11 @@ acted_reads actions.Ring list serial host n = ring_reads host.pointer serial hos
 abbrev pub is_gone : Option ℕ → ℕ → Bool
 is_gone None n = false
 is_gone (Some own) n = n == own
+
+-- as the packet was judged
+abbrev pub gone_by : Judged → List Moment → ℕ → Option ℕ
+gone_by judgements.Got past serial = answered_at (terms past) serial
+gone_by (judgements.Ignored cause) past serial = None
 
 got_by_reads : (own : Option ℕ) (wire : Terms) (serial : ℕ) (present : Option ℕ) (host : Host)
     → (got_by own wire serial present host).reads ≡ filter (λ (read : StateRead). not (is_gone own read.serial)) host.reads

@@ -2,8 +2,14 @@ pub mod Handed
 pub mod Turns
 pub mod OperationAsked
 pub mod HostReads
+pub mod HostTold
+pub mod HostMarks
+pub mod OwnCalls
+pub mod RequestKinds
 pub mod ReadPairs
 pub mod ReadsUnderWay
+pub mod MarkAnswers
+pub mod MarksKept
 pub mod ReadsCarried
 pub mod Places
 pub mod Calls

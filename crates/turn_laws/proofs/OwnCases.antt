@@ -126,4 +126,4 @@ module _ (units ready : ℕ) (start : List Disk) where
 
 -- in each turn in which no transaction of an initiator ends
 pub none_ends_law : NoneEndsLaw
-none_ends_law = of_timely_turns StandsWhereNoneEnds (λ units ready start has. none_ends_cases units ready start)
+none_ends_law = of_timely_turns (λ start. StandsWhereNoneEnds) (λ units ready start has. none_ends_cases units ready start)

@@ -1,12 +1,11 @@
 -- Of each initiator of every run the reads of AGENT_STATE that the terms have under way and those that it has are of the same transactions, in the order of their lines.
-use Rattle.std.proofs.Common.{arith, ◌≡◌, inl, inr, ◌⊎◌, refl, sym, ◌∙◌, ap, subst, ℕ, suc, ◌+◌, ◌<◌, ◌≤◌, ◌==◌, ◌&&◌, nat_eq, nat_lt, not, Bool, true, false, cond, List, [], ◌∷◌, ◌++◌, map, Option, Some, None, Result, Ok, Err}
+use Rattle.std.proofs.Common.{arith, ◌≡◌, inl, inr, ◌⊎◌, refl, sym, ◌∙◌, ap, subst, ℕ, suc, ◌+◌, ◌<◌, ◌≤◌, ◌==◌, ◌&&◌, nat_eq, nat_lt, is_some, not, Bool, true, false, cond, List, [], ◌∷◌, ◌++◌, map, Option, Some, None, Result, Ok, Err}
 use Rattle.std.specs.List.{filter}
 use Rattle.std.proofs.lemmas.Bool.Decides.{nat_tests}
 use Rattle.std.proofs.lemmas.Option.{same_Some}
 use Rattle.async_packet.specs.Labels.{LabelParts}
 use Rattle.bus_transactions.specs.Wire.{transaction}
 use Rattle.bus_transactions.proofs.Facts.{asked_begun, request_asked}
-use Rattle.label_table.specs.History as wire
 use Rattle.label_table.specs.Layer.{Finding, Layer, expiring_step, judging_step, of_again, of_generation, of_grammar, of_label, of_request, of_response, seeing_step}
 use Rattle.label_table.specs.declared.judgement.Asked.{Asked}
 use Rattle.label_table.specs.declared.reply.Stale.{Stale}
@@ -18,11 +17,11 @@ use Rattle.sbp_initiator.specs.Receiving.{expire_step, receive_step}
 use Rattle.sbp_initiator.specs.Refusals.{refusal}
 use Rattle.sbp_initiator.specs.Refusals as refusals
 use Rattle.sbp_initiator.specs.Seeing.{see_step}
-use Rattle.sbp_initiator.specs.States.{wanted_body}
+use Rattle.sbp_initiator.specs.States.{is_answered, is_unwritten, wanted_body}
 use Rattle.sbp_initiator.specs.Histories.Begins.{IsFree, after_by, begun_as}
-use Rattle.sbp_initiator.specs.Histories.Laws.{Call, IsCall, acts as act_call, after, done, lets_expire, receives, sees as sees_call}
-use Rattle.sbp_initiator.specs.Histories.Ends.{is_managed}
-use Rattle.sbp_initiator.specs.Histories.Marks.{expired_reads, finding_reads, has_read, is_read, read_begun, reads_by}
+use Rattle.sbp_initiator.specs.Histories.Laws.{acts as act_call, after, lets_expire, receives, sees as sees_call}
+use Rattle.sbp_initiator.specs.Histories.Ends.{is_managed, own}
+use Rattle.sbp_initiator.specs.Histories.Marks.{expired_reads, finding_reads, is_read, read_begun}
 use Rattle.sbp_initiator.specs.declared.purpose.Demand.{Demand}
 use Rattle.sbp_initiator.specs.declared.purpose.Purpose.{Purpose}
 use Rattle.sbp_initiator.specs.declared.purpose.Purpose.TheVariants as purposes
@@ -30,10 +29,6 @@ use Rattle.sbp_initiator.specs.declared.purpose.Running.{Running}
 use Rattle.sbp_initiator.specs.declared.purpose.Wanted.TheVariants as wants
 use Rattle.sbp_initiator.specs.declared.state.InitiatorState.{InitiatorState}
 use Rattle.sbp_initiator.proofs.FirstRow.{refusal_law}
-use Rattle.sbp_initiator.proofs.Histories.Known.{mark_law}
-use Rattle.sbp_initiator.proofs.Histories.Over.{counted_now, pointed_now, sound}
-use Rattle.sbp_initiator.proofs.Histories.Purposes.{IsOf, all_began, life_of}
-use Rattle.sbp_initiator.proofs.Histories.Runs.{FitsNow}
 use Rattle.sbp_journal.specs.Outgoings.{empty_outbox}
 use Rattle.sbp_journal.specs.Run.{Moment, asked, said}
 use Rattle.sbp_journal.specs.Transactions.{Kind, Sending, Transaction, between, part_of}
@@ -52,11 +47,10 @@ use Rattle.sbp_journal.specs.declared.side.Side.{Side}
 use Rattle.sbp_journal.specs.declared.side.Side.TheVariants as sides
 use Rattle.sbp_laws.specs.Hosts.{Host, StateRead, Underway, acted, host_at, is_serial, new_host, operation_of, ready_host, reset_seen, told_of}
 use Rattle.sbp_laws.specs.Lists.{present_list}
-use Rattle.sbp_laws.specs.Packets.{answered_at, sender_in}
+use Rattle.sbp_laws.specs.Packets.{sender_in}
 use Rattle.sbp_laws.specs.Turns.{event_of}
 use Rattle.sbp_world.proofs.Common.{least, none_is, some_none, untrue}
 use Rattle.sbp_world.proofs.Hosts.ActLeft.{ActLeft, HasAsked, act_left}
-use Rattle.sbp_world.proofs.Hosts.Alone.{call_same}
 use Rattle.sbp_world.proofs.Hosts.Asked.{IsRequest, number_in}
 use Rattle.sbp_world.proofs.Hosts.Calling.{called_on}
 use Rattle.sbp_world.proofs.Hosts.Carried.{between_runs, of_runs}
@@ -65,11 +59,11 @@ use Rattle.sbp_world.proofs.Hosts.Cores.{not_so}
 use Rattle.sbp_world.proofs.Hosts.Held.{ignored_quiet, sent_begun, sent_count}
 use Rattle.sbp_world.proofs.Hosts.Hosted.{Cored, expires_fit, hears_fit, marks_of}
 use Rattle.sbp_world.proofs.Hosts.KnowActs.{no_packets}
-use Rattle.sbp_world.proofs.Hosts.Layered.{AreTame, expire_left, receive_left}
+use Rattle.sbp_world.proofs.Hosts.Layered.{AreTame, Left, expire_left, receive_left}
 use Rattle.sbp_world.proofs.Hosts.Lives.{At, Called, ask_begins, ask_keeps, at_life, expire_at, judge_at}
 use Rattle.sbp_world.proofs.Hosts.Pointed.{expired_called, expiring_stays, judged_called, judged_fit, stale_is}
 use Rattle.sbp_world.proofs.Hosts.PointerNotes.{Fit, Told, apart_passes, opens, tame_told}
-use Rattle.sbp_world.proofs.Hosts.Pointing.{asked_generation, called_of, sent_waits}
+use Rattle.sbp_world.proofs.Hosts.Pointing.{asked_generation, called_of, sent_waits, wrote_is}
 use Rattle.sbp_world.proofs.Hosts.Shown.{IsElsewhere, IsHeard, IsShown}
 use Rattle.sbp_world.proofs.Lists.ManageActs.{act_operation, new_by, same_operation}
 use Rattle.sbp_world.proofs.Lists.ManageFirsts.{Goes, begun_first, goes_then, kept_first, line_first, note_first, other_first, sent_first, told_first}
@@ -82,8 +76,8 @@ use Rattle.sbp_world.proofs.Pointers.Guarded.{Guarded}
 use Rattle.sbp_world.proofs.Pointers.Guarding.{first_guarded, guarded_carried, ready_known}
 use Rattle.sbp_world.proofs.Pointers.Resetting.{asked_host}
 use Rattle.sbp_world.proofs.Hosts.PointSees.{see_left}
-use Rattle.sbp_world.proofs.Pointers.WaitActs.{see_old}
-use Rattle.sbp_world.proofs.Pointers.Waits.{judged_count, timed_count}
+use Rattle.sbp_world.proofs.Pointers.WaitActs.{none_seen, see_old}
+use Rattle.sbp_world.proofs.Pointers.Waits.{judged_count, judged_ends, timed_count, timed_ends}
 use Rattle.sbp_world.proofs.Lists.LiveTurns.{flag_is}
 use Rattle.sbp_world.proofs.Wire.Deliver.{judging_stays}
 use Rattle.sbp_world.specs.Histories.{history_of}
@@ -96,62 +90,39 @@ use Rattle.sbp_world.specs.Settling.{MayAll, after_all}
 use Rattle.sbp_world.specs.Worlds.{begun, initiator_at}
 use Rattle.rbc_disk.specs.Runs.{Told as ToldRun}
 use Rattle.sbp_world.specs.Hosts.Calls.{behind}
-use Rattle.turn_laws.proofs.HostReads.{Reads, acted_reads, all_kept, apart_reads, got_reads, is_gone, late_reads, over_if, seen_reads, sent_reads, told_reads}
+use Rattle.turn_laws.proofs.HostReads.{Reads, acted_reads, all_kept, apart_reads, gone_by, got_reads, is_gone, late_reads, over_if, seen_reads, sent_reads, told_reads}
 use Rattle.turn_laws.proofs.ReadPairs.{AreZipped, zipped_map, zipped_more}
-use Rattle.turn_laws.proofs.ReadsUnderWay.{AreTimely, ClosedFor, IsPair, LapsedFor, StateAt, WaitsAt, ended_by, ended_for, ended_late, expire_goes, finding_left, got_off, got_on, judge_goes, lapsed_left, late_off, late_on, zipped_then}
+use Rattle.turn_laws.proofs.ReadsUnderWay.{AreTimely, ClosedFor, IsPair, LapsedFor, ReadsThen, StateAt, WaitsAt, ended_by, ended_for, ended_late, expire_goes, finding_left, got_off, got_on, judge_goes, lapsed_left, late_off, late_on, reads_then}
+use Rattle.turn_laws.proofs.OwnCalls.{earlier_of, learned, lives_of, running_before, seen_own_marks, states_step}
 use Rattle.turn_laws.proofs.OwnFacts.{operation_same}
 use Rattle.turn_laws.proofs.OwnStates.{AreAsMany, AreInOrder, AreReset, both as both_reset, none as none_reset}
-
--- ---- what an initiator has, by its calls
-module _ (ready : Bool) (i : ℕ) (s : InitiatorState) (own : IsCalled ready i s) where
-  abbrev was : Turn
-  was = after i ready own.calls
-
-  states_step : (call : Call) → IsCall call → (done call (empty_outbox, s)).1.states ≡ reads_by call was s.states
-  states_step call fit =
-      ap (λ (x : InitiatorState). x.states) (sym (call_same call was.0 empty_outbox was.1 ∙ ap (λ (x : InitiatorState). (done call (empty_outbox, x)).1) own.is))
-      ∙ (mark_law i ready (call ∷ own.calls) (fit, own.fit)).reads
-      ∙ ap (λ acts. reads_by call was acts) (sym (mark_law i ready own.calls own.fit).reads ∙ ap (λ (x : InitiatorState). x.states) own.is)
-
-  running_before : (r : Running) → s.operation ≡ Some r → r.act < s.counts.acts
-  running_before = subst (λ (x : InitiatorState). (r : Running) → x.operation ≡ Some r → r.act < x.counts.acts) own.is ((sound i ready own.calls).begun.before)
-
-  module _ (peer number act : ℕ) (list : Option ℕ) (a : At s.layer peer number (Some (purposes.State act list))) where
-    abbrev node : ℕ
-    node = 0xffc1 + i
-
-    abbrev layer_calls : List (wire.Call Purpose)
-    layer_calls = (sound i ready own.calls).wires.calls
-
-    abbrev layer_now : Layer Purpose
-    layer_now = wire.after node layer_calls
-
-    b : At layer_now peer number (Some (purposes.State act list))
-    b = subst (λ (l : Layer Purpose). At l peer number (Some (purposes.State act list))) (sym ((sound i ready own.calls).wires.layer_is ∙ ap (λ (x : InitiatorState). x.layer) own.is)) a
-
-    abbrev name : LabelParts
-    name = record { number = number; generation = layer_now.generation; serial = b.serial }
-
-    lives_of : has_read act s.states ≡ true
-    lives_of =
-        subst (λ (x : InitiatorState). has_read act x.states ≡ true) own.is
-        ((sound i ready own.calls).wires.lives.has peer name b.kind act list (at_life node layer_calls peer number (Some (purposes.State act list)) b))
-
-    abbrev Fitting : Purpose → Type 0
-    Fitting = FitsNow was.1.operation was.1.counts.acts (counted_now i ready own.calls) (pointed_now i ready own.calls)
-
-    earlier_of : act < s.counts.acts
-    earlier_of =
-        let f : Fitting (purposes.State act list) =
-        subst (λ x. IsOf Fitting x) (at_life node layer_calls peer number (Some (purposes.State act list)) b)
-        (life_of Fitting peer name (wire.history node layer_calls) (all_began Fitting node layer_calls (sound i ready own.calls).wires.asks)) in
-        subst (λ (x : InitiatorState). act < x.counts.acts) own.is f.earlier
+use Rattle.bus_transactions.specs.Fitting.{AreBytes}
+use Rattle.label_table.specs.History.{not_begun, under_way}
+use Rattle.label_table.specs.declared.reply.ReplyKind.{ReplyKind}
+use Rattle.orb_list.specs.declared.list.PresentList.{PresentList}
+use Rattle.sbp_initiator.proofs.Histories.Effects.{HasMarks}
+use Rattle.sbp_initiator.specs.declared.purpose.Pointing.{Pointing}
+use Rattle.sbp_initiator.specs.declared.purpose.Pointing.TheVariants as pointings
+use Rattle.sbp_laws.specs.Actions.{action_notes}
+use Rattle.sbp_world.proofs.Hosts.HostRows.{host_acts, host_apart, host_expires, host_hears, host_sees, host_sent, no_abort}
+use Rattle.sbp_world.proofs.Hosts.Runs.{first_host}
+use Rattle.sbp_world.specs.Hosts.Rows.{present_in}
+use Rattle.sbp_world.specs.Hosts.Worlds.{IsHost}
+use Rattle.turn_laws.proofs.HostMarks.{Marks, acted_marks, apart_marks, marks, marks_at, marks_in, own_marks, seen_marks, sent_marks}
+use Rattle.turn_laws.proofs.MarksKept.{IsLive, acted_live, acted_marked, acted_others, acted_sides, acted_unanswered, heard_live, heard_marked, heard_others, late_live, late_marked, late_others, seen_marked, seen_others}
+use Rattle.turn_laws.proofs.RequestKinds.{Kinds, asking_kinds, ended_kinds, generation_is, still_kinds}
 
 -- ---- what is carried on
 pub record Paired (ready : Bool) (past : List Moment) (i : ℕ) (s : InitiatorState) : Type 0 where
   pub guarded : Guarded ready past i s
   pub pairs : Fit past → AreTimely past → AreZipped (IsPair past i s) (Reads past i) s.states
   pub first : Fit past → (u : Underway) → (host_at past i).operation ≡ Some u → u.first ≤ (terms past).count
+  -- its lists and slots by the terms, and the kind of what each request awaits
+  pub host : IsHost past i s
+  pub kinds : Fit past → Kinds past i s.target s.layer
+  -- and what it knows of its present list: where that is marked dead there is one
+  pub live : IsLive s
+  pub marked : Fit past → AreTimely past → marks_at past i ≡ own_marks s
 
 -- as others tell and send something
 module _ (past now : List Moment) (i : ℕ) (s : InitiatorState) (goes : Goes (host_at past i) (host_at now i)) (count : (terms past).count ≤ (terms now).count) where
@@ -165,6 +136,7 @@ module _ (past now : List Moment) (i : ℕ) (s : InitiatorState) (goes : Goes (h
       list = p.list;
       kind = p.kind;
       at = p.at;
+      named = p.named;
       held = held p.number p.kind read.serial p.held;
       order = λ u e r f. (let w = goes.on u e in ap (λ n. nat_lt n read.serial) (sym w.first) ∙ p.order w.was w.is r f);
       below = (let b = p.below in omega (arith, b, count));
@@ -178,9 +150,9 @@ told_timely [] past h t = t
 told_timely (sides.Own note ∷ later) past h t = (told_timely later (said note ∷ past) h.1 t).1
 told_timely (_ ∷ later) past h t = absurd h.0
 
-told_paired : (ready : Bool) (told : List Side) (past : List Moment) (j : ℕ) (x : InitiatorState) → AreTame told → Guarded ready (behind told past) j x → Paired ready past j x
-    → Paired ready (behind told past) j x
-told_paired ready told past j x tame g h =
+told_paired : (ready : Bool) (told : List Side) (past : List Moment) (j : ℕ) (x : InitiatorState) → AreTame told → Guarded ready (behind told past) j x → IsHost (behind told past) j x
+    → marks_at (behind told past) j ≡ marks_at past j → Paired ready past j x → Paired ready (behind told past) j x
+told_paired ready told past j x tame g host same h =
     let k = tame_told told past j tame in
     let goes = told_first told past j tame in
     let count = least _ _ (ap (λ (t : Terms). t.count) k.wire) in
@@ -190,6 +162,10 @@ told_paired ready told past j x tame g h =
           pairs_on past (behind told past) j x goes count (λ n k' o e. ap (λ (t : Terms). t.held (transaction x.layer.generation (suc j) 0 n)) k.wire ∙ e) (told_reads told past j tame)
           (h.pairs (k.fit f) (told_timely told past tame m));
       first = λ f. first_on past (behind told past) j x goes count (h.first (k.fit f));
+      host = host;
+      kinds = λ f. still_kinds past (behind told past) j x.target x.layer (λ n k' o e. ap (λ (t : Terms). t.held (transaction x.layer.generation (suc j) 0 n)) k.wire ∙ e) (h.kinds (k.fit f));
+      live = h.live;
+      marked = λ f m. same ∙ h.marked (k.fit f) (told_timely told past tame m);
     }
 
 pub asked_paired : (ready : Bool) (line : ℕ) (event : Event) (past : List Moment) (i : ℕ) (s : InitiatorState) → Paired ready past i s → Paired ready (asked line event ∷ past) i s
@@ -203,6 +179,12 @@ asked_paired ready line event past i s h =
           pairs_on past (asked line event ∷ past) i s goes count (λ n k o' e. ap (λ (x : Transaction → Held). x (transaction s.layer.generation (suc i) 0 n)) o.held ∙ e) refl
           (h.pairs (record { serials = f.serials; sent = f.sent }) m.1);
       first = λ f. first_on past (asked line event ∷ past) i s goes count (h.first (record { serials = f.serials; sent = f.sent }));
+      host = record { number = h.host.number; rows = h.host.rows; pin = h.host.pin };
+      kinds = λ f.
+          still_kinds past (asked line event ∷ past) i s.target s.layer (λ n k o' e. ap (λ (x : Transaction → Held). x (transaction s.layer.generation (suc i) 0 n)) o.held ∙ e)
+          (h.kinds (record { serials = f.serials; sent = f.sent }));
+      live = h.live;
+      marked = λ f m. h.marked (record { serials = f.serials; sent = f.sent }) m.1;
     }
 
 apart_goes : (note : Note) (past : List Moment) (i : ℕ) → is_apart i note ≡ true → Goes (host_at past i) (host_at (said note ∷ past) i)
@@ -219,6 +201,10 @@ apart_paired ready note past i s e w h =
       guarded = (guarded_carried ready).apart note past i s e w h.guarded;
       pairs = λ f m. pairs_on past (said note ∷ past) i s goes passes.count (λ n k o x. passes.held s.layer.generation n ∙ x) (apart_reads note past i e w) (h.pairs (passes.fit f) m.1);
       first = λ f. first_on past (said note ∷ past) i s goes passes.count (h.first (passes.fit f));
+      host = host_apart note past i s e h.host;
+      kinds = λ f. still_kinds past (said note ∷ past) i s.target s.layer (λ n k o x. passes.held s.layer.generation n ∙ x) (h.kinds (passes.fit f));
+      live = h.live;
+      marked = λ f m. apart_marks note past i e w ∙ h.marked (passes.fit f) m.1;
     }
 
 sent_paired : (ready : Bool) (serial generation from to : ℕ) (bytes : List ℕ) (past : List Moment) (i : ℕ) (s : InitiatorState) → IsNoAct i (event_of past) → Paired ready past i s
@@ -235,6 +221,12 @@ sent_paired ready serial generation from to bytes past i s n h =
           pairs_on past now i s goes count (λ x k o e. sent_waits t serial packet f.sent.0 (transaction s.layer.generation (suc i) 0 x) k o e) (sent_reads serial generation from to bytes past i n)
           (h.pairs (record { serials = f.serials.1; sent = f.sent.1 }) m.1);
       first = λ f. first_on past now i s goes count (h.first (record { serials = f.serials.1; sent = f.sent.1 }));
+      host = host_sent serial generation from to bytes past i s (no_abort (event_of past) i n) h.host;
+      kinds = λ f.
+          still_kinds past now i s.target s.layer (λ x k o e. sent_waits t serial packet f.sent.0 (transaction s.layer.generation (suc i) 0 x) k o e)
+          (h.kinds (record { serials = f.serials.1; sent = f.sent.1 }));
+      live = h.live;
+      marked = λ f m. sent_marks serial generation from to bytes past i n ∙ h.marked (record { serials = f.serials.1; sent = f.sent.1 }) m.1;
     }
 
 -- ---- the operation under way ends, or stays
@@ -277,24 +269,20 @@ module _ (ready : Bool) (serial generation : ℕ) (bytes : List ℕ) (past : Lis
   called : Called s.layer
   called = called_of h.guarded.pointed.cored
 
-  abbrev gone_by : Judged → Option ℕ
-  gone_by judgements.Got = answered_at (terms past) serial
-  gone_by (judgements.Ignored cause) = None
-
   goes_by : (j : Judged) → Goes (host_at past i) (host_at (said (judged_note serial j) ∷ past) i)
   goes_by judgements.Got = note_first (notes.Got serial) past i refl
   goes_by (judgements.Ignored cause) = note_first (notes.Ignored serial cause) past i refl
 
-  reads_by_judged : (j : Judged) → Reads (said (judged_note serial j) ∷ past) i ≡ filter (λ (r : StateRead). not (is_gone (gone_by j) r.serial)) (Reads past i)
+  reads_by_judged : (j : Judged) → Reads (said (judged_note serial j) ∷ past) i ≡ filter (λ (r : StateRead). not (is_gone (gone_by j past serial) r.serial)) (Reads past i)
   reads_by_judged judgements.Got = got_reads serial heard.packet past i heard.sent heard.to_is
   reads_by_judged (judgements.Ignored cause) = sym (all_kept (Reads past i))
 
-  stays_by : (f : Fit past) (j : Judged) (m : ℕ) (k : Kind) (n : ℕ) → WaitsAt past i s.layer m k n → is_gone (gone_by j) n ≡ false → WaitsAt (said (judged_note serial j) ∷ past) i s.layer m k n
+  stays_by : (f : Fit past) (j : Judged) (m : ℕ) (k : Kind) (n : ℕ) → WaitsAt past i s.layer m k n → is_gone (gone_by j past serial) n ≡ false → WaitsAt (said (judged_note serial j) ∷ past) i s.layer m k n
   stays_by f judgements.Got m k n e g = got_on past f.serials serial heard.packet heard.sent (transaction s.layer.generation (suc i) 0 m) k n e g
   stays_by f (judgements.Ignored cause) m k n e g =
       ap (λ (x : Transaction → Held). x (transaction s.layer.generation (suc i) 0 m)) (ignored_quiet ((terms past).sent serial) cause serial (terms past)).held ∙ e
 
-  ends_by_judged : (f : Fit past) (j : Judged) (m : ℕ) (k : Kind) (n : ℕ) → WaitsAt past i s.layer m k n → is_gone (gone_by j) n ≡ true → (k' : Kind) (n' : ℕ)
+  ends_by_judged : (f : Fit past) (j : Judged) (m : ℕ) (k : Kind) (n : ℕ) → WaitsAt past i s.layer m k n → is_gone (gone_by j past serial) n ≡ true → (k' : Kind) (n' : ℕ)
       → WaitsAt (said (judged_note serial j) ∷ past) i s.layer m k' n' → ⊥
   ends_by_judged f judgements.Got m k n e g k' n' w = got_off past f.serials serial heard.packet heard.sent (transaction s.layer.generation (suc i) 0 m) k n e g k' n' w
   ends_by_judged f (judgements.Ignored cause) m k n e g k' n' w = untrue g
@@ -307,34 +295,58 @@ module _ (ready : Bool) (serial generation : ℕ) (bytes : List ℕ) (past : Lis
       by (inl x) = inl x
       by (inr x) = inr (closed_ended finding act list x)
 
+  heard_left : Left (judging_step s.layer generation bytes).1 s.target t
+  heard_left = receive_left generation bytes s
+
+  fit_before : Fit (behind t.0.sides heard_now) → Fit past
+  fit_before f = judged_fit serial judged past ((tame_told t.0.sides heard_now i heard_left.told).fit f)
+
+  -- what it got has bytes
+  has_bytes : (j : Judged) → AreTimely (said (judged_note serial j) ∷ past) → j ≡ judgements.Got → AreBytes heard.packet.bytes
+  has_bytes judgements.Got m e = m.0 heard.packet heard.sent
+  has_bytes (judgements.Ignored cause) m e = absurd (let no : judgements.Ignored cause ≡ judgements.Got = e in cc)
+
+  heard_reads : Fit past → ReadsThen (IsPair past i s) (IsPair (behind t.0.sides heard_now) i t.1) (gone_by judged past serial) (ended_by finding) (Reads past i) (Reads (behind t.0.sides heard_now) i) s.states t.1.states
+  heard_reads f =
+      reads_then past heard_now i s (judging_step s.layer generation bytes).1 t (gone_by judged past serial) (ended_by finding)
+      after_it (judging_stays s.layer generation bytes) (judged_called ready s.layer generation bytes called) heard_left
+      (stays_by f judged) (ends_by_judged f judged) (λ n q a. judge_at s.layer generation bytes s.target n q called a) on_by
+      (goes_by judged) (judged_count serial judged past) (stays_or_ends s _ t.1 (hears_left s generation bytes (hears_fit ready i s own_heard generation bytes)))
+      (λ n act list a. lives_of ready i t.1 (called_on ready i s (receives generation bytes) tt own_heard) t.1.target n act list a)
+      (states_step ready i s own_heard (receives generation bytes) tt ∙ ap (λ (x : InitiatorState). finding_reads (judging_step x.layer generation bytes).0 s.states) own_heard.is
+      ∙ finding_left finding s.states)
+      (reads_by_judged judged)
+
   hears_paired : Tells (Paired ready) heard_now i t
   hears_paired =
-      let left = receive_left generation bytes s in
+      let left = heard_left in
       let tells = (guarded_carried ready).hears serial generation bytes past i s heard shown after_it h.guarded in
-      let then_called = called_on ready i s (receives generation bytes) tt own_heard in
+      let hosts = host_hears past i serial generation bytes s heard h.host in
       let goes = goes_by judged in
       let count = judged_count serial judged past in
       record {
         own = record {
           guarded = tells.own;
-          pairs = λ f m.
-              let f_now = (tame_told t.0.sides heard_now i left.told).fit f in
-              let f_past = judged_fit serial judged past f_now in
-              zipped_then past heard_now i s (judging_step s.layer generation bytes).1 t (gone_by judged) (ended_by finding)
-              after_it (judging_stays s.layer generation bytes) (judged_called ready s.layer generation bytes called) left
-              (stays_by f_past judged) (ends_by_judged f_past judged) (λ n q a. judge_at s.layer generation bytes s.target n q called a) on_by
-              goes count (stays_or_ends s _ t.1 (hears_left s generation bytes (hears_fit ready i s own_heard generation bytes)))
-              (λ n act list a. lives_of ready i t.1 then_called t.1.target n act list a)
-              (states_step ready i s own_heard (receives generation bytes) tt ∙ ap (λ (x : InitiatorState). finding_reads (judging_step x.layer generation bytes).0 s.states) own_heard.is
-              ∙ finding_left finding s.states)
-              (reads_by_judged judged)
-              (h.pairs f_past (told_timely t.0.sides heard_now left.told m).1);
+          pairs = λ f m. (heard_reads (fit_before f)).zipped (h.pairs (fit_before f) (told_timely t.0.sides heard_now left.told m).1);
+          host = hosts.own;
+          kinds = λ f.
+              subst (λ n. Kinds (behind t.0.sides heard_now) i n t.1.layer) (sym left.target_is)
+              (ended_kinds past (judged_note serial judged) i s.target s.layer (judging_step s.layer generation bytes).1 (judged_ends serial judged past) (h.kinds (fit_before f))
+              (judged_called ready s.layer generation bytes called) (judging_stays s.layer generation bytes) (λ n q a. judge_at s.layer generation bytes s.target n q called a) after_it t.0.sides left.told
+              t.1.layer left.layer);
+          live = heard_live past i s h.host ready own_heard h.live serial generation bytes hosts.own;
+          marked = λ f m.
+              let before = told_timely t.0.sides heard_now left.told m in
+              heard_marked ready serial generation bytes past i s heard shown after_it h.guarded h.host (fit_before f) (h.kinds (fit_before f)) (has_bytes judged before)
+              (heard_reads (fit_before f)).gone_too (h.pairs (fit_before f) before.1) (h.marked (fit_before f) before.1);
           first = λ f. first_on past (behind t.0.sides heard_now) i s
               (goes_then (host_at past i) (host_at heard_now i) (host_at (behind t.0.sides heard_now) i) goes (told_first t.0.sides heard_now i left.told))
               (let w = ap (λ (x : Terms). x.count) (tame_told t.0.sides heard_now i left.told).wire in omega (arith, w, count))
-              (h.first (judged_fit serial judged past ((tame_told t.0.sides heard_now i left.told).fit f)));
+              (h.first (fit_before f));
         };
-        others = λ j x e g. told_paired ready t.0.sides heard_now j x left.told (tells.others j x e g.guarded) g;
+        others = λ j x e g.
+            told_paired ready t.0.sides heard_now j x left.told (tells.others j x e g.guarded) (hosts.others j x e g.host)
+            (heard_others ready serial generation bytes past i s heard shown after_it h.guarded h.host j e) g;
       }
 
 -- ---- a transaction times out
@@ -369,6 +381,7 @@ module _ (ready : Bool) (serial : ℕ) (label : LabelParts) (past : List Moment)
   expires_paired =
       let left = expire_left label s in
       let tells = (guarded_carried ready).expires serial label past i s after_it h.guarded in
+      let hosts = host_expires serial label past i s h.host in
       let then_called = called_on ready i s (lets_expire label) tt own_calls in
       let goes = note_first (notes.TimedOut serial) past i refl in
       let count = timed_count serial past in
@@ -378,7 +391,7 @@ module _ (ready : Bool) (serial : ℕ) (label : LabelParts) (past : List Moment)
           pairs = λ f m.
               let f_now = (tame_told late_turn.0.sides late i left.told).fit f in
               let timely = told_timely late_turn.0.sides late left.told m in
-              zipped_then past late i s (expiring_step s.layer s.target label).1 late_turn over (ended_late lapsed)
+              (reads_then past late i s (expiring_step s.layer s.target label).1 late_turn over (ended_late lapsed)
               after_it (expiring_stays s.layer s.target label) (expired_called ready s.layer s.target label layer_called) left
               (λ n k o e g. late_on past f_now.serials serial timely.0 s.layer.generation i n k o e g)
               (λ n k o e g k' o' w. late_off past f_now.serials serial timely.0 s.layer.generation i n k o e g k' o' w)
@@ -387,14 +400,26 @@ module _ (ready : Bool) (serial : ℕ) (label : LabelParts) (past : List Moment)
               (λ n act list a. lives_of ready i late_turn.1 then_called late_turn.1.target n act list a)
               (states_step ready i s own_calls (lets_expire label) tt ∙ ap (λ (x : InitiatorState). expired_reads (expiring_step x.layer x.target label).0 s.states) own_calls.is
               ∙ lapsed_left lapsed s.states)
-              (late_reads serial past i)
+              (late_reads serial past i)).zipped
               (h.pairs (record { serials = f_now.serials; sent = f_now.sent }) timely.1);
+          host = hosts.own;
+          kinds = λ f.
+              let f_now = (tame_told late_turn.0.sides late i left.told).fit f in
+              subst (λ n. Kinds (behind late_turn.0.sides late) i n late_turn.1.layer) (sym left.target_is)
+              (ended_kinds past (notes.TimedOut serial) i s.target s.layer (expiring_step s.layer s.target label).1 (timed_ends serial past) (h.kinds (record { serials = f_now.serials; sent = f_now.sent }))
+              (expired_called ready s.layer s.target label layer_called) (expiring_stays s.layer s.target label) (λ n q a. expire_at s.layer s.target label s.target n q layer_called a) after_it late_turn.0.sides left.told
+              late_turn.1.layer left.layer);
+          live = late_live past i s h.host ready own_calls h.live serial label hosts.own;
+          marked = λ f m.
+              let f_now = (tame_told late_turn.0.sides late i left.told).fit f in
+              late_marked ready serial label past i s own_calls h.host.number (h.marked (record { serials = f_now.serials; sent = f_now.sent }) (told_timely late_turn.0.sides late left.told m).1);
           first = λ f. first_on past (behind late_turn.0.sides late) i s
               (goes_then (host_at past i) (host_at late i) (host_at (behind late_turn.0.sides late) i) goes (told_first late_turn.0.sides late i left.told))
               (let w = ap (λ (x : Terms). x.count) (tame_told late_turn.0.sides late i left.told).wire in omega (arith, w, count))
               (let g = (tame_told late_turn.0.sides late i left.told).fit f in h.first (record { serials = g.serials; sent = g.sent }));
         };
-        others = λ j x e g. told_paired ready late_turn.0.sides late j x left.told (tells.others j x e g.guarded) g;
+        others = λ j x e g.
+            told_paired ready late_turn.0.sides late j x left.told (tells.others j x e g.guarded) (hosts.others j x e g.host) (late_others ready serial label past i s own_calls h.host.number j e) g;
       }
 
 -- ---- a generation is seen
@@ -430,9 +455,31 @@ module _ (ready : Bool) (generation id target : ℕ) (past : List Moment) (i : �
       (pairs_on past sight i s (note_first (notes.Seen (suc i) generation) past i refl) count (λ n k o x. x)
       (seen_reads generation past i ∙ ap (λ b. (reset_seen b (host_at past i)).reads) (is_new ∙ e)) (h.pairs f m))
 
+  abbrev own_sees : IsCalled ready i s
+  own_sees = h.guarded.pointed.cored.own.called
+
+  seen_kinds : Fit past → (b : Bool) → nat_lt s.layer.generation generation ≡ b → Kinds (behind seen_turn.0.sides sight) i seen_turn.1.target seen_turn.1.layer
+  seen_kinds f true e = λ m p c a. absurd (none_seen ready generation id target past i s flag h.guarded.aimed e seen_turn.1.target m (Some p) a)
+  seen_kinds f false e =
+      subst (λ (u : Turn). Kinds (behind u.0.sides sight) i u.1.target u.1.layer) (sym (see_old generation id target s e)) (still_kinds past sight i s.target s.layer (λ m k n x. x) (h.kinds f))
+
+  seen_live : (b : Bool) → nat_lt s.layer.generation generation ≡ b → IsLive seen_turn.1
+  seen_live true e = λ d. untrue (sym (ap (λ (m : Marks). m.dead) (seen_own_marks ready i s own_sees generation id target ∙ ap (λ b. learned ready i s own_sees b false false) e)) ∙ d)
+  seen_live false e = subst (λ (u : Turn). IsLive u.1) (sym (see_old generation id target s e)) h.live
+
+  seen_has : (b : Bool) → nat_lt s.layer.generation generation ≡ b → marks_at past i ≡ own_marks s → marks_at (behind seen_turn.0.sides sight) i ≡ own_marks seen_turn.1
+  seen_has true e marked = seen_marked generation id target s ready past i own_sees h.host.number (marks_of ready i s own_sees) h.live e marked
+  seen_has false e marked =
+      subst (λ (u : Turn). marks_at (behind u.0.sides sight) i ≡ own_marks u.1) (sym (see_old generation id target s e)) (seen_marks (suc i) generation past i ∙ marked)
+
+  seen_else : (b : Bool) → nat_lt s.layer.generation generation ≡ b → (j : ℕ) → (j == i) ≡ false → marks_at (behind seen_turn.0.sides sight) j ≡ marks_at sight j
+  seen_else true e j f = seen_others generation id target s ready past i own_sees h.host.number (marks_of ready i s own_sees) h.live e j f
+  seen_else false e j f = subst (λ (u : Turn). marks_at (behind u.0.sides sight) j ≡ marks_at sight j) (sym (see_old generation id target s e)) refl
+
   sees_paired : Tells (Paired ready) sight i seen_turn
   sees_paired =
       let tells = (guarded_carried ready).sees generation id target past i s flag h.guarded in
+      let hosts = host_sees generation id target past i s flag h.host in
       let count : (terms past).count ≤ (terms sight).count = omega arith in
       record {
         own = record {
@@ -445,8 +492,15 @@ module _ (ready : Bool) (generation id target : ℕ) (past : List Moment) (i : �
               (told_first seen_turn.0.sides sight i told_tame))
               (let w = ap (λ (x : Terms). x.count) (tame_told seen_turn.0.sides sight i told_tame).wire in omega (arith, w, count))
               (let g = (tame_told seen_turn.0.sides sight i told_tame).fit f in h.first (record { serials = g.serials; sent = g.sent }));
+          host = hosts.own;
+          kinds = λ f. (let g = (tame_told seen_turn.0.sides sight i told_tame).fit f in seen_kinds (record { serials = g.serials; sent = g.sent }) (nat_lt s.layer.generation generation) refl);
+          live = seen_live (nat_lt s.layer.generation generation) refl;
+          marked = λ f m.
+              let g = (tame_told seen_turn.0.sides sight i told_tame).fit f in
+              seen_has (nat_lt s.layer.generation generation) refl (h.marked (record { serials = g.serials; sent = g.sent }) (told_timely seen_turn.0.sides sight told_tame m).1);
         };
-        others = λ j x e g. told_paired ready seen_turn.0.sides sight j x told_tame (tells.others j x e g.guarded) g;
+        others = λ j x e g.
+            told_paired ready seen_turn.0.sides sight j x told_tame (tells.others j x e g.guarded) (hosts.others j x e g.host) (seen_else (nat_lt s.layer.generation generation) refl j e) g;
       }
 
 -- ---- an action
@@ -528,6 +582,7 @@ module _ (ready : Bool) (action : Action) (past : List Moment) (i : ℕ) (s : In
       kind = p.kind;
       at = subst (λ (l : Layer Purpose). At l act_turn.1.target p.number (Some (purposes.State act p.list))) (sym (left.quiet none))
           (subst (λ n. At s.layer n p.number (Some (purposes.State act p.list))) (sym left.target_is) p.at);
+      named = p.named;
       held =
           ap (λ (l : Layer Purpose). (terms ms).held (transaction l.generation (suc i) 0 p.number)) (left.quiet none)
           ∙ ap (λ (x : Terms). x.held (transaction s.layer.generation (suc i) 0 p.number)) told.wire ∙ p.held;
@@ -602,6 +657,7 @@ module _ (ready : Bool) (action : Action) (past : List Moment) (i : ℕ) (s : In
         kind = p.kind;
         at = subst (λ n. At act_turn.1.layer n p.number (Some (purposes.State act p.list))) (sym left.target_is)
             (ask_keeps s.layer s.target (wanted_body x.demand.wanted) x.demand.purpose x.asked act_turn.1.layer called_now x.step s.target p.number (Some (purposes.State act p.list)) p.at);
+        named = p.named;
         held =
             ap (λ g. (terms now).held (transaction g (suc i) 0 p.number)) stays
             ∙ sent_waits (terms ms) serial sending f.sent.0 (transaction s.layer.generation (suc i) 0 p.number) p.kind read.serial
@@ -639,17 +695,34 @@ module _ (ready : Bool) (action : Action) (past : List Moment) (i : ℕ) (s : In
         purpose_is : x.demand.purpose ≡ purposes.State s.counts.acts list
         purpose_is = ap (λ (d : Demand). d.purpose) (sym (same_Some _ x.demand (ap (λ a. demand_of a s) (sym is) ∙ x.is)))
 
-        generation_is : generation ≡ s.layer.generation
-        generation_is = (f.sent.0 honest).now ∙ ap (λ (y : Terms). y.generation (suc i)) told.wire ∙ sym shown.generation
-
         abbrev new_read : StateRead
         new_read = record { serial = serial; list = told_of (host_at ms i).pointed (present_list ms i) }
 
         none_begins : begins ≡ None
         none_begins = ap refusals.operation_of is
 
-        new_pair : IsPair now i act_turn.1 new_read s.counts.acts
-        new_pair = record {
+        -- it says something of the list that it is asked for
+        silent_told : act_turn.0.sides ≡ []
+        silent_told = acted_sides ready action past i s fit.0 done_is h.host cored.own.called ∙ ap (λ a. own (action_notes a past i)) is
+
+        counts : (b : Bool) → is_answered s.marks.pointing ≡ b → (present : Option PresentList) → told_of b (present_in present) ≡ counted_list present s
+        counts b e None = none b
+          where
+            none : (b : Bool) → told_of b None ≡ None
+            none true = refl
+            none false = refl
+        counts true e (Some l) = ap (λ b. cond b (Some l.tail.list) None) (sym e)
+        counts false e (Some l) = ap (λ b. cond b (Some l.tail.list) None) (sym e)
+
+        named_now : marks_at past i ≡ own_marks s → told_of (host_at ms i).pointed (present_list ms i) ≡ list
+        named_now marked =
+            ap (λ told. told_of (host_at (behind told past) i).pointed (present_list (behind told past) i)) silent_told
+            ∙ ap (λ b. told_of b (present_list past i)) (ap (λ (m : Marks). m.pointed) marked)
+            ∙ ap (told_of (is_answered s.marks.pointing)) h.host.rows.fits.present ∙ counts (is_answered s.marks.pointing) refl s.lists.slots.present
+
+        new_pair : marks_at past i ≡ own_marks s → IsPair now i act_turn.1 new_read s.counts.acts
+        new_pair marked = record {
+          named = named_now marked;
           number = number;
           list = list;
           kind = kind_in (part_of packet.bytes);
@@ -660,7 +733,8 @@ module _ (ready : Bool) (action : Action) (past : List Moment) (i : ℕ) (s : In
               ap (λ g. (terms now).held (transaction g (suc i) 0 number)) stays
               ∙ sent_begun serial sending (terms ms) (begun_at number)
               (asked_begun sending (between sending sending.from sending.to (number_in packet.label)) honest (request_asked sending (number_in packet.label) q.kind q.part)
-              ∙ ap (λ g. Some (transaction g (suc i) 0 (number_in packet.label))) generation_is
+              ∙ ap (λ g. Some (transaction g (suc i) 0 (number_in packet.label)))
+              (generation_is action past i s done_is known shown called_now (h.kinds fit_past) left packet one serial generation injected q f)
               ∙ ap (λ m. Some (begun_at m)) (ap number_in x.label));
           order = λ u e r g.
               let w = (goes_now (same_operation action ∙ none_begins)).on u e in
@@ -677,20 +751,20 @@ module _ (ready : Bool) (action : Action) (past : List Moment) (i : ℕ) (s : In
       host_is : host_at now i ≡ acted action (operation_of action) (present_list ms i) serial (host_at ms i)
       host_is = asked_host action serial generation 0 packet.bytes ms i (told.line ∙ under) q honest
 
-      asking_pairs : (b : Bool) → is_read action ≡ b → AreZipped (IsPair past i s) (Reads past i) s.states → AreZipped (IsPair now i act_turn.1) (Reads now i) act_turn.1.states
-      asking_pairs false e z =
+      asking_pairs : (b : Bool) → is_read action ≡ b → marks_at past i ≡ own_marks s → AreZipped (IsPair past i s) (Reads past i) s.states → AreZipped (IsPair now i act_turn.1) (Reads now i) act_turn.1.states
+      asking_pairs false e marked z =
           subst (λ acts. AreZipped (IsPair now i act_turn.1) (Reads now i) acts) (sym (states_now ∙ ap (λ b. cond b (s.states ++ s.counts.acts ∷ []) s.states) e))
           (subst (λ rs. AreZipped (IsPair now i act_turn.1) rs s.states)
           (sym (ap (λ (y : Host). y.reads) host_is ∙ acted_reads action (present_list ms i) serial (host_at ms i) (λ is. untrue (sym e ∙ ap is_read is))
           ∙ told_reads act_turn.0.sides past i left.told))
           (zipped_map (IsPair past i s) (IsPair now i act_turn.1) old_pair (Reads past i) s.states z))
-      asking_pairs true e z =
+      asking_pairs true e marked z =
           let is = is_state action e in
           subst (λ acts. AreZipped (IsPair now i act_turn.1) (Reads now i) acts) (sym (states_now ∙ ap (λ b. cond b (s.states ++ s.counts.acts ∷ []) s.states) e))
           (subst (λ rs. AreZipped (IsPair now i act_turn.1) rs (s.states ++ s.counts.acts ∷ []))
           (sym (ap (λ (y : Host). y.reads) host_is ∙ ap (λ a. (acted a (operation_of a) (present_list ms i) serial (host_at ms i)).reads) is
           ∙ ap (λ rs. rs ++ new_read is ∷ []) (told_reads act_turn.0.sides past i left.told)))
-          (zipped_more (IsPair past i s) (IsPair now i act_turn.1) old_pair (Reads past i) s.states (new_read is) s.counts.acts (new_pair is) z))
+          (zipped_more (IsPair past i s) (IsPair now i act_turn.1) old_pair (Reads past i) s.states (new_read is) s.counts.acts (new_pair is marked) z))
 
       first_now : (o : Option Operation) → begins ≡ o → (u : Underway) → (host_at now i).operation ≡ Some u → u.first ≤ (terms now).count
       first_now None o u e =
@@ -698,21 +772,63 @@ module _ (ready : Bool) (action : Action) (past : List Moment) (i : ℕ) (s : In
           count_now in omega (arith, b, same, c, d))
       first_now (Some operation) o u e = (let a = first_is operation (same_operation action ∙ o) u e in let n = f.serials.0 in let d = count_now in omega (arith, a, n, d))
 
+      asking_marked : marks_at past i ≡ own_marks s → marks_at now i ≡ own_marks act_turn.1
+      asking_marked marked =
+          ap marks_in host_is ∙ acted_marks action (present_list ms i) serial (host_at ms i) (λ r e. acted_unanswered ready action past i s fit.0 done_is h.host cored.own.called marked (unanswered r e))
+          ∙ acted_marked ready action past i s fit.0 done_is h.host cored.own.called marked
+        where
+          not_written : (mark : Pointing) → false ≡ not (is_unwritten mark) → is_answered mark ≡ false
+          not_written pointings.Unwritten e = refl
+          not_written pointings.Written e = untrue e
+          not_written pointings.Answered e = untrue e
+
+          unlisted : (mark : Pointing) → is_unwritten mark ≡ true → is_answered mark ≡ false
+          unlisted mark e = not_written mark (ap not (sym e))
+
+          by : (present : Option PresentList) → s.lists.slots.present ≡ present → refusals.rings action ≡ true → (host_at ms i).pointer ≡ None → is_answered s.marks.pointing ≡ false
+          by None p r e = unlisted s.marks.pointing (subst (λ x. HasMarks x s.marks.pointing) p (marks_of ready i s cored.own.called))
+          by (Some l) p r e = not_written s.marks.pointing (ap is_some (sym e ∙ left.names r (ap is_some p) past i) ∙ wrote_is cored)
+
+          unanswered : refusals.rings action ≡ true → (host_at ms i).pointer ≡ None → is_answered s.marks.pointing ≡ false
+          unanswered = by s.lists.slots.present refl
+
+  quiet_kinds : act_turn.0.packets ≡ [] → Fit past → Kinds ms i act_turn.1.target act_turn.1.layer
+  quiet_kinds none f =
+      subst (λ n. Kinds ms i n act_turn.1.layer) (sym left.target_is)
+      (subst (λ (l : Layer Purpose). Kinds ms i s.target l) (sym (left.quiet none))
+      (still_kinds past ms i s.target s.layer (λ m k n e. ap (λ (y : Terms). y.held (transaction s.layer.generation (suc i) 0 m)) told.wire ∙ e) (h.kinds f)))
+
   does_paired : Does (Paired ready) past i act_turn
   does_paired =
       let g = (guarded_carried ready).acts action past i s under fit done_is shown known h.guarded in
+      let hosts = host_acts past i s h.host action under fit done_is in
       record {
-        others = λ j y e k. told_paired ready act_turn.0.sides past j y left.told (g.others j y e k.guarded) k;
+        others = λ j y e k.
+            told_paired ready act_turn.0.sides past j y left.told (g.others j y e k.guarded) (hosts.others j y e k.host)
+            (acted_others ready action past i s fit.0 done_is h.host cored.own.called j e) k;
         quiet = λ none. record {
           guarded = g.quiet none;
           pairs = λ f m. quiet_pairs none (h.pairs (told.fit f) (told_timely act_turn.0.sides past left.told m));
           first = λ f. first_on past ms i s goes_told (least _ _ (ap (λ (y : Terms). y.count) told.wire)) (h.first (told.fit f));
+          host = hosts.quiet none;
+          kinds = λ f. quiet_kinds none (told.fit f);
+          live = acted_live ready action past i s fit.0 done_is h.host cored.own.called h.live (hosts.quiet none).rows.fits.present;
+          marked = λ f m. acted_marked ready action past i s fit.0 done_is h.host cored.own.called (h.marked (told.fit f) (told_timely act_turn.0.sides past left.told m));
         };
         asking = λ packet one serial generation injected q. record {
           guarded = g.asking packet one serial generation injected q;
-          pairs = λ f m. asking_pairs packet one serial generation injected q f (is_read action) refl
-              (h.pairs (fit_past packet one serial generation injected q f) (told_timely act_turn.0.sides past left.told m.1));
+          pairs = λ f m.
+              let f_past = fit_past packet one serial generation injected q f in
+              let m_past = told_timely act_turn.0.sides past left.told m.1 in
+              asking_pairs packet one serial generation injected q f (is_read action) refl (h.marked f_past m_past) (h.pairs f_past m_past);
           first = λ f. first_now packet one serial generation injected q f begins refl;
+          host = hosts.asking packet one serial generation injected q;
+          kinds = λ f.
+              subst (λ n. Kinds (said (notes.Sent serial generation (suc i) 0 packet.bytes) ∷ ms) i n act_turn.1.layer) (sym left.target_is)
+              (asking_kinds action past i s done_is known shown (called_of cored) (h.kinds (fit_past packet one serial generation injected q f)) left packet one serial generation injected q f);
+          live = acted_live ready action past i s fit.0 done_is h.host cored.own.called h.live (hosts.asking packet one serial generation injected q).rows.fits.present;
+          marked = λ f m. asking_marked packet one serial generation injected q f
+              (h.marked (fit_past packet one serial generation injected q f) (told_timely act_turn.0.sides past left.told m.1));
         };
       }
 
@@ -735,6 +851,10 @@ begun_reads : (b : Bool) (i : ℕ) → (cond b (ready_host i) new_host).reads �
 begun_reads true i = refl
 begun_reads false i = refl
 
+begun_marks : (b : Bool) (i : ℕ) → marks_in (cond b (ready_host i) new_host) ≡ marks false false
+begun_marks true i = refl
+begun_marks false i = refl
+
 begun_none : (b : Bool) (i : ℕ) → (cond b (ready_host i) new_host).operation ≡ None
 begun_none true i = refl
 begun_none false i = refl
@@ -747,7 +867,14 @@ first_paired line i initiators ready b =
       guarded = first_guarded line i initiators ready b;
       pairs = λ f m. subst (λ rs. AreZipped (IsPair past i (new_state i ready)) rs []) (sym (begun_reads (ready && nat_lt i initiators) i)) tt;
       first = λ f u e. none_is u (sym (begun_none (ready && nat_lt i initiators) i) ∙ e);
+      host = first_host line i initiators ready;
+      kinds = λ f m p c a. absurd (not_yet (at_life (0xffc1 + i) [] (new_state i ready).target m (Some p) a));
+      live = λ e. untrue e;
+      marked = λ f m. begun_marks (ready && nat_lt i initiators) i;
     }
+  where
+    not_yet : {kind : ReplyKind} {purpose : Option Purpose} → not_begun ≡ under_way kind purpose → ⊥
+    not_yet e = cc
 
 pub paired_of_runs : (line : ℕ) (run : Run) → IsRun run → (i : ℕ) → i < run.initiators → Paired run.ready (history_of line run) i (initiator_of run i)
 paired_of_runs line run r i b = of_runs (Paired run.ready) (paired_carried run.ready) line run (ready_known line run) (λ j c. first_paired line j run.initiators run.ready c) r i b

@@ -8,6 +8,7 @@ use Rattle.async_packet.specs.Labels.{LabelParts}
 use Rattle.async_packet.specs.Packet.{Packet, header_in}
 use Rattle.async_packet.specs.Reading.{reading}
 use Rattle.async_packet.specs.declared.fault.PacketFault.{PacketFault}
+use Rattle.bus_transactions.specs.Fitting.{AreBytes}
 use Rattle.bus_transactions.specs.Packets.{SerialsCount}
 use Rattle.bus_transactions.specs.Rows.{awaits, kind_as, shape, shape_of}
 use Rattle.bus_transactions.specs.Wire.{transaction}
@@ -66,13 +67,16 @@ pub record IsPair (past : List Moment) (i : ℕ) (s : InitiatorState) (one : Sta
   pub list : Option ℕ
   pub kind : Kind
   pub at : StateAt s.layer s.target number act list
+  -- it says something of that list
+  pub named : one.list ≡ list
   pub held : WaitsAt past i s.layer number kind one.serial
   pub order : (u : Underway) → (host_at past i).operation ≡ Some u → (r : Running) → s.operation ≡ Some r → nat_lt u.first one.serial ≡ nat_lt r.act act
   pub below : one.serial ≤ (terms past).count
 
--- each transaction that timed out was under way then
+-- each transaction that timed out was under way then, and each packet that was got has bytes
 abbrev pub IsTimely : Moment → List Moment → Type 0
 IsTimely (said (notes.TimedOut serial)) past = is_under_way (terms past) serial ≡ true
+IsTimely (said (notes.Got serial)) past = (packet : Sending) → (terms past).sent serial ≡ Some packet → AreBytes packet.bytes
 IsTimely moment past = Unit {0}
 
 abbrev pub AreTimely : List Moment → Type 0
@@ -121,7 +125,7 @@ module _ (past : List Moment) (serials : SerialsCount past) where
   T = terms past
 
   -- a request is of one transaction
-  one_transaction : (u v : Transaction) (k m : Kind) (serial : ℕ) → T.held u ≡ waits k serial → T.held v ≡ waits m serial → u ≡ v
+  pub one_transaction : (u v : Transaction) (k m : Kind) (serial : ℕ) → T.held u ≡ waits k serial → T.held v ≡ waits m serial → u ≡ v
   one_transaction u v k m serial e f =
       let a = begun_of past serials u k serial e in
       let b = begun_of past serials v m serial f in
@@ -370,6 +374,11 @@ lapsed_left (Ok purpose) acts = over_reads purpose acts
 lapsed_left (Err stale) acts = sym (all_kept acts)
 
 -- ---- behind a packet that was judged, or a time-out, and what is told then
+-- pairs are left, but the one of a transaction that ends
+pub record ReadsThen (P Q : StateRead → ℕ → Type 0) (gone ended : Option ℕ) (reads later : List StateRead) (acts left : List ℕ) : Type 0 where
+  pub zipped : AreZipped P reads acts → AreZipped Q later left
+  pub gone_too : (read : StateRead) (act : ℕ) → P read act → ended ≡ Some act → is_gone gone read.serial ≡ true
+
 forward : (l : Layer Purpose) (target : ℕ) (now : Layer Purpose) (number : ℕ) (purpose : Option Purpose) → Called l → LayerLeft l target now → At l target number purpose
     → At now target number purpose
 forward l target now number purpose c (same g p) a = at_same l now target number purpose p a
@@ -455,6 +464,7 @@ module _ (past now : List Moment) (i : ℕ) (s : InitiatorState) (l : Layer Purp
         list = p.list;
         kind = p.kind;
         at = at_then;
+        named = p.named;
         held =
             ap (λ g. (terms later).held (transaction g (suc i) 0 p.number)) (left_generation l s.target t.1.layer left.layer ∙ generation_is)
             ∙ ap (λ (x : Terms). x.held (v p.number)) wire_is ∙ held_now;
@@ -469,7 +479,18 @@ module _ (past now : List Moment) (i : ℕ) (s : InitiatorState) (l : Layer Purp
         by true e = inr (ap not e, ap (λ o. not (is_gone o act)) (goes_out e) ∙ ap not (same_number act))
         by false e = inl (ap not e, (stays_in e, pair e))
 
-  pub zipped_then : AreZipped P (Reads past i) s.states → AreZipped Q (Reads later i) t.1.states
+  zipped_then : AreZipped P (Reads past i) s.states → AreZipped Q (Reads later i) t.1.states
   zipped_then z =
       subst (λ acts. AreZipped Q (Reads later i) acts) (sym states)
       (subst (λ rs. AreZipped Q rs (left_of ended s.states)) (sym (told_reads t.0.sides now i left.told ∙ reads)) (zipped_filter P Q keep stay fate (Reads past i) s.states z))
+
+  -- one that is over for its initiator is over
+  gone_too : (r : StateRead) (act : ℕ) → P r act → ended ≡ Some act → is_gone gone r.serial ≡ true
+  gone_too r act p e = by (is_gone gone r.serial) refl
+    where
+      by : (b : Bool) → is_gone gone r.serial ≡ b → is_gone gone r.serial ≡ true
+      by true f = f
+      by false f = untrue (sym (ap (λ o. not (is_gone o act)) e ∙ ap not (same_number act)) ∙ stays_in r act p f)
+
+  pub reads_then : ReadsThen P Q gone ended (Reads past i) (Reads later i) s.states t.1.states
+  reads_then = record { zipped = zipped_then; gone_too = gone_too }

@@ -37,6 +37,7 @@ use Rattle.sbp_world.proofs.Common.{some_none, untrue}
 use Rattle.sbp_world.proofs.Lists.OrbSteps.{has_read, holds_read}
 use Rattle.turn_laws.proofs.NextSteps.{AheadIs, IsTracked, NamesKept, null_idle, orb_first}
 use Rattle.turn_laws.proofs.FetchSteps.{is_fetching}
+use Rattle.turn_laws.proofs.HostMarks.{or_none}
 
 -- ---- phases
 abbrev pub is_suspended : Phase → Bool
@@ -79,10 +80,6 @@ pub record IsPaced (p : Progress) (ask ahead : Ask) (m : Machine) : Type 0 where
 
 abbrev pub Paces : Progress → AgentStep × Machine → Type 0
 Paces p s = IsPaced p s.0.ask s.0.ahead s.1
-
-pub plain_mark : (b : Bool) → b ≡ (b || false)
-plain_mark true = refl
-plain_mark false = refl
 
 -- one that neither reads nor rests
 pub idly : (p : Progress) (s : AgentStep × Machine) → is_suspended s.1.phase ≡ false → is_again s.1.phase ≡ false → has_read s.1.phase ≡ false → reads_list s.1.phase ≡ false → is_nothing s.0.ahead ≡ true → Paces p s
@@ -133,7 +130,7 @@ module _ (p : Progress) where
   reads ask m a b c d h = record {
     rest = λ x. untrue (sym a ∙ x);
     again = λ x. untrue (sym b ∙ x);
-    rung = λ x. h.rung ∙ plain_mark m.doorbell;
+    rung = λ x. h.rung ∙ or_none m.doorbell;
     waits = λ x. untrue (sym c ∙ x);
     cleared = λ x. untrue (sym c ∙ x);
     none = λ x y. h.none y;

@@ -36,7 +36,8 @@ use Rattle.turn_laws.proofs.Fetches.{IsFetched, ahead_progress, clash, false_if,
 use Rattle.turn_laws.proofs.NextSteps.{abort_ahead}
 use Rattle.turn_laws.proofs.ProgressFolds.{AreFollowed, IsQuiet, IsTold, followed_before, still_progress}
 use Rattle.turn_laws.proofs.Progresses.{IsWhole}
-use Rattle.turn_laws.proofs.RestSteps.{IsHeld, IsPaced, Paces, fetches, idly, is_again, is_idle, is_status, is_suspended, main_paces, off, plain_mark, reads_list}
+use Rattle.turn_laws.proofs.RestSteps.{IsHeld, IsPaced, Paces, fetches, idly, is_again, is_idle, is_status, is_suspended, main_paces, off, reads_list}
+use Rattle.turn_laws.proofs.HostMarks.{or_none}
 
 -- ---- of one agent, beside what is so of the ORB that it reads
 pub record IsPacing (p : Progress) (a : Agent) : Type 0 where
@@ -121,7 +122,7 @@ module _ (p : Progress) where
 
   -- ---- and its read ahead
   two_marks : (b x : Bool) → (b || x) ≡ ((b || x) || false)
-  two_marks b x = plain_mark (b || x)
+  two_marks b x = or_none (b || x)
 
   forgot : (ask ahead : Ask) (m : Machine) → is_nothing ahead ≡ false → IsPaced p ask ahead m → IsPaced p ask Nothing (machine_ahead_lost m causes.Label).1
   forgot ask ahead m e h =
@@ -337,7 +338,7 @@ ahead_sent p ask ahead m q h =
     record {
       rest = λ x. untrue (sym o.0 ∙ x);
       again = λ x. untrue (sym o.1.0 ∙ x);
-      rung = λ x. sym l.1.0 ∙ plain_mark m.doorbell;
+      rung = λ x. sym l.1.0 ∙ or_none m.doorbell;
       waits = λ x. untrue (sym o.1.1.0 ∙ x);
       cleared = λ x. untrue (sym o.1.1.0 ∙ x);
       none = λ x y. idle_none m.ahead y l.1.1.0;
@@ -406,7 +407,7 @@ module _ (p : Progress) (a : Agent) (w : IsWhole p a) (still : IsQuiet a) (h : I
   m = a.machine
 
   own_mark : has_read m.phase ≡ true → p.rung ≡ m.doorbell
-  own_mark x = h.paced.rung x ∙ (ap (λ b. m.doorbell || (not b && rung_in m.ahead)) still.1 ∙ sym (plain_mark m.doorbell))
+  own_mark x = h.paced.rung x ∙ (ap (λ b. m.doorbell || (not b && rung_in m.ahead)) still.1 ∙ sym (or_none m.doorbell))
 
   is_held : IsHeld p m
   is_held = record {
@@ -438,7 +439,7 @@ module _ (p : Progress) (a : Agent) (w : IsWhole p a) (still : IsQuiet a) (h : I
         record {
           rest = λ x. let r = h.paced.rest (ap is_suspended (sym e) ∙ x) in (o.1.1 ∙ r.0, (o.0 ∙ r.1.0, (o.1.0 ∙ r.1.1.0, refl)));
           again = λ x. o.1.1 ∙ h.paced.again (ap is_again (sym e) ∙ x);
-          rung = λ x. o.1.0 ∙ (own_mark (ap has_read (sym e) ∙ x) ∙ (sym d ∙ plain_mark n.doorbell));
+          rung = λ x. o.1.0 ∙ (own_mark (ap has_read (sym e) ∙ x) ∙ (sym d ∙ or_none n.doorbell));
           waits = λ x y. o.1.0 ∙ (h.paced.waits (ap reads_list (sym e) ∙ x) still.0 ∙ sym d);
           cleared = λ x y. untrue (sym y);
           none = λ x y. i y;
@@ -448,7 +449,7 @@ module _ (p : Progress) (a : Agent) (w : IsWhole p a) (still : IsQuiet a) (h : I
         }
 
     same_bell : (cause : FailCause) → is_label cause ≡ false → (machine_ahead_lost m cause).1.doorbell ≡ m.doorbell
-    same_bell cause e = ap (λ b. m.doorbell || (b && rung_in m.ahead)) e ∙ sym (plain_mark m.doorbell)
+    same_bell cause e = ap (λ b. m.doorbell || (b && rung_in m.ahead)) e ∙ sym (or_none m.doorbell)
 
     read_paced : (r : Result (List ℕ) FailCause) → payload_of answer 32 ≡ r → Paces now (ahead_read m r)
     read_paced (Ok bytes) e = goes (ahead_read m (Ok bytes)).1 refl refl refl (λ x. untrue x)

@@ -1,4 +1,4 @@
--- Each transaction that times out in a run was under way then, by the terms.
+-- Each transaction that times out in a run was under way then, by the terms, and each packet that is got has bytes.
 use Rattle.std.proofs.Common.{◌≡◌, sym, ◌∙◌, ap, ℕ, suc, ◌<◌, nat_eq, nat_lt, arith, Bool, true, false, cond, List, [], ◌∷◌, length, Some, Ok}
 use Rattle.std.specs.Prelude.{◌-◌}
 use Rattle.std.proofs.lemmas.Bool.Decides.{nat_tests}
@@ -40,7 +40,7 @@ StartsTimely t = IsTimely t.start t.past
 timely_of : (past : List Moment) (rest : List Note) → EachTurnBefore StartsTimely past rest → AreTimely past
 timely_of [] rest e = tt
 timely_of (asked line event ∷ past) rest e = (tt, timely_of past [] e.1)
-timely_of (said (notes.Got serial) ∷ past) rest e = (tt, timely_of past [] e.1)
+timely_of (said (notes.Got serial) ∷ past) rest e = (e.0, timely_of past [] e.1)
 timely_of (said (notes.Ignored serial cause) ∷ past) rest e = (tt, timely_of past [] e.1)
 timely_of (said (notes.TimedOut serial) ∷ past) rest e = (e.0, timely_of past [] e.1)
 timely_of (said (notes.Seen node generation) ∷ past) rest e = (tt, timely_of past [] e.1)
@@ -49,15 +49,19 @@ timely_of (said notes.Settled ∷ past) rest e = (tt, timely_of past [] e.1)
 timely_of (said notes.Stopped ∷ past) rest e = (tt, timely_of past [] e.1)
 timely_of (said note ∷ past) rest e = (tt, timely_of past (note ∷ rest) e)
 
-judged_timely : (serial : ℕ) (judged : Judged) (past : List Moment) → IsTimely (said (judged_note serial judged)) past
-judged_timely serial judgements.Got past = tt
-judged_timely serial (judgements.Ignored cause) past = tt
+judged_timely : (serial : ℕ) (judged : Judged) (past : List Moment) → IsTimely (said (notes.Got serial)) past → IsTimely (said (judged_note serial judged)) past
+judged_timely serial judgements.Got past h = h
+judged_timely serial (judgements.Ignored cause) past h = tt
 
 end_timely : (done : Bool) (past : List Moment) → IsTimely (said (end_note done)) past
 end_timely true past = tt
 end_timely false past = tt
 
 module _ (units ready : ℕ) (start : List Disk) where
+  got_bytes : (past : List Moment) (s : Scene) → Place units ready start past s → (serial : ℕ) → IsTimely (said (notes.Got serial)) (hist past s.world)
+  got_bytes past s here serial packet e =
+      (here.holds.sound.stands.is.knows.ours serial packet (ap (λ (t : Terms). t.sent serial) (past_terms s.world here.holds.sound.stands) ∙ e)).bytes
+
   module _ (past : List Moment) (s : Scene) (here : Place units ready start past s) (serial : ℕ) (request : Request) (found : find s.world.requests serial ≡ Some request) where
     abbrev w : WorldState
     w = s.world
@@ -93,8 +97,8 @@ module _ (units ready : ℕ) (start : List Disk) where
 
   timely_cases : Cases units ready start StartsTimely
   timely_cases = record {
-    heard = λ past s serial again run one found zero_to may others here behind judged. judged_timely serial _ (hist past s.world);
-    heard_own = λ past s serial again one i found to_is inside own here behind judged. judged_timely serial _ (hist past s.world);
+    heard = λ past s serial again run one found zero_to may others here behind judged. judged_timely serial _ (hist past s.world) (got_bytes past s here serial);
+    heard_own = λ past s serial again one i found to_is inside own here behind judged. judged_timely serial _ (hist past s.world) (got_bytes past s here serial);
     late = λ past s serial request done t found node_is e others here behind judged. target_timely past s here serial request found node_is done t e;
     late_own = λ past s serial request i outbox state found node_is inside e own here behind judged. own_timely past s here serial request found i node_is inside outbox state e;
     sees = λ past s others here behind judged. tt;
@@ -131,11 +135,11 @@ module _ (L : Turn → Type 0) where
   each_then (said notes.Stopped ∷ past) rest t e = (e.0 t.1, each_then past [] t.1 e.1)
   each_then (said note ∷ past) rest t e = each_then past (note ∷ rest) t.1 e
 
-  pub of_timely_turns : ((units ready : ℕ) (start : List Disk) → 0 < units → Cases units ready start (Timely L)) → OfEveryRun (λ start past. EachTurn L past)
-  of_timely_turns cases =
-      let law = of_every_run (λ start. Timely L) cases in
-      record {
-        after_lines = λ line run r has small size. each_then _ [] (timely_law.after_lines line run r has small size) (law.after_lines line run r has small size);
-        between = λ line run r has small size next most told may. each_then _ [] (timely_law.between line run r has small size next most told may)
-            (law.between line run r has small size next most told may);
-      }
+pub of_timely_turns : (L : List Disk → Turn → Type 0) → ((units ready : ℕ) (start : List Disk) → 0 < units → Cases units ready start (Timely (L start))) → OfEveryRun (λ start past. EachTurn (L start) past)
+of_timely_turns L cases =
+    let law = of_every_run (λ start. Timely (L start)) cases in
+    record {
+      after_lines = λ line run r has small size. each_then (L run.start.disks) _ [] (timely_law.after_lines line run r has small size) (law.after_lines line run r has small size);
+      between = λ line run r has small size next most told may. each_then (L run.start.disks) _ [] (timely_law.between line run r has small size next most told may)
+          (law.between line run r has small size next most told may);
+    }

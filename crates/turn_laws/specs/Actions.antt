@@ -1,8 +1,8 @@
 -- What an action of an initiator brings, in each turn that begins with its line: a refusal and nothing else, or its notes, and behind them what it sends. It is refused exactly where a row holds, with the
--- least number of those that hold. Three rows are the initiator's own here: whether a ROM was read, of a login and a query; whether the list is marked dead, of what prepares an ORB or rings; and whether a
--- label serves, of what has a management ORB. Of all others each row is that of the run terms.
+-- least number of those that hold. Two rows are the initiator's own here: whether a ROM was read, of a login and a query; and whether a label serves, of what has a management ORB. Of all others each row is
+-- that of the run terms.
 use Rattle.std.specs.Prelude.{◌≡◌, ◌||◌, not, ℕ, Bool, false, List}
-use Rattle.sbp_initiator.specs.Refusals.{needs_rom, prepares, rings}
+use Rattle.sbp_initiator.specs.Refusals.{needs_rom}
 use Rattle.sbp_journal.specs.Rows.{refusal_of}
 use Rattle.sbp_journal.specs.Run.{Moment, asked}
 use Rattle.sbp_journal.specs.declared.event.Action.{Action}
@@ -15,18 +15,16 @@ use Rattle.sbp_laws.specs.Turns.{EachTurn, Turn, Where}
 use Rattle.sbp_world.specs.Pointers.Moments.{manages}
 use Rattle.turn_laws.specs.Runs.{OfEveryRun}
 
--- what such an action asks for more: the ROM, MANAGEMENT_AGENT, or whether the list is dead
+-- what such an action asks for more: the ROM, or MANAGEMENT_AGENT
 abbrev pub asks_more : Action → Bool
-asks_more action = needs_rom action || (manages (operation_of action) || (prepares action || rings action))
+asks_more action = needs_rom action || manages (operation_of action)
 
--- it is done, or refused and nothing else, by rows that are those of the terms but for these three
+-- it is done, or refused and nothing else, by rows that are those of the terms but for these two
 pub record ActsBut (past : List Moment) (line i : ℕ) (action : Action) (told : List Note) : Type 0 where
   pub no_rom : Bool
-  pub dead_seen : Bool
   pub no_label : Bool
-  pub by_rows : ActsOr (refusal_of (record (refusals past i action (host_at past i)) { no_rom = no_rom; dead_seen = dead_seen; no_label = no_label })) past line i action told
+  pub by_rows : ActsOr (refusal_of (record (refusals past i action (host_at past i)) { no_rom = no_rom; no_label = no_label })) past line i action told
   pub rom_as : needs_rom action ≡ false → no_rom ≡ false
-  pub dead_as : (prepares action || rings action) ≡ false → dead_seen ≡ false
   pub label_as : manages (operation_of action) ≡ false → no_label ≡ (refusals past i action (host_at past i)).no_label
 
 abbrev pub ActsIn : Moment → Turn → Type 0

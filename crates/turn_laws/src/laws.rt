@@ -265,8 +265,8 @@ pub fn commands_end_as_read()
 /// In each turn of every run that begins with an action of an initiator, whatever anybody injected, the action is
 /// refused and nothing else, or brings its notes, and behind them what it sends. It is refused exactly where a row
 /// holds, with the least number of those that hold. The rows are those of the run terms, but for whether a ROM was
-/// read, of a login and a query, whether the list is marked dead, of what prepares an ORB or rings, and whether a
-/// label serves, of what has a management ORB: so much of `brings` of the action law.
+/// read, of a login and a query, and whether a label serves, of what has a management ORB: so much of `brings` of the
+/// action law.
 #[tactic(auto, using(crate::proofs::Actions::actions_law))]
 pub fn actions_are_done_or_refused()
     ensures { ActionsLaw }

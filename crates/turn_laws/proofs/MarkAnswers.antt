@@ -1,0 +1,482 @@
+-- What a response that an initiator got says of its present list: whether its ORB_POINTER write was answered, and whether it is dead, is the same by the terms and by the transaction that the response closes.
+use Rattle.std.proofs.Common.{◌≡◌, inl, inr, ◌⊎◌, refl, sym, ◌∙◌, ap, subst, ℕ, suc, ◌<◌, ◌^◌, ◌==◌, ◌&&◌, ◌||◌, ◌++◌, Bool, true, false, cond, List, [], ◌∷◌, Option, Some, None, Ok}
+use Rattle.std.proofs.lemmas.Option.{same_Some}
+use Rattle.async_packet.specs.Fields.{value_of}
+use Rattle.async_packet.specs.Labels.{LabelParts}
+use Rattle.async_packet.specs.Packet.{Packet, header_in, lock, lock_response, read_block, read_block_response, read_quadlet, read_quadlet_response, write_block, write_quadlet, write_response}
+use Rattle.async_packet.specs.Reading.{reading}
+use Rattle.async_packet.proofs.Spelled.{reads_spelling}
+use Rattle.bus_transactions.specs.Fitting.{AreBytes}
+use Rattle.bus_transactions.specs.Rows.{kind_as, shape, shape_of}
+use Rattle.bus_transactions.specs.Wire.{transaction}
+use Rattle.bus_transactions.proofs.PacketParts.{part_read}
+use Rattle.byteorder.specs.Endian.{big_bytes, big_number}
+use Rattle.byteorder.specs.Numbers.{big_number-reads_back}
+use Rattle.label_table.specs.Layer.{Finding, Layer, judging_step, of_again, of_generation, of_grammar, of_label, of_request, of_response}
+use Rattle.label_table.specs.Peers.{purpose_for, state_for}
+use Rattle.orb_layout.specs.Replies.{Answer, Done, Expired, NoLabel, Payload, Refused}
+use Rattle.orb_layout.proofs.Spelled.{quad_small}
+use Rattle.orb_list.specs.declared.list.PresentList.{PresentList}
+use Rattle.sbp_base.specs.Quadlets.{quad}
+use Rattle.sbp_bus.specs.Packets.{judged_note}
+use Rattle.sbp_initiator.specs.Histories.Marks.{answers_pointer, finding_answers, finds_dead, has_read, read_purpose}
+use Rattle.sbp_initiator.specs.Receiving.{receive_step}
+use Rattle.sbp_initiator.specs.States.{counts_for, ending_of, is_list}
+use Rattle.sbp_initiator.specs.declared.purpose.Ending.{Ending}
+use Rattle.sbp_initiator.specs.declared.purpose.Ending.TheVariants as endings
+use Rattle.sbp_initiator.specs.declared.purpose.Purpose.{Purpose}
+use Rattle.sbp_initiator.specs.declared.purpose.Purpose.TheVariants as purposes
+use Rattle.sbp_initiator.specs.declared.state.InitiatorState.{InitiatorState}
+use Rattle.sbp_journal.specs.Outgoings.{empty_outbox}
+use Rattle.sbp_journal.specs.Run.{Moment, said}
+use Rattle.sbp_journal.specs.Transactions.{Kind, Part, Sending, Transaction, between, is_same_kind, locking, no_packet, part_in, part_of, reading_block, reading_quadlet, request, response, writing}
+use Rattle.sbp_journal.specs.Wire.{Terms, terms, waits}
+use Rattle.sbp_journal.specs.declared.cause.Judged.TheVariants as judgements
+use Rattle.sbp_journal.specs.declared.note.Note.TheVariants as notes
+use Rattle.sbp_laws.specs.Hosts.{StateRead, host_at, is_present, is_serial, says_dead}
+use Rattle.sbp_laws.specs.Lists.{present_list}
+use Rattle.sbp_laws.specs.Packets.{answer_in, answer_of, answered_as, answered_at, answered_in, closed_by, packet_at, packet_in, spelled_by}
+use Rattle.sbp_world.proofs.Common.{equal, itself, untrue}
+use Rattle.sbp_world.proofs.Hosts.Lives.{At, Called}
+use Rattle.sbp_world.proofs.Hosts.PointerNotes.{Fit, pointer}
+use Rattle.sbp_world.proofs.Hosts.Pointing.{called_of, pointing_of, under_way_now}
+use Rattle.sbp_world.proofs.Hosts.Shown.{IsHeard, IsShown}
+use Rattle.sbp_world.proofs.Lists.BegunBy.{begun_of, held_by, transaction_of}
+use Rattle.sbp_world.proofs.Pointers.Ages.{serial_is}
+use Rattle.sbp_world.proofs.Pointers.Ending.{read_in}
+use Rattle.sbp_world.proofs.Pointers.Finds.{closed_over, closes_at}
+use Rattle.sbp_world.proofs.Pointers.Guarded.{Guarded}
+use Rattle.sbp_world.proofs.Wire.Deliver.{judging_stays}
+use Rattle.sbp_world.proofs.Wire.Kept.{and_false}
+use Rattle.sbp_world.specs.Hosts.Rows.{present_in}
+use Rattle.turn_laws.proofs.HostMarks.{dead_at, dead_by, is_done, points_at, points_by}
+use Rattle.turn_laws.proofs.HostReads.{Reads, is_gone}
+use Rattle.turn_laws.proofs.OwnCalls.{lives_of}
+use Rattle.turn_laws.proofs.ReadPairs.{AreZipped, zipped_map}
+use Rattle.turn_laws.proofs.ReadsUnderWay.{ClosedFor, IsPair, WaitsAt, ended_by, got_off, got_on, judge_goes, one_transaction, waits_now}
+use Rattle.turn_laws.proofs.RequestKinds.{Kinds, kind_for}
+use Rattle.turn_laws.proofs.RomEnds.{is_plain}
+
+-- ---- what a response says, by the kind of its request
+abbrev is_complete : Ending → Bool
+is_complete (endings.Complete value) = true
+is_complete ending = false
+
+pub kind_same : (n l : ℕ) (k m : Kind) → response n k ≡ response l m → k ≡ m
+kind_same n l k m e = cc
+
+pub no_response : {A : Type 0} (n l : ℕ) (k m : Kind) → request n k ≡ response l m → A
+no_response n l k m e = absurd (let no : request n k ≡ response l m = e in cc)
+
+done_if : (b : Bool) (rcode : ℕ) → is_done (cond b Done (Refused rcode)) ≡ is_complete (cond b (endings.Complete 0) (endings.Refused rcode))
+done_if true rcode = refl
+done_if false rcode = refl
+
+-- of a write
+write_answer : (p : Packet) (n : ℕ) (k : Kind) → part_in p ≡ response n k → is_same_kind writing k ≡ true → is_done (answer_of p) ≡ is_complete (ending_of p)
+write_answer (write_response header rcode) n k e a = done_if (rcode == 0) rcode
+write_answer (read_quadlet_response header rcode value) n k e a = untrue (ap (is_same_kind writing) (kind_same header.label n reading_quadlet k e) ∙ a)
+write_answer (read_block_response header rcode payload) n k e a = untrue (ap (is_same_kind writing) (kind_same header.label n reading_block k e) ∙ a)
+write_answer (lock_response header rcode extended payload) n k e a = untrue (ap (is_same_kind writing) (kind_same header.label n locking k e) ∙ a)
+write_answer (write_quadlet header offset value) n k e a = no_response header.label n writing k e
+write_answer (write_block header offset payload) n k e a = no_response header.label n writing k e
+write_answer (read_quadlet header offset) n k e a = no_response header.label n reading_quadlet k e
+write_answer (read_block header offset asked) n k e a = no_response header.label n reading_block k e
+write_answer (lock header offset extended payload) n k e a = no_response header.label n locking k e
+
+-- of a read of a quadlet
+data IsRead : Ending → Answer → Type 0 where
+  gives : (value : ℕ) (bytes : List ℕ) → quad bytes 0 ≡ value → IsRead (endings.Complete value) (Payload bytes)
+  refuses : (rcode : ℕ) → IsRead (endings.Refused rcode) (Refused rcode)
+
+quad_is : (value : ℕ) → value < 2 ^ 32 → quad (big_bytes 4 value) 0 ≡ value
+quad_is value small = ap (λ xs. big_number 4 xs) (sym (append_none (big_bytes 4 value))) ∙ big_number-reads_back 4 value [] small
+  where
+    append_none : (xs : List ℕ) → xs ++ [] ≡ xs
+    append_none [] = refl
+    append_none (x ∷ xs) = ap (λ ys. x ∷ ys) (append_none xs)
+
+read_if : (b : Bool) (rcode value : ℕ) → value < 2 ^ 32 → IsRead (cond b (endings.Complete value) (endings.Refused rcode)) (cond b (Payload (big_bytes 4 value)) (Refused rcode))
+read_if true rcode value small = gives value (big_bytes 4 value) (quad_is value small)
+read_if false rcode value small = refuses rcode
+
+value_small : (bytes : List ℕ) → AreBytes bytes → (value : ℕ) → value ≡ value_of bytes → value < 2 ^ 32
+unfolding value_of
+value_small bytes are value e = subst (λ n. n < 2 ^ 32) (sym e) (quad_small bytes 12 are)
+
+read_answer : (bytes : List ℕ) → AreBytes bytes → (p : Packet) → reading bytes ≡ Ok p → (n : ℕ) (k : Kind) → part_in p ≡ response n k → is_same_kind reading_quadlet k ≡ true → IsRead (ending_of p) (answer_of p)
+read_answer bytes are (read_quadlet_response header rcode value) r n k e a =
+    read_if (rcode == 0) rcode value (value_small bytes are value ((reads_spelling.packets bytes (read_quadlet_response header rcode value)).0 r).2)
+read_answer bytes are (write_response header rcode) r n k e a = untrue (ap (is_same_kind reading_quadlet) (kind_same header.label n writing k e) ∙ a)
+read_answer bytes are (read_block_response header rcode payload) r n k e a = untrue (ap (is_same_kind reading_quadlet) (kind_same header.label n reading_block k e) ∙ a)
+read_answer bytes are (lock_response header rcode extended payload) r n k e a = untrue (ap (is_same_kind reading_quadlet) (kind_same header.label n locking k e) ∙ a)
+read_answer bytes are (write_quadlet header offset value) r n k e a = no_response header.label n writing k e
+read_answer bytes are (write_block header offset payload) r n k e a = no_response header.label n writing k e
+read_answer bytes are (read_quadlet header offset) r n k e a = no_response header.label n reading_quadlet k e
+read_answer bytes are (read_block header offset asked) r n k e a = no_response header.label n reading_block k e
+read_answer bytes are (lock header offset extended payload) r n k e a = no_response header.label n locking k e
+
+-- ---- whether some reads under way say that the list is dead
+-- the read is that of the action, and then of this list
+record IsTied (n act : ℕ) (list : Option ℕ) (one : StateRead) (a : ℕ) : Type 0 where
+  same : (one.serial == n) ≡ (a == act)
+  listed : (one.serial == n) ≡ true → one.list ≡ list
+
+absorbs : (h y : Bool) → (y || (h && y)) ≡ y
+absorbs h true = refl
+absorbs true false = refl
+absorbs false false = refl
+
+pair_says : (b a p x t h : Bool) → b ≡ a → (b ≡ true → p ≡ x) → (((b && p) && t) || (h && (x && t))) ≡ ((a || h) && (x && t))
+pair_says true true p x t h e f = ap (λ y. (y && t) || (h && (x && t))) (f refl) ∙ absorbs h (x && t)
+pair_says false false p x t h e f = refl
+pair_says true false p x t h e f = untrue (sym e)
+pair_says false true p x t h e f = untrue e
+
+says_tied : (bytes : List ℕ) (n : ℕ) (present : Option ℕ) (act : ℕ) (list : Option ℕ) (reads : List StateRead) (acts : List ℕ) → AreZipped (IsTied n act list) reads acts
+    → says_dead (Payload bytes) n present reads ≡ (has_read act acts && (is_present list present && (quad bytes 0 == 3)))
+says_tied bytes n present act list [] [] z = refl
+says_tied bytes n present act list (one ∷ reads) (a ∷ acts) z =
+    ap (λ b. (((one.serial == n) && is_present one.list present) && (quad bytes 0 == 3)) || b) (says_tied bytes n present act list reads acts z.1)
+    ∙ pair_says (one.serial == n) (a == act) (is_present one.list present) (is_present list present) (quad bytes 0 == 3) (has_read act acts) z.0.same (λ e. ap (λ l. is_present l present) (z.0.listed e))
+says_tied bytes n present act list [] (a ∷ acts) z = absurd z
+says_tied bytes n present act list (one ∷ reads) [] z = absurd z
+
+abbrev IsOther : ℕ → StateRead → ℕ → Type 0
+IsOther n one a = (one.serial == n) ≡ false
+
+says_none : (answer : Answer) (n : ℕ) (present : Option ℕ) (reads : List StateRead) (acts : List ℕ) → AreZipped (IsOther n) reads acts → says_dead answer n present reads ≡ false
+says_none (Payload bytes) n present [] [] z = refl
+says_none (Payload bytes) n present (one ∷ reads) (a ∷ acts) z =
+    ap (λ b. ((b && is_present one.list present) && (quad bytes 0 == 3)) || says_dead (Payload bytes) n present reads) z.0 ∙ says_none (Payload bytes) n present reads acts z.1
+says_none (Payload bytes) n present [] (a ∷ acts) z = absurd z
+says_none (Payload bytes) n present (one ∷ reads) [] z = absurd z
+says_none Done n present reads acts z = refl
+says_none (Refused rcode) n present reads acts z = refl
+says_none Expired n present reads acts z = refl
+says_none NoLabel n present reads acts z = refl
+
+-- the list that a read counts for
+counts_same : (list : Option ℕ) (present : Option PresentList) → is_present list (present_in present) ≡ counts_for present list
+counts_same None present = refl
+counts_same (Some n) None = refl
+counts_same (Some n) (Some list) = refl
+
+read_says : (ending : Ending) (answer : Answer) → IsRead ending answer → (n : ℕ) (present : Option PresentList) (act : ℕ) (list : Option ℕ) (reads : List StateRead) (acts : List ℕ) → AreZipped (IsTied n act list) reads acts
+    → has_read act acts ≡ true → says_dead answer n (present_in present) reads ≡ finds_dead (purposes.State act list) ending present
+read_says _ _ (gives value bytes q) n present act list reads acts z there =
+    says_tied bytes n (present_in present) act list reads acts z ∙ ap (λ b. b && (is_present list (present_in present) && (quad bytes 0 == 3))) there
+    ∙ ap (λ b. b && (quad bytes 0 == 3)) (counts_same list present) ∙ ap (λ v. counts_for present list && (v == 3)) q
+read_says _ _ (refuses rcode) n present act list reads acts z there = refl
+
+-- ---- the request that a packet answers
+record Answered (t : Terms) (q : Sending) (own : ℕ) : Type 0 where
+  number : ℕ
+  kind : Kind
+  part : part_of q.bytes ≡ response number kind
+  closes : closed_by (t.held (between q q.to q.from number)) kind ≡ Some own
+
+answered_part : (t : Terms) (serial : ℕ) (q : Sending) → t.sent serial ≡ Some q → (own : ℕ) → answered_at t serial ≡ Some own → Answered t q own
+answered_part t serial q sent own e = by (part_of q.bytes) refl (sym (ap (λ so. answered_in t so) sent) ∙ e)
+  where
+    by : (part : Part) → part_of q.bytes ≡ part → answered_as part t q ≡ Some own → Answered t q own
+    by (response number kind) p f = record { number = number; kind = kind; part = p; closes = f }
+    by (request number kind) p f = absurd (let no : None ≡ Some own = f in cc)
+    by no_packet p f = absurd (let no : None ≡ Some own = f in cc)
+
+closes_alike : (k : Kind) (n : ℕ) (kind : Kind) (own : ℕ) → closed_by (waits k n) kind ≡ Some own → is_same_kind k kind ≡ true
+closes_alike k n kind own e = by (is_same_kind k kind) refl e
+  where
+    by : (b : Bool) → is_same_kind k kind ≡ b → cond b (Some n) None ≡ Some own → is_same_kind k kind ≡ true
+    by true f g = f
+    by false f g = absurd (let no : None ≡ Some own = g in cc)
+
+kinds_same : (k m : Kind) (n l : ℕ) → waits k n ≡ waits m l → k ≡ m
+kinds_same k m n l e = cc
+
+gone_some : (found : Option ℕ) (n : ℕ) → is_gone found n ≡ true → found ≡ Some n
+gone_some None n e = untrue e
+gone_some (Some own) n e = ap Some (sym (equal n own e))
+
+-- what a response says that its list is dead
+abbrev pub response_dead : Finding Purpose → InitiatorState → Bool
+response_dead (of_response p label purpose) s = read_purpose purpose (λ x. finds_dead x (ending_of p) s.lists.slots.present)
+response_dead finding s = false
+
+abbrev points_finding : Finding Purpose → Bool
+points_finding (of_response p label (Some (purposes.Pointer list))) = true
+points_finding finding = false
+
+abbrev states_finding : Finding Purpose → Bool
+states_finding (of_response p label (Some (purposes.State act list))) = true
+states_finding finding = false
+
+closed_points : (f : Finding Purpose) (list : ℕ) → ClosedFor f (Some (purposes.Pointer list)) → points_finding f ≡ true
+closed_points (of_response p label other) list e = ap (λ x. points_finding (of_response p label x)) e
+closed_points of_generation list e = absurd e
+closed_points of_grammar list e = absurd e
+closed_points of_label list e = absurd e
+closed_points (of_again p rcode) list e = absurd e
+closed_points (of_request p) list e = absurd e
+
+closed_states : (f : Finding Purpose) (act : ℕ) (list : Option ℕ) → ClosedFor f (Some (purposes.State act list)) → states_finding f ≡ true
+closed_states (of_response p label other) act list e = ap (λ x. states_finding (of_response p label x)) e
+closed_states of_generation act list e = absurd e
+closed_states of_grammar act list e = absurd e
+closed_states of_label act list e = absurd e
+closed_states (of_again p rcode) act list e = absurd e
+closed_states (of_request p) act list e = absurd e
+
+state_same : (a b : ℕ) (x y : Option ℕ) → Some (purposes.State a x) ≡ Some (purposes.State b y) → (a ≡ b) × (x ≡ y)
+state_same a b x y e = (cc, cc)
+
+pointed_if : (list : ℕ) (ending : Ending) (present : Option PresentList) → is_list present list ≡ true → is_complete ending ≡ answers_pointer (purposes.Pointer list) ending present
+pointed_if list (endings.Complete value) present e = sym e
+pointed_if list (endings.Refused rcode) present e = refl
+pointed_if list endings.Expired present e = refl
+
+-- ---- at an initiator
+module _ (ready : Bool) (serial generation : ℕ) (bytes : List ℕ) (past : List Moment) (i : ℕ) (s : InitiatorState) (heard : IsHeard past i serial generation bytes) (shown : IsShown past i s.target s.layer) (after_it : IsShown (said (judged_note serial (receive_step generation bytes empty_outbox s).0) ∷ past) i s.target (judging_step s.layer generation bytes).1) (h : Guarded ready past i s) (fit : Fit past) (kinds : Kinds past i s.target s.layer) (listed : present_list past i ≡ present_in s.lists.slots.present) (got : (receive_step generation bytes empty_outbox s).0 ≡ judgements.Got) where
+  abbrev T : Terms
+  T = terms past
+
+  abbrev finding : Finding Purpose
+  finding = (judging_step s.layer generation bytes).0
+
+  abbrev l : Layer Purpose
+  l = (judging_step s.layer generation bytes).1
+
+  abbrev now : List Moment
+  now = said (notes.Got serial) ∷ past
+
+  abbrev v : ℕ → Transaction
+  v m = transaction s.layer.generation (suc i) 0 m
+
+  called : Called s.layer
+  called = called_of h.pointed.cored
+
+  now_shown : IsShown now i s.target l
+  now_shown = subst (λ j. IsShown (said (judged_note serial j) ∷ past) i s.target l) got after_it
+
+  stays : l.generation ≡ s.layer.generation
+  stays = judging_stays s.layer generation bytes
+
+  -- what waits then is under way in the layer
+  left_there : (m : ℕ) (k : Kind) (n : ℕ) → WaitsAt now i s.layer m k n → At l s.target m (purpose_for l.peers s.target m)
+  left_there m k n e =
+      let u = under_way_now (state_for l.peers s.target m) (kind_as k) (now_shown.states m ∙ ap (λ x. shape_of ((terms now).held (transaction x (suc i) 0 m))) stays ∙ ap shape_of e) in
+      record { kind = u.kind; serial = u.serial; state = u.is; is_for = refl }
+
+  -- a request that is answered is what was closed
+  closes_own : (m : ℕ) (purpose : Option Purpose) → At s.layer s.target m purpose → (k : Kind) (n : ℕ) → WaitsAt past i s.layer m k n → answered_at T serial ≡ Some n → ClosedFor finding purpose
+  closes_own m purpose a k n w e = by (judge_goes s.layer s.target m purpose called a generation bytes)
+    where
+      by : At l s.target m purpose ⊎ ClosedFor finding purpose → ClosedFor finding purpose
+      by (inr c) = c
+      by (inl b) =
+          let x = waits_now ((terms now).held (transaction l.generation (suc i) 0 m)) b.kind (sym (now_shown.states m) ∙ ap shape b.state) in
+          absurd (got_off past fit.serials serial heard.packet heard.sent (v m) k n w (ap (λ o. is_gone o n) e ∙ itself n) x.kind x.serial
+          (ap (λ g. (terms now).held (transaction g (suc i) 0 m)) (sym stays) ∙ x.is))
+
+  -- and what is closed is the request that is answered
+  record IsClosed (p : Packet) (number : ℕ) (purpose : Option Purpose) : Type 0 where
+    at : At s.layer s.target number purpose
+    kind : Kind
+    own : ℕ
+    held : WaitsAt past i s.layer number kind own
+    answered : answered_at T serial ≡ Some own
+    packet : packet_at T serial ≡ Some p
+    read : reading heard.packet.bytes ≡ Ok p
+    label : ℕ
+    answer : Kind
+    part : part_in p ≡ response label answer
+    alike : is_same_kind kind answer ≡ true
+
+  closing : (p : Packet) (label : LabelParts) (purpose : Option Purpose) → finding ≡ of_response p label purpose → IsClosed p label.number purpose
+  closing p label purpose f =
+      let n = label.number in
+      let c = closes_at s.layer generation bytes p label purpose called f in
+      let peer = h.aimed.aims (header_in p).source n purpose c in
+      let a = subst (λ x. At s.layer x n purpose) peer c in
+      let w = waits_now (T.held (v n)) a.kind (sym (shown.states n) ∙ ap shape a.state) in
+      let over : (k : Kind) (m : ℕ) → WaitsAt now i s.layer n k m → ⊥ = λ k m e.
+      closed_over s.layer generation bytes p label purpose called f (purpose_for l.peers s.target n)
+      (subst (λ x. At l x n (purpose_for l.peers s.target n)) (sym peer) (left_there n k m e)) in
+      let gone : (b : Bool) → is_gone (answered_at T serial) w.serial ≡ b → is_gone (answered_at T serial) w.serial ≡ true = gone_by (λ g. over w.kind w.serial (got_on past fit.serials serial heard.packet heard.sent (v n) w.kind w.serial w.is g)) in
+      let answered = gone_some (answered_at T serial) w.serial (gone (is_gone (answered_at T serial) w.serial) refl) in
+      let x = answered_part T serial heard.packet heard.sent w.serial answered in
+      let y = held_by (T.held (between heard.packet heard.packet.to heard.packet.from x.number)) x.kind w.serial x.closes in
+      let same = one_transaction past fit.serials (between heard.packet heard.packet.to heard.packet.from x.number) (v n) y.kind w.kind w.serial y.is w.is in
+      let read = ap reading heard.bytes_are ∙ read_in s.layer generation bytes p label purpose f in
+      record {
+        at = a;
+        kind = w.kind;
+        own = w.serial;
+        held = w.is;
+        answered = answered;
+        packet = ap packet_in heard.sent ∙ ap spelled_by read;
+        read = read;
+        label = x.number;
+        answer = x.kind;
+        part = sym (part_read heard.packet.bytes p read) ∙ x.part;
+        alike = closes_alike w.kind w.serial x.kind w.serial (ap (λ z. closed_by z x.kind) (sym w.is) ∙ ap (λ u. closed_by (T.held u) x.kind) (sym same) ∙ x.closes);
+      }
+    where
+      gone_by : {b : Bool} → (b ≡ false → ⊥) → (c : Bool) → b ≡ c → b ≡ true
+      gone_by f true e = e
+      gone_by f false e = absurd (f e)
+
+  -- its kind is that of what it was for
+  kind_is : (p : Packet) (number : ℕ) (purpose : Purpose) → is_plain purpose ≡ true → (c : IsClosed p number (Some purpose)) → c.kind ≡ kind_for purpose
+  kind_is p number purpose plain c = (let w = kinds number purpose plain c.at in kinds_same c.kind (kind_for purpose) c.own w.serial (sym c.held ∙ w.held))
+
+  -- ---- the write of ORB_POINTER
+  -- where the one that is named is answered
+  named_closed : (n : ℕ) → pointer past i ≡ Some n → answered_at T serial ≡ Some n → points_finding finding ≡ true
+  named_closed n named e =
+      let x = answered_part T serial heard.packet heard.sent n e in
+      let u = between heard.packet heard.packet.to heard.packet.from x.number in
+      let y = held_by (T.held u) x.kind n x.closes in
+      let b = begun_of past fit.serials u y.kind n y.is in
+      let t = transaction_of b.packet u b.begun in
+      let points = h.pointed.points fit in
+      let asked = points.asks n named in
+      let same : asked.packet ≡ b.packet = same_Some asked.packet b.packet (sym asked.sent ∙ b.sent) in
+      let age : u.generation ≡ s.layer.generation = t.generation ∙ (h.kept fit).current n b.packet named b.sent ∙ sym h.generation in
+      let from : u.requester ≡ suc i = t.requester ∙ ap (λ (p : Sending). p.from) (sym same) ∙ asked.from in
+      let to : u.responder ≡ 0 = t.responder ∙ ap (λ (p : Sending). p.to) (sym same) ∙ asked.to in
+      let is : u ≡ v u.label =
+      ap (λ g. transaction g u.requester u.responder u.label) age ∙ ap (λ m. transaction s.layer.generation m u.responder u.label) from ∙ ap (λ m. transaction s.layer.generation (suc i) m u.label) to in
+      let held : WaitsAt past i s.layer u.label y.kind n = ap (λ z. T.held z) (sym is) ∙ y.is in
+      let list = points.named u.label y.kind n held named in
+      let w = under_way_now (state_for s.layer.peers s.target u.label) (kind_as y.kind) (shown.states u.label ∙ ap shape_of held) in
+      closed_points finding list.list
+      (closes_own u.label (Some (purposes.Pointer list.list)) (record { kind = w.kind; serial = w.serial; state = w.is; is_for = list.is }) y.kind n held e)
+
+  abbrev answer : Answer
+  answer = answer_in (packet_at T serial)
+
+  not_pointing : (points_finding finding ≡ true → ⊥) → points_at past serial i ≡ false
+  not_pointing never = by (answered_at T serial) refl (host_at past i).pointer refl
+    where
+      by_number : (m n : ℕ) → pointer past i ≡ Some m → answered_at T serial ≡ Some n → (b : Bool) → (m == n) ≡ b → (is_done answer && b) ≡ false
+      by_number m n p e true f = absurd (never (named_closed n (p ∙ ap Some (equal m n f)) e))
+      by_number m n p e false f = and_false (is_done answer)
+
+      by : (found : Option ℕ) → answered_at T serial ≡ found → (named : Option ℕ) → (host_at past i).pointer ≡ named → points_by found answer (host_at past i) ≡ false
+      by None e named p = refl
+      by (Some n) e None p = ap (λ o. is_done answer && is_serial o n) p ∙ and_false (is_done answer)
+      by (Some n) e (Some m) p = ap (λ o. is_done answer && is_serial o n) p ∙ by_number m n p e (m == n) refl
+
+  pointed_so : (p : Packet) (label : LabelParts) (list : ℕ) → finding ≡ of_response p label (Some (purposes.Pointer list)) → points_at past serial i ≡ answers_pointer (purposes.Pointer list) (ending_of p) s.lists.slots.present
+  pointed_so p label list f =
+      let c = closing p label (Some (purposes.Pointer list)) f in
+      let w = (h.pointed.points fit).waits_for label.number list c.at in
+      let same : w.serial ≡ c.own = serial_is c.kind w.kind c.own w.serial (sym c.held ∙ w.held) in
+      let alike : is_same_kind writing c.answer ≡ true = ap (λ k. is_same_kind k c.answer) (sym (kind_is p label.number (purposes.Pointer list) refl c)) ∙ c.alike in
+      let present : is_list s.lists.slots.present list ≡ true = (pointing_of h.pointed.cored).present (record { list = list; write = record { peer = s.target; number = label.number; serial = c.at.serial; kind = c.at.kind; state = c.at.state; is_for = c.at.is_for } }) in
+      ap (λ found. points_by found answer (host_at past i)) c.answered
+      ∙ ap (λ o. is_done answer && is_serial o c.own) (w.pointer_is ∙ ap Some same)
+      ∙ ap (λ b. is_done answer && b) (itself c.own)
+      ∙ and_true (is_done answer)
+      ∙ ap (λ o. is_done (answer_in o)) c.packet
+      ∙ write_answer p c.label c.answer c.part alike
+      ∙ pointed_if list (ending_of p) s.lists.slots.present present
+    where
+      and_true : (b : Bool) → (b && true) ≡ b
+      and_true true = refl
+      and_true false = refl
+
+  pub points_same : points_at past serial i ≡ finding_answers finding s
+  points_same = by finding refl
+    where
+      none : (f : Finding Purpose) → finding ≡ f → points_finding f ≡ false → points_at past serial i ≡ false
+      none f e off = not_pointing (λ on. untrue (sym off ∙ ap points_finding (sym e) ∙ on))
+
+      by : (f : Finding Purpose) → finding ≡ f → points_at past serial i ≡ finding_answers f s
+      by (of_response p label (Some (purposes.Pointer list))) e = pointed_so p label list e
+      by (of_response p label (Some purposes.Doorbell)) e = none _ e refl
+      by (of_response p label (Some (purposes.AgentReset act))) e = none _ e refl
+      by (of_response p label (Some (purposes.Enable act))) e = none _ e refl
+      by (of_response p label (Some (purposes.Management act))) e = none _ e refl
+      by (of_response p label (Some (purposes.Rom act))) e = none _ e refl
+      by (of_response p label (Some (purposes.State act list))) e = none _ e refl
+      by (of_response p label None) e = none _ e refl
+      by of_generation e = none _ e refl
+      by of_grammar e = none _ e refl
+      by of_label e = none _ e refl
+      by (of_again p rcode) e = none _ e refl
+      by (of_request p) e = none _ e refl
+
+  -- ---- the reads of AGENT_STATE
+  abbrev P : StateRead → ℕ → Type 0
+  P one a = IsPair past i s one a
+
+  module _ (are : AreBytes heard.packet.bytes) (gone : (one : StateRead) (a : ℕ) → P one a → ended_by finding ≡ Some a → is_gone (answered_at T serial) one.serial ≡ true) (pairs : AreZipped P (Reads past i) s.states) where
+    -- a read that is answered is what was closed
+    state_closed : (n : ℕ) → answered_at T serial ≡ Some n → (one : StateRead) (a : ℕ) (p : P one a) → (one.serial == n) ≡ true → ClosedFor finding (Some (purposes.State a p.list))
+    state_closed n e one a p f =
+        closes_own p.number (Some (purposes.State a p.list)) p.at p.kind n (p.held ∙ ap (waits p.kind) (equal one.serial n f)) e
+
+    not_state : (states_finding finding ≡ true → ⊥) → dead_at past serial i ≡ false
+    not_state never = by (answered_at T serial) refl
+      where
+        other : (n : ℕ) → answered_at T serial ≡ Some n → (one : StateRead) (a : ℕ) → P one a → (one.serial == n) ≡ false
+        other n e one a p = by_test (one.serial == n) refl
+          where
+            by_test : (b : Bool) → (one.serial == n) ≡ b → (one.serial == n) ≡ false
+            by_test false f = f
+            by_test true f = absurd (never (closed_states finding a p.list (state_closed n e one a p f)))
+
+        by : (found : Option ℕ) → answered_at T serial ≡ found → dead_by found answer (present_list past i) (host_at past i) ≡ false
+        by None e = refl
+        by (Some n) e = says_none answer n (present_list past i) (Reads past i) s.states (zipped_map P (IsOther n) (other n e) (Reads past i) s.states pairs)
+
+    dead_so : (p : Packet) (label : LabelParts) (act : ℕ) (list : Option ℕ) → finding ≡ of_response p label (Some (purposes.State act list)) → dead_at past serial i ≡ finds_dead (purposes.State act list) (ending_of p) s.lists.slots.present
+    dead_so p label act list f =
+        let c = closing p label (Some (purposes.State act list)) f in
+        let alike : is_same_kind reading_quadlet c.answer ≡ true = ap (λ k. is_same_kind k c.answer) (sym (kind_is p label.number (purposes.State act list) refl c)) ∙ c.alike in
+        ap (λ found. dead_by found answer (present_list past i) (host_at past i)) c.answered
+        ∙ ap (λ o. says_dead (answer_in o) c.own (present_list past i) (Reads past i)) c.packet
+        ∙ ap (λ o. says_dead (answer_of p) c.own o (Reads past i)) listed
+        ∙ read_says (ending_of p) (answer_of p) (read_answer heard.packet.bytes are p c.read c.label c.answer c.part alike) c.own s.lists.slots.present act list (Reads past i) s.states
+        (zipped_map P (IsTied c.own act list) (tied c) (Reads past i) s.states pairs)
+        (lives_of ready i s h.pointed.cored.own.called s.target label.number act list c.at)
+      where
+        same_of : (one : StateRead) (a : ℕ) (q : P one a) → ClosedFor finding (Some (purposes.State a q.list)) → (act ≡ a) × (list ≡ q.list)
+        same_of one a q c = state_same act a list q.list (subst (λ x. ClosedFor x (Some (purposes.State a q.list))) f c)
+
+        tied : (c : IsClosed p label.number (Some (purposes.State act list))) (one : StateRead) (a : ℕ) → P one a → IsTied c.own act list one a
+        tied c one a q = record {
+          same = by (one.serial == c.own) refl (a == act) refl;
+          listed = λ e. q.named ∙ sym (same_of one a q (state_closed c.own c.answered one a q e)).1;
+        }
+          where
+            by : (x : Bool) → (one.serial == c.own) ≡ x → (y : Bool) → (a == act) ≡ y → (one.serial == c.own) ≡ (a == act)
+            by true e true g = e ∙ sym g
+            by false e false g = e ∙ sym g
+            by true e false g = (let k = (same_of one a q (state_closed c.own c.answered one a q e)).0 in untrue (sym g ∙ ap (λ m. a == m) k ∙ itself a))
+            by false e true g =
+                let ended : ended_by finding ≡ Some a = ap ended_by f ∙ ap Some (sym (equal a act g)) in
+                untrue (sym e ∙ (ap (λ o. is_gone o one.serial) (sym c.answered) ∙ gone one a q ended))
+
+    pub dead_same : dead_at past serial i ≡ response_dead finding s
+    dead_same = by finding refl
+      where
+        none : (f : Finding Purpose) → finding ≡ f → states_finding f ≡ false → dead_at past serial i ≡ false
+        none f e off = not_state (λ on. untrue (sym off ∙ ap states_finding (sym e) ∙ on))
+
+        by : (f : Finding Purpose) → finding ≡ f → dead_at past serial i ≡ response_dead f s
+        by (of_response p label (Some (purposes.State act list))) e = dead_so p label act list e
+        by (of_response p label (Some (purposes.Pointer list))) e = none _ e refl
+        by (of_response p label (Some purposes.Doorbell)) e = none _ e refl
+        by (of_response p label (Some (purposes.AgentReset act))) e = none _ e refl
+        by (of_response p label (Some (purposes.Enable act))) e = none _ e refl
+        by (of_response p label (Some (purposes.Management act))) e = none _ e refl
+        by (of_response p label (Some (purposes.Rom act))) e = none _ e refl
+        by (of_response p label None) e = none _ e refl
+        by of_generation e = none _ e refl
+        by of_grammar e = none _ e refl
+        by of_label e = none _ e refl
+        by (of_again p rcode) e = none _ e refl
+        by (of_request p) e = none _ e refl
