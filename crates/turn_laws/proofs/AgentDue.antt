@@ -1,5 +1,5 @@
 -- The deaths and ends of an agent's turn are due, where the turn's step at the target and at the terms is one: the notes name whom and what the laws name, and the first request finds a label by both.
-use Rattle.std.proofs.Common.{◌≡◌, ◌∙◌, refl, sym, ap, subst, ℕ, suc, is_some, Bool, true, false, cond, List, [], ◌∷◌, Option, Some, None}
+use Rattle.std.proofs.Common.{◌≡◌, ◌∙◌, refl, sym, ap, subst, ℕ, suc, ◌+◌, length, is_some, Bool, true, false, cond, List, [], ◌∷◌, Option, Some, None}
 use Rattle.bus_transactions.specs.Fitting.{FitsRequest}
 use Rattle.bus_memory.specs.Windows.{start as slot_start}
 use Rattle.bus_memory.specs.declared.window.Window.TheVariants as windows
@@ -43,6 +43,7 @@ use Rattle.turn_laws.proofs.FollowSends.{requests}
 use Rattle.turn_laws.proofs.FoundLabels.{Spells}
 use Rattle.turn_laws.proofs.FreeLabels.{KnowsLabels}
 use Rattle.turn_laws.proofs.ReadAheads.{MayReadAhead}
+use Rattle.turn_laws.proofs.TurnCounts.{pushed_in}
 use Rattle.turn_laws.proofs.TurnSends.{SendsOwn}
 use Rattle.turn_laws.proofs.TurnWrites.{all_writes}
 use Rattle.turn_laws.proofs.EndTries.{brought, brought_notes, brought_sides, found_by, notes_tried}
@@ -85,6 +86,8 @@ pub record IsTurnOf (start : List Disk) (T : Target) (t : Turn) (a : AgentTurn) 
   pub writes : (let i = initiator_at T (wire_before t) a.place in writes_to (suc i) t.rest ≡ all_writes (suc i) (requests a.place login (found_at a.place layer login step m) layer behind step m))
   -- and those stand first behind the response
   pub sends : (let i = initiator_at T (wire_before t) a.place in SendsOwn start t login.node (suc i) (requests a.place login (found_at a.place layer login step m) layer behind step m))
+  -- and then one for each unsolicited status that is told
+  pub counted : length (behind_answer start t) ≡ length (requests a.place login (found_at a.place layer login step m) layer behind step m) + pushed_in t.rest
   pub holders : ℕ → Holder
   pub tickets : ℕ → ℕ → Option TicketParts
   pub told : of_kind is_end_note t.rest ≡ ends_noted holders tickets (brought_sides a.place m (brought (found_at a.place layer login step m) step m.phase))
@@ -142,7 +145,7 @@ module _ (start : List Disk) (T : Target) (t : Turn) (a : AgentTurn) (step : Age
 -- ---- what a turn tells: of an agent by its step at the target, or of one that does nothing, and for which nothing is sent
 pub data HasTurn (start : List Disk) (T : Target) (t : Turn) (a : AgentTurn) : Type 0 where
   has_steps : (step : AgentStep) (m : Machine) (login : Login) (layer : Layer Purpose) → IsTurnOf start T t a step m login layer → HasTurn start T t a
-  has_rest : a.step ≡ quiet → of_kind is_end_note t.rest ≡ [] → behind_answer start t ≡ [] → HasTurn start T t a
+  has_rest : a.step ≡ quiet → of_kind is_end_note t.rest ≡ [] → (behind_answer start t ≡ []) × (pushed_in t.rest ≡ 0) → HasTurn start T t a
 
 -- and nothing where it is for no agent
 abbrev pub TellsFor : List Disk → Target → Turn → Option AgentTurn → Type 0

@@ -1,5 +1,5 @@
 -- What the target tells of deaths and ends as an agent goes on: by a reply, behind a time-out, a pointer or a doorbell. They are those that its step brings, by whether its first request finds a label.
-use Rattle.std.proofs.Common.{◌≡◌, ◌∙◌, refl, sym, ap, subst, ℕ, ◌<◌, is_some, Bool, true, false, List, [], ◌∷◌, ◌++◌, length, append-nil, Option, Some, None, Result, Ok, Err}
+use Rattle.std.proofs.Common.{arith, ◌≡◌, ◌∙◌, refl, sym, ap, subst, ℕ, ◌+◌, ◌<◌, length-append, is_some, Bool, true, false, List, [], ◌∷◌, ◌++◌, length, append-nil, Option, Some, None, Result, Ok, Err}
 use Rattle.std.proofs.Math.ListN.{length-set}
 use Rattle.async_packet.specs.Packet.{Packet, header_in}
 use Rattle.label_table.specs.Bodies.{Body}
@@ -23,6 +23,7 @@ use Rattle.command_agent.specs.declared.step.PointRefusal.{PointRefusal}
 use Rattle.command_agent.specs.declared.step.Which.{Which}
 use Rattle.command_agent.specs.declared.step.Which.TheVariants.{Ahead, Main}
 use Rattle.sbp_journal.specs.Outgoings.{OutboxState}
+use Rattle.sbp_journal.specs.declared.outbox.Outgoing.{Outgoing}
 use Rattle.sbp_journal.specs.declared.side.Side.{Side}
 use Rattle.sbp_target.specs.declared.desk.Desk.{Desk}
 use Rattle.sbp_target.specs.declared.purpose.Purpose.{Purpose}
@@ -40,7 +41,7 @@ use Rattle.turn_laws.proofs.EndTries.{brought, brought_sides, found_by, told_bri
 use Rattle.turn_laws.proofs.FirstLayers.{IsBehind, first_layer}
 use Rattle.turn_laws.proofs.FollowEnds.{ends_in, follow_ends, told_by}
 use Rattle.turn_laws.proofs.FollowSends.{follow_packets, requests}
-use Rattle.turn_laws.proofs.PushSends.{Pushes, announce_sends}
+use Rattle.turn_laws.proofs.PushSends.{Pushes, announce_sends, follow_told, pushes_told}
 use Rattle.sbp_world.proofs.Agents.AskedLate.{follow_logins}
 use Rattle.turn_laws.proofs.FollowSides.{Goes, announce_ends, announce_goes, follow_goes}
 
@@ -56,6 +57,8 @@ pub record Tells (q : ℕ) (layer : Layer Purpose) (login : Login) (step : Agent
   pub behind : Layer Purpose
   pub behind_is : IsBehind q login (agent_body step.ask (is_some step.ended) login.fifo m.outgoing) layer behind
   pub sends : Pushes places login.unit q (first.packets ++ requests q login (found_at q layer login step m) layer behind step m) given.packets
+  -- as many more as unsolicited statuses are told
+  pub counted : length given.packets + pushes_told first.sides ≡ length first.packets + length (requests q login (found_at q layer login step m) layer behind step m) + pushes_told given.sides
 
 -- nothing yet
 goes_none : (first : List Side) → Goes first first
@@ -91,6 +94,11 @@ module _ (q : ℕ) (b : q < 8) (before : NodeState) (m : Machine) (login : Login
     behind = behind_first;
     behind_is = first_layer q b before m login step s h;
     sends = record { more = []; is = follow_requests ∙ sym (append-nil _); pushes = tt };
+    counted =
+        let out = requests q login (found_at q s.node.layer login step m) s.node.layer behind_first step m in
+        let a = ap (λ (ps : List Outgoing). length ps) follow_requests ∙ length-append s.outbox.packets out in
+        let b = follow_told q login step s in
+        omega (arith, a, b);
   }
 
 -- ---- a desk whose agent goes on
@@ -123,16 +131,22 @@ module _ (q : ℕ) (b : q < 8) (node : NodeState) (size : length node.desks ≡ 
         let c = changed_desks x login.unit now in
         let h = stepped_holds which m t.node (c.0 ∙ e) in
         let r = follow_tells q b node m login step t h shaped in
+        let out = requests q login (found_at q node.layer login step m) node.layer (behind_first q b node m login step t h shaped) step m in
+        let announced = announce_sends node.logins.places login.unit q (o.packets ++ out) (pushes_told o.sides) x (follow q login step t)
+        (ap (λ (table : Table). table.places) (follow_logins q login step t ∙ (c.1.1 ∙ k)))
+        (follow_requests q b node m login step t h shaped
+        ∙ ap (λ (layer : Layer Purpose). o.packets ++ requests q login (found_at q layer login step m) layer (behind_first q b node m login step t h shaped) step m) (c.1.0 ∙ l))
+        (follow_told q login step t) in
         record {
           goes = announce_goes o.sides x login.unit q (follow q login step t) r.goes;
           ends = announce_ends x login.unit q (follow q login step t) ∙ (r.ends ∙ ap (λ (k : Layer Purpose). ends_in o.sides ++ brought_sides q m (brought (found_at q k login step m) step m.phase)) (c.1.0 ∙ l));
           behind = behind_first q b node m login step t h shaped;
           behind_is = subst (λ (k : Layer Purpose). IsBehind q login (agent_body step.ask (is_some step.ended) login.fifo m.outgoing) k (behind_first q b node m login step t h shaped)) (c.1.0 ∙ l) (first_layer q b node m login step t h);
-          sends =
-              announce_sends node.logins.places login.unit q (o.packets ++ requests q login (found_at q node.layer login step m) node.layer (behind_first q b node m login step t h shaped) step m) x (follow q login step t)
-              (ap (λ (table : Table). table.places) (follow_logins q login step t ∙ (c.1.1 ∙ k)))
-              (follow_requests q b node m login step t h shaped
-              ∙ ap (λ (layer : Layer Purpose). o.packets ++ requests q login (found_at q layer login step m) layer (behind_first q b node m login step t h shaped) step m) (c.1.0 ∙ l));
+          sends = announced.sends;
+          counted =
+              let a = ap (λ (ps : List Outgoing). length ps) announced.sends.is ∙ (length-append (o.packets ++ out) announced.sends.more ∙ ap (λ n. n + length announced.sends.more) (length-append o.packets out)) in
+              let b = announced.counted in
+              omega (arith, a, b);
         }
 
   module _ (told : Option Told) (login : Login) (which : Which) (answer : Answer) (o : OutboxState) (disks : List Disk) where

@@ -1,5 +1,5 @@
 -- What an agent sends in its turn are the requests that the laws try of its step: that of the step and the read ahead behind it, or, where that of the step finds no label, the status of the ORB that fails so. Of a chunk that its medium did not tell the bytes are those of the target, as many.
-use Rattle.std.proofs.Common.{arith, ◌≡◌, ◌∙◌, refl, sym, ap, subst, ℕ, suc, ◌+◌, ◌≤◌, ◌&&◌, nat_le, nat_lt, is_none, is_some, Bool, true, false, cond, List, [], ◌∷◌, ◌++◌, append-nil, length, Option, Some, None}
+use Rattle.std.proofs.Common.{arith, ◌≡◌, ◌∙◌, refl, sym, ap, subst, ℕ, suc, ◌+◌, ◌≤◌, ◌&&◌, nat_le, nat_lt, is_none, is_some, Bool, true, false, cond, List, [], ◌∷◌, ◌++◌, append-nil, length, length-append, Option, Some, None}
 use Rattle.std.proofs.lemmas.Bool.Decides.{nat_tests}
 use Rattle.std.proofs.lemmas.Option.{same_Some}
 use Rattle.bus_transactions.specs.Fitting.{FitsRequest}
@@ -49,9 +49,10 @@ use Rattle.turn_laws.proofs.FollowSends.{packet_of, requested, requested_ahead, 
 use Rattle.turn_laws.proofs.Handed.{notes_sent}
 use Rattle.turn_laws.proofs.RequestLabels.{AreOf}
 use Rattle.turn_laws.proofs.RequestWrites.{lost_body, unsent}
-use Rattle.turn_laws.proofs.SentOwn.{AreFor, AskFor}
+use Rattle.turn_laws.proofs.SentOwn.{AreFor, AskFor, for_length}
 use Rattle.turn_laws.proofs.StepLabels.{finds_in}
-use Rattle.turn_laws.proofs.TurnSends.{AreSentFor, both_sent, notes_both, sent_for}
+use Rattle.turn_laws.proofs.TurnCounts.{pushed_in}
+use Rattle.turn_laws.proofs.TurnSends.{AreSentFor, both_sent, notes_both, sent_for, sent_length}
 
 -- ---- what the loss of the main transaction asks for
 abbrev lost_asks : Option StatusKind → Machine → (fifo : ℕ) → Option Body
@@ -439,16 +440,29 @@ pub record AgentFirst (start : List Disk) (t : Turn) (wants : List Request) : Ty
   pub more : List Note
   pub is : behind_answer start t ≡ own ++ more
   pub asks : AreFor 0 own wants
+  -- as many as unsolicited statuses are told
+  pub counted : length more ≡ pushed_in t.rest
 
 pub sends_for : (start : List Disk) (t : Turn) (a : AgentTurn) → HasTurn start (target_before start t) t a → AgentFirst start t (agent_requests (target_before start t) t (Some a))
 sends_for start t a (has_steps step m login layer h) =
     let s = h.sends in
     let out = requests a.place login (found_at a.place layer login step m) layer h.behind step m in
     let wants = agent_requests (target_before start t) t (Some a) in
+    let own = notes_sent 0 out s.world in
+    let more = notes_sent 0 s.more (sent_all 0 out s.world) in
+    let is : behind_answer start t ≡ own ++ more = s.is ∙ notes_both out s.more s.world in
+    let sent = turn_asks start t a step m login layer h in
+    let asks : AreFor 0 own wants = sent_for s.world.generations out wants s.world refl sent in
     record {
-      own = notes_sent 0 out s.world;
-      more = notes_sent 0 s.more (sent_all 0 out s.world);
-      is = s.is ∙ notes_both out s.more s.world;
-      asks = sent_for s.world.generations out wants s.world refl (turn_asks start t a step m login layer h);
+      own = own;
+      more = more;
+      is = is;
+      asks = asks;
+      counted =
+          let a = ap (λ (ns : List Note). length ns) is ∙ length-append own more in
+          let b = for_length 0 own wants asks in
+          let c = sent_length s.world.generations out wants sent in
+          let d = h.counted in
+          omega (arith, a, b, c, d);
     }
-sends_for start t a (has_rest e none alone) = record { own = []; more = behind_answer start t; is = refl; asks = subst (AreFor 0 []) (sym (rests start t a e)) tt }
+sends_for start t a (has_rest e none alone) = record { own = []; more = []; is = alone.0; asks = subst (AreFor 0 []) (sym (rests start t a e)) tt; counted = sym alone.1 }

@@ -1,5 +1,5 @@
 -- The deaths and ends of a request that the target got: those of an agent whose pointer or doorbell it writes, whose read finds no label, and none else.
-use Rattle.std.proofs.Common.{arith, ◌≡◌, ◌∙◌, refl, sym, ap, subst, ℕ, suc, ◌<◌, ◌≤◌, true, false, List, [], ◌∷◌, ◌++◌, length, Option, Some, None, Result, Ok, Err}
+use Rattle.std.proofs.Common.{◌+◌, is_some, arith, ◌≡◌, ◌∙◌, refl, sym, ap, subst, ℕ, suc, ◌<◌, ◌≤◌, true, false, List, [], ◌∷◌, ◌++◌, length, Option, Some, None, Result, Ok, Err}
 use Rattle.async_packet.specs.Packet.{Packet, header_in}
 use Rattle.async_packet.specs.Reading.{reading}
 use Rattle.label_table.specs.Bodies.{Body}
@@ -70,16 +70,18 @@ use Rattle.turn_laws.proofs.EndTries.{brought, brought_sides}
 use Rattle.turn_laws.proofs.FollowEnds.{ends_in}
 use Rattle.turn_laws.proofs.FollowSends.{requests, requests_to_peer}
 use Rattle.turn_laws.proofs.FollowSides.{AreBeside}
-use Rattle.turn_laws.proofs.PushSends.{Pushes}
-use Rattle.turn_laws.proofs.TurnSends.{SendsOwn, sends_second}
+use Rattle.turn_laws.proofs.PushSends.{Pushes, pushes_told}
+use Rattle.turn_laws.proofs.TurnCounts.{pushed_in, turn_counts}
+use Rattle.turn_laws.proofs.TurnSends.{all_second, sends_second, SendsOwn}
 use Rattle.turn_laws.proofs.TurnWrites.{all_writes, turn_writes}
 use Rattle.sbp_journal.specs.declared.outbox.Outgoing.{Outgoing}
+use Rattle.sbp_laws.specs.SentRequests.{behind_answer}
 use Rattle.sbp_laws.specs.SentWrites.{writes_to}
 use Rattle.sbp_world.specs.Hosts.Handing.{AreOthers}
 use Rattle.sbp_world.proofs.Lists.StatusReads.{answer_reads}
 use Rattle.sbp_world.proofs.Lists.StatusSteps.{none_wrote}
 use Rattle.turn_laws.proofs.FirstLayers.{IsBehind}
-use Rattle.turn_laws.proofs.FoundLabels.{Spells, asked_labels, peer_is, request_finds, request_spells}
+use Rattle.turn_laws.proofs.FoundLabels.{Spells, asked_labels, peer_is, request_finds, request_spells, i as held_i}
 use Rattle.turn_laws.proofs.FreeLabels.{KnowsLabels}
 use Rattle.turn_laws.proofs.ReadAheads.{none_ahead}
 use Rattle.turn_laws.proofs.Handed.{handed}
@@ -208,6 +210,20 @@ module _ (units ready : ℕ) (has : 0 < units) (start : List Disk) (past : List 
       o now same others refl node.logins.places login.unit q out (one_due units ready start past s here serial one found zero_to p read now same o others judged none) first one.from
       (from_there units ready start past s here serial one found zero_to p read now same o others judged none) pushes
 
+  counts_behind : (now : WorldState) (o : OutboxState) (behind : Layer Purpose) (ask : Ask) (m : Machine) → now.generations ≡ w.generations → AreOthers o.sides
+      → Pushes node.logins.places login.unit q (response ++ requests q login (found_at q answered_layer login (asks ask) m) answered_layer behind (asks ask) m) o.packets
+      → length o.packets ≡ suc (length (requests q login (found_at q answered_layer login (asks ask) m) answered_layer behind (asks ask) m)) + pushes_told o.sides
+      → length (behind_answer start (t (handed 0 0 o now))) ≡ length (requests q login (found_at q answered_layer login (asks ask) m) answered_layer behind (asks ask) m) + pushed_in (handed 0 0 o now)
+  counts_behind now o behind ask m same others pushes counted =
+      let out = requests q login (found_at q answered_layer login (asks ask) m) answered_layer behind (asks ask) m in
+      let first : Outgoing = record { to = (header_in p).source; label = None; bytes = (answering_step new p one.bytes 0 []).0 } in
+      let all = all_second start (t (handed 0 0 o now)) w.generations o now same others refl (one_due units ready start past s here serial one found zero_to p read now same o others judged none) first one.from
+      (from_there units ready start past s here serial one found zero_to p read now same o others judged none) (out ++ pushes.more) pushes.is in
+      let size : length o.packets ≡ suc (length (out ++ pushes.more)) = ap (λ (ps : List Outgoing). length ps) pushes.is in
+      turn_counts start (t (handed 0 0 o now)) w.generations node.logins.places (λ k other e up. ap (λ x. is_some x) (peer_is units ready start past s here k other e up)) login.node (suc (held_i units ready start past s here q login served.is served.live))
+      (peer_is units ready start past s here q login served.is served.live) out (requests_to_peer q login (found_at q answered_layer login (asks ask) m) answered_layer behind (asks ask) m) login.unit q o now others refl
+      (out ++ pushes.more) pushes.more all refl pushes.pushes (omega (arith, size, counted))
+
   -- the turn of an agent that asks
   abbrev law_turn : Ask → Machine → AgentTurn
   law_turn ask machine = record { place = q; untold = A.untold; which = Main; step = asks ask; machine = machine }
@@ -215,7 +231,7 @@ module _ (units ready : ℕ) (has : 0 < units) (start : List Disk) (past : List 
   body_fits : (ask : Ask) (m : Machine) → FitsAsk ask → FitsAgent m → IfBody (agent_body ask false login.fifo m.outgoing)
   body_fits ask m f g = agent_body_fits ask false login.fifo m.outgoing f (small_fifo units ready has start past s here q login served.is served.live) g.outgoing
 
-  module _ (rest : List Note) (ask : Ask) (m : Machine) (law_ask : Ask) (law_machine : Machine) (ask_is : law_ask ≡ ask) (alike : Alike A.untold law_machine m) (shaped : IsShapedStep (asks ask, m)) (carried : Carries ask m.outgoing) (reads : IsNoWrite ask) (fits_ask : FitsAsk ask) (fits_agent : FitsAgent m) (H : ℕ → Holder) (K : ℕ → ℕ → Option TicketParts) (told_is : of_kind is_end_note rest ≡ ends_noted H K (brought_sides q m (brought (found_at q answered_layer login (asks ask) m) (asks ask) m.phase))) (initiator : (H q).initiator ≡ (holder w q).initiator) (list : (H q).list ≡ list_taken start (said (notes.Got serial) ∷ ms) q) (behind : Layer Purpose) (behind_is : IsBehind q login (agent_body ask false login.fifo m.outgoing) answered_layer behind) (writes : writes_to (suc i) rest ≡ all_writes (suc i) (requests q login (found_at q answered_layer login (asks ask) m) answered_layer behind (asks ask) m)) (sends : SendsOwn start (t rest) login.node (suc i) (requests q login (found_at q answered_layer login (asks ask) m) answered_layer behind (asks ask) m)) (tickets : (orb : ℕ) → K q orb ≡ ticket_at w q orb) where
+  module _ (rest : List Note) (ask : Ask) (m : Machine) (law_ask : Ask) (law_machine : Machine) (ask_is : law_ask ≡ ask) (alike : Alike A.untold law_machine m) (shaped : IsShapedStep (asks ask, m)) (carried : Carries ask m.outgoing) (reads : IsNoWrite ask) (fits_ask : FitsAsk ask) (fits_agent : FitsAgent m) (H : ℕ → Holder) (K : ℕ → ℕ → Option TicketParts) (told_is : of_kind is_end_note rest ≡ ends_noted H K (brought_sides q m (brought (found_at q answered_layer login (asks ask) m) (asks ask) m.phase))) (initiator : (H q).initiator ≡ (holder w q).initiator) (list : (H q).list ≡ list_taken start (said (notes.Got serial) ∷ ms) q) (behind : Layer Purpose) (behind_is : IsBehind q login (agent_body ask false login.fifo m.outgoing) answered_layer behind) (writes : writes_to (suc i) rest ≡ all_writes (suc i) (requests q login (found_at q answered_layer login (asks ask) m) answered_layer behind (asks ask) m)) (sends : SendsOwn start (t rest) login.node (suc i) (requests q login (found_at q answered_layer login (asks ask) m) answered_layer behind (asks ask) m)) (counted : length (behind_answer start (t rest)) ≡ length (requests q login (found_at q answered_layer login (asks ask) m) answered_layer behind (asks ask) m) + pushed_in rest) (tickets : (orb : ℕ) → K q orb ≡ ticket_at w q orb) where
     is_turn : IsTurnOf start T (t rest) (law_turn law_ask law_machine) (asks ask) m login answered_layer
     is_turn = record {
       step_is = ap asks ask_is;
@@ -237,6 +253,7 @@ module _ (units ready : ℕ) (has : 0 < units) (start : List Disk) (past : List 
       behind_is = behind_is;
       writes = writes;
       sends = sends;
+      counted = counted;
       holders = H;
       tickets = K;
       told = told_is;
@@ -308,6 +325,8 @@ module _ (units ready : ℕ) (has : 0 < units) (start : List Disk) (past : List 
             owner (opened_list law_list) tells.behind tells.behind_is
             (writes_behind now o tells.behind ask m bus_same others (subst (λ (y : OutboxState). Pushes node.logins.places login.unit q (response ++ requests q login (found_at q answered_layer login (asks ask) m) answered_layer tells.behind (asks ask) m) y.packets) (sym o_is) tells.sends))
             (sends_behind now o tells.behind ask m bus_same others (subst (λ (y : OutboxState). Pushes node.logins.places login.unit q (response ++ requests q login (found_at q answered_layer login (asks ask) m) answered_layer tells.behind (asks ask) m) y.packets) (sym o_is) tells.sends))
+            (counts_behind now o tells.behind ask m bus_same others (subst (λ (y : OutboxState). Pushes node.logins.places login.unit q (response ++ requests q login (found_at q answered_layer login (asks ask) m) answered_layer tells.behind (asks ask) m) y.packets) (sym o_is) tells.sends)
+            (let c = tells.counted in subst (λ (y : OutboxState). length y.packets ≡ suc (length (requests q login (found_at q answered_layer login (asks ask) m) answered_layer tells.behind (asks ask) m)) + pushes_told y.sides) (sym o_is) (omega (arith, c))))
             opened_ticket
 
     -- ---- DOORBELL, of an agent out of RESET
@@ -325,6 +344,12 @@ module _ (units ready : ℕ) (has : 0 < units) (start : List Disk) (past : List 
             beside_handed (holder now) (ticket_at now) 0 o now (λ k. refl, λ k orb. refl) (subst AreBeside (sym (ap (λ (y : OutboxState). y.sides) o_is ∙ g.is)) g.beside)
             ∙ ap (ends_noted (holder now) (ticket_at now)) (ap (λ (y : OutboxState). ends_in y.sides) o_is ∙ ring_tells.ends)
 
+        ring_counts : length (behind_answer start (t (handed 0 0 o now))) ≡ length (requests q login (found_at q answered_layer login (asks ask) m) answered_layer ring_tells.behind (asks ask) m) + pushed_in (handed 0 0 o now)
+        ring_counts =
+            let c = ring_tells.counted in
+            counts_behind now o ring_tells.behind ask m bus_same others (subst (λ (y : OutboxState). Pushes node.logins.places login.unit q (response ++ requests q login (found_at q answered_layer login (asks ask) m) answered_layer ring_tells.behind (asks ask) m) y.packets) (sym o_is) ring_tells.sends)
+            (subst (λ (y : OutboxState). length y.packets ≡ suc (length (requests q login (found_at q answered_layer login (asks ask) m) answered_layer ring_tells.behind (asks ask) m)) + pushes_told y.sides) (sym o_is) (omega (arith, c)))
+
         pub rung_due : is_reset (state_in d.agent.phase) ≡ false → list_taken start (said (notes.Got serial) ∷ ms) q ≡ list_taken start ms q → HasTurn start T (t (handed 0 0 o now)) (law_turn law_ask law_machine)
         rung_due up law_list =
             asks_due (handed 0 0 o now) ask m law_ask law_machine ask_is alike shaped carried reads fits_ask fits_agent (holder now) (ticket_at now) ring_noted
@@ -333,6 +358,7 @@ module _ (units ready : ℕ) (has : 0 < units) (start : List Disk) (past : List 
             ring_tells.behind ring_tells.behind_is
             (writes_behind now o ring_tells.behind ask m bus_same others (subst (λ (y : OutboxState). Pushes node.logins.places login.unit q (response ++ requests q login (found_at q answered_layer login (asks ask) m) answered_layer ring_tells.behind (asks ask) m) y.packets) (sym o_is) ring_tells.sends))
             (sends_behind now o ring_tells.behind ask m bus_same others (subst (λ (y : OutboxState). Pushes node.logins.places login.unit q (response ++ requests q login (found_at q answered_layer login (asks ask) m) answered_layer ring_tells.behind (asks ask) m) y.packets) (sym o_is) ring_tells.sends))
+            ring_counts
             (λ orb. tickets_now q orb)
 
         -- one in RESET asks for nothing
@@ -340,9 +366,18 @@ module _ (units ready : ℕ) (has : 0 < units) (start : List Disk) (past : List 
         rung_none nothing =
             has_rest (ap asks (ask_is ∙ nothing))
             (ring_noted ∙ ap (λ x. ends_noted (holder now) (ticket_at now) (brought_sides q m (brought (found_at q answered_layer login (asks x) m) (asks x) m.phase))) nothing)
-            (answered_alone units ready start past s here serial one found zero_to p read now bus_same o others judged none (answering_step new p one.bytes 0 []).0 rests_alone)
+            (alone, told_none)
           where
             rests_alone : o.packets ≡ response
             rests_alone =
                 ap (λ (y : OutboxState). y.packets) o_is ∙ (ap (λ x. (asked_in q x (Some login) (answered p one.bytes 0 [] (scene (with_desk left q (record d { agent = m })) empty_outbox))).outbox.packets) nothing
                 ∙ rested_packets q b left (good units ready has start past s here).mid.size p one.bytes empty_outbox (record d { agent = m }) login)
+
+            alone : behind_answer start (t (handed 0 0 o now)) ≡ []
+            alone = answered_alone units ready start past s here serial one found zero_to p read now bus_same o others judged none (answering_step new p one.bytes 0 []).0 rests_alone
+
+            told_none : pushed_in (handed 0 0 o now) ≡ 0
+            told_none =
+                let a = ap (λ (ns : List Note). length ns) alone in
+                let c = ring_counts in
+                omega (arith, a, c)

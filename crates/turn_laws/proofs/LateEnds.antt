@@ -1,5 +1,5 @@
 -- The deaths and ends of a time-out at the target: those of the agent whose transaction it was, and none else.
-use Rattle.std.proofs.Common.{◌≡◌, ◌∙◌, refl, sym, ap, subst, ℕ, suc, ◌<◌, is_some, Bool, true, false, cond, List, [], ◌∷◌, Option, Some, None, Result, Ok, Err}
+use Rattle.std.proofs.Common.{arith, ◌+◌, length, ◌≡◌, ◌∙◌, refl, sym, ap, subst, ℕ, suc, ◌<◌, is_some, Bool, true, false, cond, List, [], ◌∷◌, Option, Some, None, Result, Ok, Err}
 use Rattle.label_table.specs.Layer.{Layer, expiring_step}
 use Rattle.label_table.specs.declared.reply.Stale.{Stale}
 use Rattle.login_table.specs.declared.login.Login.{Login}
@@ -56,13 +56,15 @@ use Rattle.turn_laws.proofs.EndSizes.{lost_sized, reply_sized}
 use Rattle.turn_laws.proofs.EndTries.{brought, brought_sides}
 use Rattle.turn_laws.proofs.FollowSends.{requests, requests_to_peer}
 use Rattle.turn_laws.proofs.FollowSides.{AreBeside}
-use Rattle.turn_laws.proofs.PushSends.{Pushes}
-use Rattle.turn_laws.proofs.TurnSends.{SendsOwn, sends_alone}
+use Rattle.turn_laws.proofs.PushSends.{Pushes, pushes_told}
+use Rattle.turn_laws.proofs.TurnCounts.{pushed_in, turn_counts}
+use Rattle.turn_laws.proofs.TurnSends.{SendsOwn, all_alone, sends_alone}
 use Rattle.turn_laws.proofs.TurnWrites.{all_writes, turn_writes}
+use Rattle.sbp_laws.specs.SentRequests.{behind_answer}
 use Rattle.sbp_laws.specs.SentWrites.{writes_to}
 use Rattle.sbp_world.proofs.FitTarget.Agents.{lost_fits}
 use Rattle.sbp_world.proofs.Lists.StatusSteps.{lost_leaves}
-use Rattle.turn_laws.proofs.FoundLabels.{late_finds, late_labels, late_spells, peer_is}
+use Rattle.turn_laws.proofs.FoundLabels.{late_finds, late_labels, late_spells, peer_is, i as held_i}
 use Rattle.turn_laws.proofs.FreeLabels.{KnowsLabels}
 use Rattle.turn_laws.proofs.Handed.{handed}
 use Rattle.turn_laws.proofs.OrderManaged.{manages}
@@ -232,6 +234,17 @@ module _ (units ready : ℕ) (has : 0 < units) (start : List Disk) (past : List 
             sends_alone start (t rest) login.node (suc i) w.generations (peer_is units ready start past s here q login there live ∙ ap (λ n. Some (suc n)) (sym mine)) o now refl others refl node.logins.places login.unit q out refl
             (subst (λ (y : OutboxState). Pushes node.logins.places login.unit q out y.packets) (sym o_is) tells.sends)
 
+        counted : length (behind_answer start (t rest)) ≡ length (requests q login (found_at q new login l.0 l.1) new tells.behind l.0 l.1) + pushed_in rest
+        counted =
+            let there = its.serve.login_is in
+            let live = its.serve.live in
+            let out = requests q login (found_at q new login l.0 l.1) new tells.behind l.0 l.1 in
+            let p : Pushes node.logins.places login.unit q out o.packets = subst (λ (y : OutboxState). Pushes node.logins.places login.unit q out y.packets) (sym o_is) tells.sends in
+            let c : length o.packets + 0 ≡ 0 + length out + pushes_told o.sides = subst (λ (y : OutboxState). length y.packets + 0 ≡ 0 + length out + pushes_told y.sides) (sym o_is) tells.counted in
+            turn_counts start (t rest) w.generations node.logins.places (λ k other e up. ap (λ x. is_some x) (peer_is units ready start past s here k other e up)) login.node (suc (held_i units ready start past s here q login there live)) (peer_is units ready start past s here q login there live) out
+            (requests_to_peer q login (found_at q new login l.0 l.1) new tells.behind l.0 l.1) login.unit q o now others refl
+            o.packets p.more (all_alone start (t rest) w.generations o now refl others refl refl) p.is p.pushes (omega (arith, c))
+
         is_turn : IsTurnOf start T (t rest) (law_turn rest) l.0 l.1 login new
         is_turn =
             let plainly = plain_handed o now runless in
@@ -261,6 +274,7 @@ module _ (units ready : ℕ) (has : 0 < units) (start : List Disk) (past : List 
               behind_is = tells.behind_is;
               writes = writes;
               sends = sends;
+              counted = counted;
               holders = holder now;
               tickets = ticket_at now;
               told = ends;

@@ -198,8 +198,10 @@ pub mod SentBodies
 pub mod SentOwn
 pub mod TurnSends
 pub mod AgentSends
+pub mod IdleSends
 pub mod RequestPackets
 pub mod AgentRequests
-pub mod RequestPackets
+pub mod TargetRequests
+pub mod TurnCounts
 pub mod ManagerRequests
 pub mod PushRequests

@@ -135,11 +135,11 @@ module _ (layer : Layer Purpose) (source i : ℕ) (finds : Body → Bool) where
     all_asks (Some body) h = one_asks body (h body refl) (asking_step layer source body purposes.Management).0 refl
 
 -- ---- what the laws ask for
-abbrev requests_for : Terms → Terms → Target → Call → List laws.Request
+abbrev pub requests_for : Terms → Terms → Target → Call → List laws.Request
 requests_for wire after T call = sent_in (operator_for call wire T) (finds_label after 0 (suc (operator_for call wire T))) (manager_turn call T)
 
 -- it stands behind the response
-abbrev AsksFor : List Disk → Turn → Call → Type 0
+abbrev pub AsksFor : List Disk → Turn → Call → Type 0
 AsksFor start t no_call = Unit {0}
 AsksFor start t call = AreFor 0 (behind_answer start t) (requests_for (wire_before t) (wire_after t) (target_before start t) call)
 

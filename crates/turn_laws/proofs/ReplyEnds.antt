@@ -1,5 +1,5 @@
 -- The deaths and ends of a response that the target got: those of the agent whose transaction it closes, over what a run told, and none else.
-use Rattle.std.proofs.Common.{◌≡◌, ◌∙◌, refl, sym, ap, subst, ℕ, suc, ◌<◌, ◌||◌, not, is_some, Bool, true, false, cond, List, [], ◌∷◌, Option, Some, Ok}
+use Rattle.std.proofs.Common.{arith, ◌+◌, length, ◌≡◌, ◌∙◌, refl, sym, ap, subst, ℕ, suc, ◌<◌, ◌||◌, not, is_some, Bool, true, false, cond, List, [], ◌∷◌, Option, Some, Ok}
 use Rattle.async_packet.specs.Labels.{LabelParts}
 use Rattle.async_packet.specs.Packet.{Packet, header_in}
 use Rattle.async_packet.specs.Reading.{reading}
@@ -30,6 +30,7 @@ use Rattle.sbp_journal.specs.declared.note.Note.TheVariants as notes
 use Rattle.sbp_laws.specs.Agents.{AgentTurn, agent_turn, list_taken, listed_at, told_among, untold_among}
 use Rattle.sbp_laws.specs.NoteKinds.{is_end_note, of_kind}
 use Rattle.sbp_laws.specs.Packets.{finds_label}
+use Rattle.sbp_laws.specs.SentRequests.{behind_answer}
 use Rattle.sbp_laws.specs.SentWrites.{writes_to}
 use Rattle.sbp_laws.specs.Targets.{Agent, Target, agent_at, initiator_at, over, target_at}
 use Rattle.sbp_laws.specs.Turns.{Turn, turn}
@@ -63,11 +64,12 @@ use Rattle.turn_laws.proofs.EndTries.{brought, brought_sides}
 use Rattle.turn_laws.proofs.FollowEnds.{ends_in}
 use Rattle.turn_laws.proofs.FollowSends.{requests, requests_to_peer}
 use Rattle.turn_laws.proofs.FollowSides.{AreBeside, beside_others}
-use Rattle.turn_laws.proofs.PushSends.{Pushes}
+use Rattle.turn_laws.proofs.PushSends.{Pushes, pushes_told}
 use Rattle.turn_laws.proofs.SentAnswers.{none_due}
-use Rattle.turn_laws.proofs.TurnSends.{SendsOwn, response_is, sends_alone}
+use Rattle.turn_laws.proofs.TurnCounts.{pushed_in, turn_counts}
+use Rattle.turn_laws.proofs.TurnSends.{SendsOwn, all_alone, response_is, sends_alone}
 use Rattle.turn_laws.proofs.TurnWrites.{all_writes, turn_writes}
-use Rattle.turn_laws.proofs.FoundLabels.{peer_is, response_finds, response_labels, response_spells}
+use Rattle.turn_laws.proofs.FoundLabels.{peer_is, response_finds, response_labels, response_spells, i as held_i}
 use Rattle.turn_laws.proofs.FreeLabels.{KnowsLabels}
 use Rattle.turn_laws.proofs.Handed.{handed}
 use Rattle.turn_laws.proofs.Places.{Place}
@@ -208,6 +210,18 @@ module _ (units ready : ℕ) (has : 0 < units) (start : List Disk) (past : List 
             (none_due start ms serial (as_sending one) (was_sent w here.holds.sound.stands serial one found) rest (response_is one.bytes p read some))
             (subst (λ (y : OutboxState). Pushes node.logins.places login.unit q out y.packets) (sym o_is) tells.sends)
 
+        counted : length (behind_answer start (t rest)) ≡ length (requests q login (found_at q new login own.0 own.1) new tells.behind own.0 own.1) + pushed_in rest
+        counted =
+            let out = requests q login (found_at q new login own.0 own.1) new tells.behind own.0 own.1 in
+            let pushes : Pushes node.logins.places login.unit q out o.packets = subst (λ (y : OutboxState). Pushes node.logins.places login.unit q out y.packets) (sym o_is) tells.sends in
+            let c : length o.packets + 0 ≡ 0 + length out + pushes_told o.sides = subst (λ (y : OutboxState). length y.packets + 0 ≡ 0 + length out + pushes_told y.sides) (sym o_is) tells.counted in
+            turn_counts start (t rest) w.generations node.logins.places (λ k other f up. ap (λ x. is_some x) (peer_is units ready start past s here k other f up)) login.node (suc (held_i units ready start past s here q login there live)) (peer_is units ready start past s here q login there live) out
+            (requests_to_peer q login (found_at q new login own.0 own.1) new tells.behind own.0 own.1) login.unit q o now (beside_others o.sides beside) rest_is
+            o.packets pushes.more
+            (all_alone start (t rest) w.generations o now (still_bus (with_target x w)) (beside_others o.sides beside) rest_is
+            (none_due start ms serial (as_sending one) (was_sent w here.holds.sound.stands serial one found) rest (response_is one.bytes p read some)))
+            pushes.is pushes.pushes (omega (arith, c))
+
         is_turn : IsTurnOf start T (t rest) (law_turn plain rest) own.0 own.1 login new
         is_turn = record {
           step_is = steps.step;
@@ -236,6 +250,7 @@ module _ (units ready : ℕ) (has : 0 < units) (start : List Disk) (past : List 
           behind_is = tells.behind_is;
           writes = writes;
           sends = sends;
+          counted = counted;
           holders = holder w;
           tickets = ticket_at w;
           told = ends;

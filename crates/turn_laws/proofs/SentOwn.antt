@@ -1,5 +1,5 @@
 -- The packets of a turn are requests where their bytes are of the requests' bodies: they stand behind its effects, which say nothing of the wire, and each one is as a node sends it.
-use Rattle.std.proofs.Common.{arith, ◌≡◌, ◌∙◌, refl, sym, ap, subst, ℕ, ◌+◌, Bool, true, false, cond, List, [], ◌∷◌, ◌++◌, length, Option, Some, None}
+use Rattle.std.proofs.Common.{suc, arith, ◌≡◌, ◌∙◌, refl, sym, ap, subst, ℕ, ◌+◌, Bool, true, false, cond, List, [], ◌∷◌, ◌++◌, length, Option, Some, None}
 use Rattle.std.specs.List.{AllByRecursion}
 use Rattle.bus_transactions.specs.Packets.{SerialsCount}
 use Rattle.bus_transactions.specs.Sent.{AreSent}
@@ -174,6 +174,14 @@ both_for node [] b (want ∷ x) y h k = absurd h
 both_for node (notes.Sent serial generation from to bytes ∷ a) b [] y h k = absurd h
 both_for node (notes.Sent serial generation from to bytes ∷ a) b (want ∷ x) y h k = (h.0, both_for node a b x y h.1 k)
 both_for node (note ∷ a) b x y h k = absurd h
+
+-- as many
+pub for_length : (node : ℕ) (packets : List Note) (wants : List Request) → AreFor node packets wants → length packets ≡ length wants
+for_length node [] [] h = refl
+for_length node [] (want ∷ wants) h = absurd h
+for_length node (notes.Sent serial generation from to bytes ∷ packets) [] h = absurd h
+for_length node (notes.Sent serial generation from to bytes ∷ packets) (want ∷ wants) h = ap suc (for_length node packets wants h.1)
+for_length node (note ∷ packets) wants h = absurd h
 
 module _ (t : Terms) (node : ℕ) (want : Request) (serial generation from to : ℕ) (bytes : List ℕ) (number : serial ≡ t.count + 1) (sender : from ≡ node) (receiver : to ≡ want.to) (own : bus.IsOwn t generation node want.to bytes) where
   asked_as : (is_untold : Bool) (body : Body) → AskFor is_untold body bytes → IsAsked is_untold body t node want serial generation from to bytes

@@ -27,6 +27,7 @@ use Rattle.turn_laws.proofs.RunEnds.{runs_end_law}
 use Rattle.turn_laws.proofs.SentPackets.{packets_run_law}
 use Rattle.turn_laws.proofs.Silent.{silent_law}
 use Rattle.turn_laws.proofs.Statuses.{statuses_law}
+use Rattle.turn_laws.proofs.TargetRequests.{target_requests_law}
 use Rattle.turn_laws.proofs.Unserved.{unserved_law}
 
 pub turns_law : TurnsLaw
@@ -39,6 +40,7 @@ turns_law = record {
     agent_requests = agent_requests_law.after_lines line run is some most size;
     manager_requests = manager_requests_law.after_lines line run is some most size;
     push_requests = push_requests_law.after_lines line run is some most size;
+    target_requests = target_requests_law.after_lines line run is some most size;
     ordered = ordered_law.after_lines line run is some most size;
     cuts = cuts_law.after_lines line run is some most size;
     cleared = cleared_law.after_lines line run is some most size;
@@ -69,6 +71,7 @@ turns_law = record {
     agent_requests = agent_requests_law.between line run is some most size next deliveries told may;
     manager_requests = manager_requests_law.between line run is some most size next deliveries told may;
     push_requests = push_requests_law.between line run is some most size next deliveries told may;
+    target_requests = target_requests_law.between line run is some most size next deliveries told may;
     ordered = ordered_law.between line run is some most size next deliveries told may;
     cuts = cuts_law.between line run is some most size next deliveries told may;
     cleared = cleared_law.between line run is some most size next deliveries told may;

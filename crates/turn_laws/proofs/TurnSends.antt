@@ -1,5 +1,5 @@
 -- What the target sends in a turn of an agent, behind the response of the turn: the agent's requests, and others behind them.
-use Rattle.std.proofs.Common.{◌≡◌, ◌∙◌, refl, sym, ap, subst, ℕ, Bool, true, false, List, [], ◌∷◌, ◌++◌, append_assoc, is_some, drop, length, Option, Some, None, Ok}
+use Rattle.std.proofs.Common.{suc, ◌≡◌, ◌∙◌, refl, sym, ap, subst, ℕ, Bool, true, false, List, [], ◌∷◌, ◌++◌, append_assoc, is_some, drop, length, Option, Some, None, Ok}
 use Rattle.std.proofs.lemmas.Option.{same_Some}
 use Rattle.async_packet.specs.Packet.{Packet}
 use Rattle.async_packet.specs.Reading.{reading}
@@ -73,6 +73,12 @@ sent_for g (packet ∷ later) [] w same h = absurd h
 sent_for g (packet ∷ later) (want ∷ requests) w same h =
     let v = sent 0 packet w in
     one_for (node_of w.generations 0 packet.to) packet w want (notes_sent 0 later v) requests (ap (λ (x : GenerationsState). node_of x 0 packet.to) same ∙ h.0.0) h.0.1 (sent_for g later requests v (sent_generations packet w ∙ same) h.1)
+
+pub sent_length : (g : GenerationsState) (packets : List Outgoing) (wants : List Request) → AreSentFor g packets wants → length packets ≡ length wants
+sent_length g [] [] h = refl
+sent_length g [] (want ∷ wants) h = absurd h
+sent_length g (packet ∷ packets) [] h = absurd h
+sent_length g (packet ∷ packets) (want ∷ wants) h = ap suc (sent_length g packets wants h.1)
 
 pub both_sent : (g : GenerationsState) (a b : List Outgoing) (x y : List Request) → AreSentFor g a x → AreSentFor g b y → AreSentFor g (a ++ b) (x ++ y)
 both_sent g [] b [] y h k = k

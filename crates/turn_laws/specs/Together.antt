@@ -30,6 +30,7 @@ use Rattle.turn_laws.specs.PushRequests.{PushesAsk}
 use Rattle.turn_laws.specs.Pushes.{PushesWhereDue}
 use Rattle.turn_laws.specs.Runs.{OfEveryRun}
 use Rattle.turn_laws.specs.Silent.{EndsHeard}
+use Rattle.turn_laws.specs.TargetRequests.{TargetAsks}
 use Rattle.turn_laws.specs.Unserved.{UnservedWhereTold}
 
 pub record LawfulInTurns (start : List Disk) (past : List Moment) : Type 0 where
@@ -40,6 +41,7 @@ pub record LawfulInTurns (start : List Disk) (past : List Moment) : Type 0 where
   pub agent_requests : EachTurn (AgentAsks start) past
   pub manager_requests : EachTurn (ManagerAsks start) past
   pub push_requests : EachTurn (PushesAsk start) past
+  pub target_requests : EachTurn (TargetAsks start) past
   pub ordered : EachTurn Ordered past
   pub cuts : EachTurn (CutsWhereDue start) past
   pub cleared : EachTurn (ClearsWhereDue start) past

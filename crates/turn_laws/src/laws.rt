@@ -29,6 +29,7 @@ ghost use Rattle.turn_laws.specs.PushRequests.{PushRequestsLaw};
 ghost use Rattle.turn_laws.specs.Pushes.{PushesLaw};
 ghost use Rattle.turn_laws.specs.Silent.{SilentLaw};
 ghost use Rattle.turn_laws.specs.Statuses.{StatusesLaw};
+ghost use Rattle.turn_laws.specs.TargetRequests.{TargetRequestsLaw};
 ghost use Rattle.turn_laws.specs.UnderWay.{AfterLaw, RomsWaitLaw, TargetWaitsLaw};
 ghost use Rattle.turn_laws.specs.Unserved.{UnservedLaw};
 
@@ -319,4 +320,13 @@ pub fn operations_send_their_requests()
 #[tactic(auto, using(crate::proofs::PushRequests::push_requests_law))]
 pub fn unsolicited_statuses_are_sent_where_due()
     ensures { PushRequestsLaw }
+{}
+
+/// In each turn of every run that the target has, whatever anybody injected, the packets behind its response are exactly
+/// its requests, in their order, and no more: those of an agent, as `agents_send_their_requests` has them, that of the
+/// management operation, and those of unsolicited statuses. A turn has none where it is for nobody. Of `requests` of the
+/// sent law the turns of the target: those in which it gets a packet, or one of its transactions times out.
+#[tactic(auto, using(crate::proofs::TargetRequests::target_requests_law))]
+pub fn targets_send_their_requests()
+    ensures { TargetRequestsLaw }
 {}
