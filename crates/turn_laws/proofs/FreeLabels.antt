@@ -10,7 +10,6 @@ use Rattle.bus_transactions.specs.Wire.{Node, Wire, id_for, transaction}
 use Rattle.bus_transactions.proofs.Bares.{takes_steps}
 use Rattle.bus_transactions.proofs.Places.{Places}
 use Rattle.bus_transactions.proofs.Rooms.{HasRoom, has_room, position_map}
-use Rattle.bus_transactions.proofs.Stands.{Stands as Holds}
 use Rattle.bus_transactions.proofs.Steps.{AskedAs, asks, may_take}
 use Rattle.label_table.specs.declared.judgement.Asked.{Asked}
 use Rattle.label_table.specs.declared.place.LabelState.{LabelState}
@@ -275,25 +274,19 @@ module _ {P : Type 0} {past : List Moment} {layers : ℕ → Node} (w : WorldSta
   abbrev row : ℕ → ℕ
   row = T.ids (T.generation node)
 
-  wire_holds : Holds wire
-  wire_holds = holds wire stands.reached
-
-  layer_is : wire.layer node ≡ bare layer
-  layer_is = stands.is.layers_are node node_there ∙ own_is
-
   few : peer < 5
   few = let f = stands.is.few in omega (arith, f, peer_there)
 
   row_is : row peer ≡ id
-  row_is = sym (ap (λ g. T.ids g peer) (wire_holds.nodes node).generation) ∙ id_is
+  row_is = sym (ap (λ g. T.ids g peer) ((holds wire stands.reached).nodes node).generation) ∙ id_is
 
   roomy : Roomy row (bare layer)
-  roomy = let n = wire_holds.nodes node in subst (Roomy row) layer_is (record { places = n.places; room = n.peer_room })
+  roomy = let n = (holds wire stands.reached).nodes node in subst (Roomy row) (stands.is.layers_are node node_there ∙ own_is) (record { places = n.places; room = n.peer_room })
 
   free_as : (l : ℕ) → is_free (state_for (bare layer).peers (row peer) l) ≡ packets.is_free (T.held (packets.to_peer T node peer l))
   free_as l =
-      sym (ap (λ (x : Node). is_free (state_for x.peers (row peer) l)) layer_is)
-      ∙ (free_state (state_for (wire.layer node).peers (row peer) l) ∙ (ap is_idle ((wire_holds.nodes node).states_are peer l) ∙ free_held (T.held (transaction (T.generation node) node peer l))))
+      sym (ap (λ (x : Node). is_free (state_for x.peers (row peer) l)) (stands.is.layers_are node node_there ∙ own_is))
+      ∙ (free_state (state_for (wire.layer node).peers (row peer) l) ∙ (ap is_idle (((holds wire stands.reached).nodes node).states_are peer l) ∙ free_held (T.held (transaction (T.generation node) node peer l))))
 
   frees_at : free_labels layer (row peer) ≡ packets.free_labels T node peer
   frees_at = frees_are row peer few layer roomy ∙ same_count 64 (λ l. is_free (state_for (bare layer).peers (row peer) l)) (λ l. packets.is_free (T.held (packets.to_peer T node peer l))) (λ l b. free_as l)

@@ -157,6 +157,11 @@ module _ (size : ℕ) (p : Packet) (access : Access) (small : size ≤ 1024) (is
   manage_calls : start_in (Some access) source ≡ no_call → ⊥
   manage_calls = served_calls (start_serves (start_at access.offset) access) refl
 
+-- a cut sends nothing
+pub cut_packets : (b : Bool) (cause : CutCause) (place : ℕ) (o : OutboxState) → (told_cut b place cause o).packets ≡ o.packets
+cut_packets true cause place o = refl
+cut_packets false cause place o = refl
+
 -- ---- a time-out
 module _ (units ready : ℕ) (has : 0 < units) (start : List Disk) (past : List Moment) (s : Scene) (here : Place units ready start past s) (serial : ℕ) (request : Request) (found : find s.world.requests serial ≡ Some request) (zero_is : request.node ≡ 0) where
   abbrev w : WorldState
@@ -273,10 +278,6 @@ module _ (units ready : ℕ) (has : 0 < units) (start : List Disk) (past : List 
         let there = access_there p none in
         ap F (request_brings units ready has start past s here serial one found zero_to p read none ∙ ap write_in there.is)
         ∙ (request_takes F None pointed rung takes (length Node.rom) p there.access here.holds.rom there.is ∙ ap (demand_takes F None pointed rung takes) d)
-
-    cut_packets : (b : Bool) (cause : CutCause) (q : ℕ) (y : OutboxState) → (told_cut b q cause y).packets ≡ y.packets
-    cut_packets true cause q y = refl
-    cut_packets false cause q y = refl
 
     -- a pointer that is refused; one that is taken is for its agent
     module _ (q : ℕ) (b : q < 8) (pointer : OrbPointer) (demand : demand_of (length Node.rom) p ≡ demands.Agent q (accesses.Point pointer)) where

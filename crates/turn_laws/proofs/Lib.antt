@@ -202,6 +202,7 @@ pub mod IdleSends
 pub mod RequestPackets
 pub mod AgentRequests
 pub mod TargetRequests
+pub mod OtherRequests
 pub mod TurnCounts
 pub mod ManagerRequests
 pub mod PushRequests

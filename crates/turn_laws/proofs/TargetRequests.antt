@@ -17,7 +17,6 @@ use Rattle.sbp_laws.specs.Packets.{access_at, answer_in, answered_at, finds_labe
 use Rattle.sbp_laws.specs.SentRequests.{ArePackets, Asks, RequestsLaw, agent_requests, asks, asks_at, asks_by, before_requests, behind_answer, expiring, target_requests}
 use Rattle.sbp_laws.specs.Targets.{Purpose, Target, for_agent, for_manager, for_nobody, initiator_with, is_serial, purpose_of}
 use Rattle.sbp_laws.specs.Turns.{EachTurn, Turn}
-use Rattle.sbp_world.proofs.Common.{equal, untrue}
 use Rattle.turn_laws.specs.Runs.{OfEveryRun}
 use Rattle.turn_laws.specs.TargetRequests.{IsTargets, TargetAsks, TargetRequestsLaw, gets_it, times_out}
 use Rattle.turn_laws.proofs.AgentDue.{HasTurn, TellsEnds, TellsFor, turn_in}
@@ -108,36 +107,14 @@ event_calls (replies reply) call T wire rest a n e = n
 event_calls (writes name place access) call T wire rest a n e = n
 event_calls nothing call T wire rest a n e = absurd (let no : None ≡ Some a = e in cc)
 
--- ---- a turn that is for an agent is the target's
-serial_is : (o : Option ℕ) (serial : ℕ) → is_serial o serial ≡ true → o ≡ Some serial
-serial_is None serial e = untrue e
-serial_is (Some other) serial e = ap Some (equal other serial e)
-
+-- ---- a turn that is for an agent
 module _ (start : List Disk) (t : Turn) (a : AgentTurn) (its : turn_in start t ≡ Some a) where
   abbrev T : Target
   T = target_before start t
 
-  abbrev wire : Terms
-  wire = terms t.past
-
-  abbrev Turns : Event → Type 0
-  Turns event = agent_turn event T wire t.rest ≡ Some a
-
-  if_turns : (x : Bool) (event : Event) → Turns (cond x event nothing) → x ≡ true
-  if_turns true event e = refl
-  if_turns false event e = absurd (let no : None ≡ Some a = e in cc)
-
-  by_start : (m : Moment) → t.start ≡ m → Turns (event_by m T wire) → IsTargets t
-  by_start (said (notes.Got serial)) e f = gets_it serial e (serial_is (receiver_in (wire.sent serial)) 0 (if_turns (is_serial (receiver_in (wire.sent serial)) 0) _ f))
-  by_start (said (notes.TimedOut serial)) e f = times_out serial e (serial_is (sender_in (wire.sent serial)) 0 (if_turns (is_serial (sender_in (wire.sent serial)) 0) _ f))
-  by_start m e f = absurd (let no : None ≡ Some a = f in cc)
-
-  pub agent_turns : IsTargets t
-  agent_turns = by_start t.start refl its
-
   pub no_operation : manager_requests T t ≡ []
   no_operation =
-      let none : call_of T t ≡ no_call = event_calls (agent_event start t) (call_of T t) T wire t.rest a (moment_calls T wire t.start) its in
+      let none : call_of T t ≡ no_call = event_calls (agent_event start t) (call_of T t) T (terms t.past) t.rest a (moment_calls T (terms t.past) t.start) its in
       ap (λ c. sent_in (operator_of T t) (finds_label (wire_after t) 0 (suc (operator_of T t))) (manager_turn c T)) none
 
   -- of such a turn the law holds where what it sends behind the agent's requests are unsolicited statuses that are due

@@ -21,6 +21,7 @@ use Rattle.turn_laws.proofs.ManagerRequests.{manager_requests_law}
 use Rattle.turn_laws.proofs.PushRequests.{push_requests_law}
 use Rattle.turn_laws.proofs.Pushes.{pushes_law}
 use Rattle.turn_laws.proofs.Once.{once_law}
+use Rattle.turn_laws.proofs.OtherRequests.{other_requests_law}
 use Rattle.turn_laws.proofs.OrderRuns.{ordered_law}
 use Rattle.turn_laws.proofs.RomRuns.{after_law}
 use Rattle.turn_laws.proofs.RunEnds.{runs_end_law}
@@ -41,6 +42,7 @@ turns_law = record {
     manager_requests = manager_requests_law.after_lines line run is some most size;
     push_requests = push_requests_law.after_lines line run is some most size;
     target_requests = target_requests_law.after_lines line run is some most size;
+    other_requests = other_requests_law.after_lines line run is some most size;
     ordered = ordered_law.after_lines line run is some most size;
     cuts = cuts_law.after_lines line run is some most size;
     cleared = cleared_law.after_lines line run is some most size;
@@ -72,6 +74,7 @@ turns_law = record {
     manager_requests = manager_requests_law.between line run is some most size next deliveries told may;
     push_requests = push_requests_law.between line run is some most size next deliveries told may;
     target_requests = target_requests_law.between line run is some most size next deliveries told may;
+    other_requests = other_requests_law.between line run is some most size next deliveries told may;
     ordered = ordered_law.between line run is some most size next deliveries told may;
     cuts = cuts_law.between line run is some most size next deliveries told may;
     cleared = cleared_law.between line run is some most size next deliveries told may;

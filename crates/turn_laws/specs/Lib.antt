@@ -35,3 +35,4 @@ pub mod AgentRequests
 pub mod PushRequests
 pub mod ManagerRequests
 pub mod TargetRequests
+pub mod OtherRequests

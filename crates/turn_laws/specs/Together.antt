@@ -27,6 +27,7 @@ use Rattle.turn_laws.specs.Faults.{DiesBeforeFaults}
 use Rattle.turn_laws.specs.ManagerRequests.{ManagerAsks}
 use Rattle.turn_laws.specs.Once.{DiesOnce}
 use Rattle.turn_laws.specs.PushRequests.{PushesAsk}
+use Rattle.turn_laws.specs.OtherRequests.{OtherAsks}
 use Rattle.turn_laws.specs.Pushes.{PushesWhereDue}
 use Rattle.turn_laws.specs.Runs.{OfEveryRun}
 use Rattle.turn_laws.specs.Silent.{EndsHeard}
@@ -42,6 +43,7 @@ pub record LawfulInTurns (start : List Disk) (past : List Moment) : Type 0 where
   pub manager_requests : EachTurn (ManagerAsks start) past
   pub push_requests : EachTurn (PushesAsk start) past
   pub target_requests : EachTurn (TargetAsks start) past
+  pub other_requests : EachTurn (OtherAsks start) past
   pub ordered : EachTurn Ordered past
   pub cuts : EachTurn (CutsWhereDue start) past
   pub cleared : EachTurn (ClearsWhereDue start) past

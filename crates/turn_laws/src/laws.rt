@@ -23,6 +23,7 @@ ghost use Rattle.turn_laws.specs.ManagerRequests.{ManagerRequestsLaw};
 ghost use Rattle.turn_laws.specs.Once.{OnceLaw};
 ghost use Rattle.turn_laws.specs.Operations.{NoneEndsLaw};
 ghost use Rattle.turn_laws.specs.Ordered.{OrderedLaw};
+ghost use Rattle.turn_laws.specs.OtherRequests.{OtherRequestsLaw};
 ghost use Rattle.turn_laws.specs.Packets.{PacketsLaw};
 ghost use Rattle.turn_laws.specs.RunsEnd.{RunsEndLaw};
 ghost use Rattle.turn_laws.specs.PushRequests.{PushRequestsLaw};
@@ -329,4 +330,12 @@ pub fn unsolicited_statuses_are_sent_where_due()
 #[tactic(auto, using(crate::proofs::TargetRequests::target_requests_law))]
 pub fn targets_send_their_requests()
     ensures { TargetRequestsLaw }
+{}
+
+/// In each turn of every run that no delivery, no time-out and no action begins, whatever anybody injected, no node sends
+/// anything: a reset that a node sees, a second, the end of a settle, and a line that is no action. An injected packet is
+/// no node's. Of `requests` of the sent law these turns, in which it has none.
+#[tactic(auto, using(crate::proofs::OtherRequests::other_requests_law))]
+pub fn other_turns_send_nothing()
+    ensures { OtherRequestsLaw }
 {}
