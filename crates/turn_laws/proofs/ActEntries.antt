@@ -25,6 +25,7 @@ use Rattle.turn_laws.specs.Actions.{ActsByRows}
 use Rattle.turn_laws.proofs.Actions.{does_so, refuses_so}
 use Rattle.turn_laws.proofs.Handed.{handed, handed_fresh, onto}
 use Rattle.turn_laws.proofs.KindNotes.{join_same}
+use Rattle.turn_laws.proofs.KnownRuns.{Known, known_after}
 use Rattle.turn_laws.proofs.Places.{Place, ended_place}
 
 -- notes that were put one behind the other, in the order of time
@@ -36,18 +37,18 @@ in_time [] old = sym (behind_none (reverse old))
     behind_none (x ∷ xs) = ap (λ ys. x ∷ ys) (behind_none xs)
 in_time (note ∷ rest) old = in_time rest (note ∷ old) ∙ ap (λ ns. ns ++ rest) (reversed note old) ∙ sym (join_same (reverse old) (note ∷ []) rest)
 
-module _ (units ready : ℕ) (start : List Disk) (past : List Moment) (s : Scene) (here : Place units ready start past s) (line : ℕ) where
+module _ (units ready : ℕ) (start : List Disk) (past : List Moment) (s : Scene) (here : Place units ready start past s) (k : Known start (hist past s.world) s) (line : ℕ) where
   abbrev ms : List Moment
   ms = hist past s.world
 
   module _ (i : ℕ) (action : Action) (inside : i < length s.world.initiators) where
     acts_by : (x : Option ℕ × Called) → act_step action empty_outbox (initiator_at s.world i) ≡ x → ActsByRows (turn ms (asked line (events.Act i action)) (reverse (acted_by x line i action (without_notes s.world)).fresh))
-    acts_by (Some number, (outbox, state)) e = refuses_so units ready start past s here i inside action line number (ap (λ (z : Option ℕ × Called). z.0) e)
+    acts_by (Some number, (outbox, state)) e = refuses_so units ready start past s here i inside action k line number (ap (λ (z : Option ℕ × Called). z.0) e)
     acts_by (None, (outbox, state)) e =
         let v = with_initiator i state (without_notes s.world) in
         subst (λ ns. ActsByRows (turn ms (asked line (events.Act i action)) ns))
         (sym (ap reverse (handed_fresh (i + 1) (weight_in action) outbox v) ∙ in_time (handed (i + 1) (weight_in action) outbox v) []))
-        (does_so units ready start past s here i inside action line (weight_in action) outbox state v e)
+        (does_so units ready start past s here i inside action k line (weight_in action) outbox state v e)
 
     acts : ActsByRows (turn ms (asked line (events.Act i action)) (reverse (acted line i action (without_notes s.world)).fresh))
     unfolding acted
@@ -71,7 +72,8 @@ module _ (line : ℕ) (run : Run) (few : run.initiators ≤ 4) (has : 0 < run.un
       let s = after (beginning run) earlier in
       let b : HoldsAfter line run earlier s.world = holds_after line run earlier few has small size short_then every.1 fit.1 in
       let here = ended_place line run few has small size earlier short_then every.1 fit.1 b.past b.holds b.is in
-      let acts = line_acts run.units _ run.start.disks b.past s here e.line e.event e.told fit.0 in
+      let k = subst (λ ms. Known run.start.disks ms s) (sym b.is) (known_after line run few has small size earlier short_then every.1 fit.1) in
+      let acts = line_acts run.units _ run.start.disks b.past s here k e.line e.event e.told fit.0 in
       let before : hist b.past s.world ≡ history (journal_entries line run earlier) = b.is ∙ sym (tied line run earlier) in (
         subst (λ ns. ActsByRows (turn (history (journal_entries line run earlier)) (asked e.line e.event) (reverse ns))) (sym every.0.notes_are)
             (subst (λ ms. ActsByRows (turn ms (asked e.line e.event) (reverse (happens e.line e.event e.told s).world.fresh))) before acts),

@@ -160,11 +160,6 @@ module _ (past : List Moment) (i : ℕ) (s : InitiatorState) (tied : Tied past i
     abbrev found : Bool
     found = finds_label action s
 
-    -- by its own rows of these
-    pub refuses_own : refusal_of (record (told found) { no_rom = (has found).no_rom; dead_seen = (has found).dead_seen; no_label = (has found).no_label }) ≡ (act_step action o s).0
-    unfolding refusal
-    refuses_own = rows_with found (has found).no_rom (has found).no_label refl (λ n. refl) ∙ sym (refusal_law.first action o s)
-
     -- by the terms, where they are tied to what it has
     module _ (l : NoRow (has found) → (told found).no_label ≡ (has found).no_label) (rom : own_rows.needs_rom action ≡ true → is_none host.management ≡ not (is_some s.management)) where
       pub refuses_but : refusal_of (record (told found) { dead_seen = (has found).dead_seen }) ≡ (act_step action o s).0
@@ -178,7 +173,3 @@ module _ (past : List Moment) (i : ℕ) (s : InitiatorState) (tied : Tied past i
       refuses_as dead =
           ap (λ b. refusal_of (record (told found) { dead_seen = b })) (ap (λ b. b && host.marked_dead) (cares_same action) ∙ same_where (own_rows.prepares action || own_rows.rings action) _ _ dead)
           ∙ refuses_but
-
--- what needs no ROM has no row of it
-pub none_needed : (past : List Moment) (i : ℕ) (host : Host) (action : Action) → own_rows.needs_rom action ≡ false → (refusals past i action host).no_rom ≡ false
-none_needed past i host action e = ap (λ b. b && is_none host.management) (needs_same action ∙ e)

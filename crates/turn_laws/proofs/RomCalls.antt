@@ -56,7 +56,7 @@ use Rattle.sbp_world.proofs.Pointers.Finds.{expires_at, none_ended, same_serial}
 use Rattle.sbp_world.proofs.Pointers.WaitActs.{none_seen}
 use Rattle.turn_laws.proofs.OwnTurns.{by_life}
 use Rattle.turn_laws.proofs.ReadsUnderWay.{LapsedFor, expire_goes}
-use Rattle.turn_laws.proofs.RomLabels.{CallRom, IfRom, IsGone, OneRom, RomAt, Within, called_layer, ended_call, from, next_call, plainly, same_rom, reads, sends_none, was_by}
+use Rattle.turn_laws.proofs.RomLabels.{CallRom, IsGone, OneRom, RomAt, Within, called_layer, ended_call, from, next_call, plainly, same_rom, reads, sends_none, was_by}
 
 -- ---- a transaction that timed out is over
 module _ (layer : Layer Purpose) (peer : ℕ) (label : LabelParts) (purpose : Option Purpose) (c : Called layer) (f : (expiring_step layer peer label).0 ≡ Ok purpose) where
@@ -184,7 +184,7 @@ module _ (ready : Bool) (i : ℕ) (s : InitiatorState) (own : IsCalled ready i s
   unfolding done_step
   rom_asked (None, l) step free e = some_none 10 e
   rom_asked (Some asked, l) step free e =
-      next_call s h (asked_as (Some asked, l) actions.Rom empty_outbox s).1 refl small s.layer valid c (λ n a x. (let k = h.runs n a x in none_is k.running (sym free ∙ k.is))) (wanted_body demand.wanted) asked (record { operation = operations.Rom; act = s.counts.acts; managed = None }) (omega arith) refl refl step refl
+      next_call s h (asked_as (Some asked, l) actions.Rom empty_outbox s).1 refl small s.layer valid c (λ n a x. (let k = h.runs n a x in none_is k.running (sym free ∙ k.is))) 0xffff_f000_0400 asked (record { operation = operations.Rom; act = s.counts.acts; managed = None }) (omega arith) refl refl step refl
 
   rom_judged : (refused : Option ℕ) → s.operation ≡ None → (judged_as refused actions.Rom empty_outbox s).0 ≡ None → CallRom s (judged_as refused actions.Rom empty_outbox s).1
   rom_judged (Some number) free e = some_none number e
@@ -274,7 +274,7 @@ module _ (ready : Bool) (i : ℕ) (s : InitiatorState) (own : IsCalled ready i s
         by (packet ∷ other ∷ more) e r = absurd r
 
 -- ---- a sight of a later generation: no label is left, and no operation
-see_over : (generation id target : ℕ) (s : InitiatorState) → nat_lt s.layer.generation generation ≡ true → (see_step generation id target empty_outbox s).1.operation ≡ None
+pub see_over : (generation id target : ℕ) (s : InitiatorState) → nat_lt s.layer.generation generation ≡ true → (see_step generation id target empty_outbox s).1.operation ≡ None
 unfolding see_step seeing_step
 see_over generation id target s e =
     ap (λ b. (seen_as (cond b (true, seen_in_generation s.layer generation id) (false, s.layer)) target empty_outbox s).1.operation) e

@@ -160,7 +160,7 @@ judged_mine serial (judgements.Ignored cause) j = refl
 abbrev Law : List Disk → List Moment → Type 0
 Law start ms = RomsWait ms
 
-abbrev Carried : List Disk → List Moment → Scene → Type 0
+abbrev pub Carried : List Disk → List Moment → Scene → Type 0
 Carried start ms s = RomsOf ms s.world
 
 module _ (units ready : ℕ) (start : List Disk) where
@@ -180,7 +180,7 @@ module _ (units ready : ℕ) (start : List Disk) where
   settled_roms past s true k = note_turn (hist past s.world) s.world k notes.Settled (with_note notes.Settled s.world) refl (λ j. refl)
   settled_roms past s false k = note_turn (hist past s.world) s.world k notes.Stopped (with_note notes.Stopped s.world) refl (λ j. refl)
 
-  rom_cases : CarriedCases units ready start (Carried start) (λ t. RomsWait (end_of t))
+  pub rom_cases : CarriedCases units ready start (Carried start) (λ t. RomsWait (end_of t))
   rom_cases = record {
     heard = λ past s serial again run one found zero_to may others here behind told k.
         let x = received run one.generation one.bytes (whole_of s.world.target s.media) in
@@ -273,7 +273,7 @@ first_none i n a ready x = not_yet x.kind (Some (purposes.Rom a)) (at_life (0xff
     not_yet : (kind : ReplyKind) (purpose : Option Purpose) → not_begun ≡ under_way kind purpose → ⊥
     not_yet kind purpose e = cc
 
-idle_first : (i : ℕ) (ready : Bool) → (new_state i ready).operation ≡ None
+pub idle_first : (i : ℕ) (ready : Bool) → (new_state i ready).operation ≡ None
 unfolding new_state
 idle_first i ready = refl
 
@@ -285,9 +285,10 @@ first_rom past i ready = record {
     has = λ r e f. none_is r (sym (idle_first i ready) ∙ e);
   };
   tie = λ n a x u e. absurd (first_none i n a ready x);
+  kind = λ n a x. absurd (first_none i n a ready x);
 }
 
-first_roms : Begins Carried
+pub first_roms : Begins Carried
 unfolding new_world
 first_roms line run has there = record {
   count = sym (initiators_size run.initiators run.ready);

@@ -1,8 +1,7 @@
 -- What an action of an initiator brings, in each turn that begins with its line: a refusal and nothing else, or its notes, and behind them what it sends. It is refused exactly where a row holds, with the
--- least number of those that hold. Three rows are the initiator's own here: whether a ROM was read, of a login and a query; whether the list is marked dead, of what prepares an ORB or rings; and whether a
--- label serves, of what has a management ORB. Of all others each row is that of the run terms.
+-- least number of those that hold. One row is the initiator's own here: whether the list is marked dead, of what prepares an ORB or rings. Of all others each row is that of the run terms.
 use Rattle.std.specs.Prelude.{◌≡◌, ◌⊎◌, ◌||◌, not, ℕ, Bool, false, List}
-use Rattle.sbp_initiator.specs.Refusals.{needs_rom, prepares, rings}
+use Rattle.sbp_initiator.specs.Refusals.{prepares, rings}
 use Rattle.sbp_journal.specs.Rows.{refusal_of}
 use Rattle.sbp_journal.specs.Run.{Moment, asked}
 use Rattle.sbp_journal.specs.declared.event.Action.{Action}
@@ -10,27 +9,22 @@ use Rattle.sbp_journal.specs.declared.event.Event.TheVariants as events
 use Rattle.sbp_journal.specs.declared.note.Note.{Note}
 use Rattle.sbp_laws.specs.ActionLaw.{Acts, ActsOr}
 use Rattle.sbp_laws.specs.Actions.{refusal_at, refusals}
-use Rattle.sbp_laws.specs.Hosts.{host_at, operation_of}
+use Rattle.sbp_laws.specs.Hosts.{host_at}
 use Rattle.sbp_laws.specs.LineLaw.{refused}
 use Rattle.sbp_laws.specs.Turns.{EachTurn, Turn, Where}
-use Rattle.sbp_world.specs.Pointers.Moments.{manages}
 use Rattle.turn_laws.specs.Runs.{OfEveryRun}
 
--- what such an action asks for more: the ROM, MANAGEMENT_AGENT, or whether the list is dead
+-- what such an action asks for more: whether the list is dead
 abbrev pub asks_more : Action → Bool
-asks_more action = needs_rom action || (manages (operation_of action) || (prepares action || rings action))
+asks_more action = prepares action || rings action
 
 abbrev pub IsDone : List Moment → (line i : ℕ) → Action → List Note → Type 0
 IsDone past line i action told = ((number : ℕ) × (told ≡ refused line number)) ⊎ Acts past i action told
 
 pub record ActsBut (past : List Moment) (line i : ℕ) (action : Action) (told : List Note) : Type 0 where
-  pub no_rom : Bool
   pub dead_seen : Bool
-  pub no_label : Bool
-  pub by_rows : ActsOr (refusal_of (record (refusals past i action (host_at past i)) { no_rom = no_rom; dead_seen = dead_seen; no_label = no_label })) past line i action told
-  pub rom_as : needs_rom action ≡ false → no_rom ≡ false
-  pub dead_as : (prepares action || rings action) ≡ false → dead_seen ≡ false
-  pub label_as : manages (operation_of action) ≡ false → no_label ≡ (refusals past i action (host_at past i)).no_label
+  pub by_rows : ActsOr (refusal_of (record (refusals past i action (host_at past i)) { dead_seen = dead_seen })) past line i action told
+  pub dead_as : asks_more action ≡ false → dead_seen ≡ false
 
 abbrev pub ActsIn : Moment → Turn → Type 0
 ActsIn (asked line (events.Act i action)) t =

@@ -262,9 +262,8 @@ pub fn commands_end_as_read()
 
 /// In each turn of every run that begins with an action of an initiator, whatever anybody injected, the action is
 /// refused and nothing else, or brings its notes, and behind them what it sends. It is refused exactly where a row
-/// holds, with the least number of those that hold. The rows are those of the run terms, but for whether a ROM was
-/// read, of a login and a query, whether the list is marked dead, of what prepares an ORB or rings, and whether a
-/// label serves, of what has a management ORB: so much of `brings` of the action law.
+/// holds, with the least number of those that hold. The rows are those of the run terms, but for whether the list is
+/// marked dead, of what prepares an ORB or rings: so much of `brings` of the action law.
 #[tactic(auto, using(crate::proofs::Actions::actions_law))]
 pub fn actions_are_done_or_refused()
     ensures { ActionsLaw }
@@ -273,8 +272,8 @@ pub fn actions_are_done_or_refused()
 /// In each turn of every run that begins with an action of an initiator, whatever anybody injected, exactly the
 /// request is sent that the action asks for, if it is done and asks for one: a read of the ROM or of AGENT_STATE, a
 /// write of AGENT_RESET, of UNSOLICITED_STATUS_ENABLE, of ORB_POINTER with the address of the first ORB of the list,
-/// of DOORBELL with the running number, or of the address of its management ORB, with the lowest label that serves
-/// it. Where this last one goes is not said. So much of `requests` of the sent law.
+/// of DOORBELL with the running number, or of MANAGEMENT_AGENT, where the ROM that was read has it, with the address
+/// of its management ORB; each with the lowest label that serves it. So much of `requests` of the sent law.
 #[tactic(auto, using(crate::proofs::ActRequests::act_requests_law))]
 pub fn actions_send_their_requests()
     ensures { ActRequestsLaw }
