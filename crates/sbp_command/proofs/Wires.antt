@@ -1,5 +1,5 @@
 -- The history of a run of the machine keeps the laws of the wire, and those of the bus, where its events are those of lines.
-use Rattle.std.proofs.Common.{◌≡◌, ◌∙◌, inr, refl, sym, ap, subst, ℕ, ◌+◌, ◌^◌, ◌<◌, ◌≤◌, Bool, false, List, [], ◌∷◌, length, arith}
+use Rattle.std.proofs.Common.{◌≡◌, ◌∙◌, inr, refl, sym, ap, subst, ℕ, ◌+◌, ◌^◌, ◌<◌, ◌≤◌, Bool, List, [], ◌∷◌, length, arith}
 use Rattle.std.specs.List.{AllByRecursion}
 use Rattle.std.proofs.lemmas.List.{length-append}
 use Rattle.sbp_journal.specs.declared.event.Event.{Event}
@@ -9,23 +9,15 @@ use Rattle.sbp_world.specs.Worlds.{WorldState}
 use Rattle.rbc_disk.specs.Disk.{Disk}
 use Rattle.rbc_disk.specs.Held.{Held}
 use Rattle.sbp_journal.specs.Run.{Moment}
-use Rattle.sbp_laws.specs.CarriedLaw.{CarriedLaw, RunsWhereDue}
 use Rattle.sbp_laws.specs.Lawful.{injectors}
-use Rattle.sbp_laws.specs.OnLists.{LawfulOnLists}
 use Rattle.sbp_laws.specs.OnTheBus.{LawfulOnTheBus}
 use Rattle.journal_text.proofs.TextsBack.{texts_determine}
 use Rattle.sbp_world.specs.Forms.{AreTyped}
 use Rattle.sbp_world.proofs.Wire.Typed.{lawful_where_typed}
 use Rattle.sbp_command.proofs.Forms.{is_written}
-use Rattle.sbp_laws.specs.Turns.{EachMoment, EachTurn}
-use Rattle.sbp_laws.proofs.InTime.{in_time_law}
-use Rattle.sbp_world.proofs.Lists.Clauses.{answers_hold, brought_law, carried_law, lengths_law, lists_law, reads_law}
-use Rattle.sbp_world.proofs.Lists.Executes.{due_runs_law}
+use Rattle.sbp_world.proofs.Lists.ListLaws.{list_laws}
+use Rattle.sbp_world.specs.Lists.ListLaws.{HasListLaws}
 use Rattle.sbp_world.proofs.Lists.GrantRuns.{few_logins_law}
-use Rattle.sbp_world.specs.Lists.AnswerLengths.{LengthOf}
-use Rattle.sbp_world.specs.Lists.AnswersHold.{AnswersHold}
-use Rattle.sbp_world.specs.Lists.Brought.{AreBrought}
-use Rattle.sbp_world.specs.Lists.CarriedEnds.{WereRead}
 use Rattle.sbp_world.specs.Lists.FewLogins.{IsTameOrFew}
 use Rattle.sbp_world.specs.Wire.History.{IsOfWire}
 use Rattle.sbp_world.specs.Wire.Journal.{journal_run}
@@ -96,29 +88,11 @@ module _ (line : ℕ) (run : Run) (few : run.initiators ≤ 4) (count : length r
       given : IsTameOrFew past
       given = inr (few_logins_law.few line run is some most size (omega arith))
 
-      run_is_due : (others : ℕ → Bool) → EachTurn (RunsWhereDue others start.disks) past
-      run_is_due others = over (λ disks. EachTurn (RunsWhereDue others disks) past) (due_runs_law.after_lines line run is some most size others)
-
       run_in_turns : LawfulInTurns start.disks past
       run_in_turns = over (λ disks. LawfulInTurns disks past) (turns_law.after_lines line run is some most size)
 
-      run_on_lists : LawfulOnLists wild start.disks past
-      run_on_lists = over (λ disks. LawfulOnLists wild disks past) (lists_law.lists line run is some most size given)
-
-      run_brought : AreBrought wild start.disks past
-      run_brought = over (λ disks. AreBrought wild disks past) (brought_law line run is some most size given)
-
-      run_carried : CarriedLaw wild start.disks past
-      run_carried = over (λ disks. CarriedLaw wild disks past) (carried_law line run is some most size given)
-
-      run_reads : WereRead wild start.disks past
-      run_reads = over (λ disks. WereRead wild disks past) (reads_law.after_lines line run is some most size given)
-
-      run_answers : AnswersHold wild start.disks past
-      run_answers = over (λ disks. AnswersHold wild disks past) (answers_hold line run is some most size given)
-
-      run_lengths : (i : ℕ) → i < run.initiators → wild i ≡ false → EachMoment (LengthOf start.disks i) past
-      run_lengths i inside calm = over (λ disks. EachMoment (LengthOf disks i) past) (lengths_law.lengths line run is some most size given i inside calm)
+      run_lists : HasListLaws run.initiators start.disks past
+      run_lists = over (λ disks. HasListLaws run.initiators disks past) (list_laws line run is some most size given)
 
       run_states : AreStates start.disks past (after (beginning run) run.entries)
       run_states = over (λ disks. AreStates disks past (after (beginning run) run.entries)) (are_states line run is some most size)
@@ -133,7 +107,6 @@ pub has_run : (line : ℕ) (run : Run) (start media : Held) (world : WorldState)
     → StandsFor run (scene_of world media) → AreLines run run.entries → AllByRecursion AreTyped run.entries → HasRun start happened (journal run) media
 has_run line run start media world happened same units some most few count events stands lines typed =
     let left : media ≡ (after (beginning run) run.entries).media = ap (λ s. s.media) stands.state in
-    let lawful = run_on_lists line run few count stands.lines lines start same units some most in
     record {
       line = line;
       run = run;
@@ -148,17 +121,10 @@ has_run line run start media world happened same units some most few count event
       of_wire = run_of_wire line run few count stands.lines lines;
       on_the_bus = run_on_bus line run few count stands.lines lines start same units typed;
       statuses = run_takes line run few count stands.lines lines;
-      due = run_is_due line run few count stands.lines lines start same units some most;
       in_turns = run_in_turns line run few count stands.lines lines start same units some most;
-      on_lists = lawful;
-      brought = run_brought line run few count stands.lines lines start same units some most;
-      carried = run_carried line run few count stands.lines lines start same units some most;
-      reads = run_reads line run few count stands.lines lines start same units some most;
-      answers = run_answers line run few count stands.lines lines start same units some most;
-      lengths = run_lengths line run few count stands.lines lines start same units some most;
+      lists = run_lists line run few count stands.lines lines start same units some most;
       states = run_states line run few count stands.lines lines start same units some most;
       open_lists = run_open_lists line run few count stands.lines lines start same units some most;
-      in_time = in_time_law (injectors (history_of line run)) start.disks (history_of line run) lawful;
       written = is_written run few stands.lines typed;
       by_text = λ others w same_text. texts_determine others (journal run) w (is_written run few stands.lines typed) same_text;
     }

@@ -1,5 +1,5 @@
 -- What a run of the machine over the events of a script is.
-use Rattle.std.specs.Prelude.{◌≡◌, ◌⊎◌, ◌<◌, ℕ, Bool, false, List, [], length, reverse}
+use Rattle.std.specs.Prelude.{◌≡◌, ◌⊎◌, ℕ, List, [], length, reverse}
 use Rattle.std.specs.List.{AllByRecursion}
 use Rattle.rbc_disk.specs.Held.{Held}
 use Rattle.sbp_journal.specs.declared.event.Event.{Event}
@@ -9,16 +9,9 @@ use Rattle.sbp_journal.specs.Written.{IsWritten}
 use Rattle.media_laws.specs.Media.{LeavesMedia, media_after}
 use Rattle.sbp_world.specs.Histories.{history_of}
 use Rattle.sbp_world.specs.Runs.{AreEntries, Run, after, beginning}
-use Rattle.sbp_laws.specs.CarriedLaw.{CarriedLaw, RunsWhereDue}
 use Rattle.sbp_laws.specs.Lawful.{injectors}
-use Rattle.sbp_laws.specs.InTime.{ReadsInTime}
-use Rattle.sbp_laws.specs.OnLists.{LawfulOnLists}
 use Rattle.sbp_laws.specs.OnTheBus.{LawfulOnTheBus}
-use Rattle.sbp_laws.specs.Turns.{EachMoment, EachTurn}
-use Rattle.sbp_world.specs.Lists.AnswerLengths.{LengthOf}
-use Rattle.sbp_world.specs.Lists.AnswersHold.{AnswersHold}
-use Rattle.sbp_world.specs.Lists.Brought.{AreBrought}
-use Rattle.sbp_world.specs.Lists.CarriedEnds.{WereRead}
+use Rattle.sbp_world.specs.Lists.ListLaws.{HasListLaws}
 use Rattle.sbp_world.specs.Wire.History.{IsOfWire}
 use Rattle.sbp_world.specs.Wire.Journal.{journal_run}
 use Rattle.sbp_world.specs.Wire.States.{AreOpenLists, AreStates}
@@ -28,11 +21,9 @@ use Rattle.script_runner.specs.Events.{events_of, journal}
 
 -- A run of the machine, over exactly these events and from what the media held at first: its notes, and what it leaves of the media. That is
 -- what the notes alone say of them: each medium holds what the disk fold gives, and each failing run raised its count. And its history
--- keeps the laws of the wire, and its journal the part of the laws that is of the bus; the statuses that it takes are those that are due, and so
--- are the commands that run; its turns keep the login law and what else is proved of each turn; and it keeps the laws of lists, of the initiators that injected no packets, which read so in the order of time, and the carried
--- law: what they had run, and what ended, was read as it says, and brought by reads, and commands run with what was read; and each answer that they take has its length, is what was written
--- of it, and is the plain disk's. The terms of its journal are the states of the nodes as it ends. Its notes are written so that their text
--- determines them: no other notes of such a form have it.
+-- keeps the laws of the wire, and its journal the part of the laws that is of the bus; the statuses that it takes are those that are due; its turns
+-- keep the laws of turns, and its lists those of lists. The terms of its journal are the states of the nodes as it ends. Its notes are written so
+-- that their text determines them: no other notes of such a form have it.
 pub record HasRun (start : Held) (happened : List (ℕ × Event)) (notes : List Note) (now : Held) : Type 0 where
   pub line : ℕ
   pub run : Run
@@ -47,17 +38,10 @@ pub record HasRun (start : Held) (happened : List (ℕ × Event)) (notes : List 
   pub of_wire : IsOfWire (history_of line run)
   pub on_the_bus : LawfulOnTheBus (injectors (history_of line run)) (journal_run line run)
   pub statuses : TakesStatuses (history_of line run)
-  pub due : (wild : ℕ → Bool) → EachTurn (RunsWhereDue wild start.disks) (history_of line run)
   pub in_turns : LawfulInTurns start.disks (history_of line run)
-  pub on_lists : LawfulOnLists (injectors (history_of line run)) start.disks (history_of line run)
-  pub brought : AreBrought (injectors (history_of line run)) start.disks (history_of line run)
-  pub carried : CarriedLaw (injectors (history_of line run)) start.disks (history_of line run)
-  pub reads : WereRead (injectors (history_of line run)) start.disks (history_of line run)
-  pub answers : AnswersHold (injectors (history_of line run)) start.disks (history_of line run)
-  pub lengths : (i : ℕ) → i < run.initiators → injectors (history_of line run) i ≡ false → EachMoment (LengthOf start.disks i) (history_of line run)
+  pub lists : HasListLaws run.initiators start.disks (history_of line run)
   pub states : AreStates start.disks (history_of line run) (after (beginning run) run.entries)
   pub open_lists : AreOpenLists start.disks (history_of line run) (after (beginning run) run.entries).world
-  pub in_time : ReadsInTime (injectors (history_of line run)) (history_of line run)
   pub written : AllByRecursion IsWritten notes
   pub by_text : (others : List Note) → AllByRecursion IsWritten others → text_of others ≡ text_of notes → others ≡ notes
 

@@ -124,6 +124,7 @@ pub mod Lasts
 pub mod Later
 pub mod Lawful
 pub mod Lines
+pub mod ListLaws
 pub mod Lists
 pub mod ListsProved
 pub mod LiveActs

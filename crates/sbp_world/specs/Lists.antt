@@ -27,6 +27,7 @@ pub mod InPlace
 pub mod KeptOrbs
 pub mod LastReads
 pub mod Lasts
+pub mod ListLaws
 pub mod Lists
 pub mod LawfulLists
 pub mod LetsGo

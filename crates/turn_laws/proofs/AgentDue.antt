@@ -21,6 +21,7 @@ use Rattle.sbp_laws.specs.Lists.{Orb, named, orb as named_orb, slot_at}
 use Rattle.sbp_laws.specs.NoteKinds.{is_end_note, of_kind}
 use Rattle.sbp_laws.specs.Packets.{finds_label}
 use Rattle.sbp_laws.specs.Targets.{Target, initiator_at, login_at}
+use Rattle.sbp_laws.specs.SentRequests.{behind_answer}
 use Rattle.sbp_laws.specs.SentWrites.{writes_to}
 use Rattle.sbp_laws.specs.Turns.{Turn}
 use Rattle.sbp_target.specs.declared.purpose.Purpose.{Purpose}
@@ -36,9 +37,12 @@ use Rattle.turn_laws.proofs.EndFound.{body_same, ends_tried}
 use Rattle.turn_laws.proofs.EndNotes.{brought_noted, ends_noted}
 use Rattle.turn_laws.proofs.EndShapes.{IsShapedStep}
 use Rattle.turn_laws.proofs.EndSizes.{IsSizedBy}
+use Rattle.turn_laws.proofs.FirstLayers.{IsBehind}
 use Rattle.turn_laws.proofs.FollowEnds.{no_label}
 use Rattle.turn_laws.proofs.FollowSends.{requests}
 use Rattle.turn_laws.proofs.FoundLabels.{Spells}
+use Rattle.turn_laws.proofs.FreeLabels.{KnowsLabels}
+use Rattle.turn_laws.proofs.ReadAheads.{MayReadAhead}
 use Rattle.turn_laws.proofs.TurnSends.{SendsOwn}
 use Rattle.turn_laws.proofs.TurnWrites.{all_writes}
 use Rattle.turn_laws.proofs.EndTries.{brought, brought_notes, brought_sides, found_by, notes_tried}
@@ -69,9 +73,15 @@ pub record IsTurnOf (start : List Disk) (T : Target) (t : Turn) (a : AgentTurn) 
   pub finds : (body : Body) → FitsRequest body → finds_in a.place layer login body ≡ finds_label (wire_after t) 0 (suc (initiator_at T (wire_before t) a.place)) body
   pub spells : Spells a.place layer login
   pub fits_lost : (let l = no_label m in IfBody (agent_body l.0.ask (is_some l.0.ended) login.fifo l.1.outgoing))
-  -- it reads ahead, and what is written to its initiator are its requests
+  -- what it reads ahead
   pub tame : (offset size : ℕ) → step.ahead ≡ Write offset size → ⊥
+  pub ahead : MayReadAhead step.ahead m
+  pub fits_ahead : IfBody (agent_body step.ahead false login.fifo m.outgoing)
+  -- the labels at its layer, and the layer behind the step's request
+  pub labels : KnowsLabels (wire_after t) 0 (suc (initiator_at T (wire_before t) a.place)) login.node layer
   pub behind : Layer Purpose
+  pub behind_is : IsBehind a.place login (agent_body step.ask (is_some step.ended) login.fifo m.outgoing) layer behind
+  -- what is written to its initiator are its requests
   pub writes : (let i = initiator_at T (wire_before t) a.place in writes_to (suc i) t.rest ≡ all_writes (suc i) (requests a.place login (found_at a.place layer login step m) layer behind step m))
   -- and those stand first behind the response
   pub sends : (let i = initiator_at T (wire_before t) a.place in SendsOwn start t login.node (suc i) (requests a.place login (found_at a.place layer login step m) layer behind step m))
@@ -129,10 +139,10 @@ module _ (start : List Disk) (T : Target) (t : Turn) (a : AgentTurn) (step : Age
   pub agent_due : of_kind is_end_note t.rest ≡ agent_notes_for start T t a
   agent_due = ends_tried T t a step m h.step_is h.alike h.shaped found list one told_is (finds_in q layer login) (named t.past i a.machine.present) found_is law_found named_alike
 
--- ---- what a turn tells: of an agent by its step at the target, or of one that does nothing
+-- ---- what a turn tells: of an agent by its step at the target, or of one that does nothing, and for which nothing is sent
 pub data HasTurn (start : List Disk) (T : Target) (t : Turn) (a : AgentTurn) : Type 0 where
   has_steps : (step : AgentStep) (m : Machine) (login : Login) (layer : Layer Purpose) → IsTurnOf start T t a step m login layer → HasTurn start T t a
-  has_rest : a.step ≡ quiet → of_kind is_end_note t.rest ≡ [] → HasTurn start T t a
+  has_rest : a.step ≡ quiet → of_kind is_end_note t.rest ≡ [] → behind_answer start t ≡ [] → HasTurn start T t a
 
 -- and nothing where it is for no agent
 abbrev pub TellsFor : List Disk → Target → Turn → Option AgentTurn → Type 0
@@ -166,7 +176,7 @@ module _ (start : List Disk) (T : Target) (t : Turn) (a : AgentTurn) where
 ends_for : (start : List Disk) (T : Target) (t : Turn) (x : Option AgentTurn) → TellsFor start T t x → of_kind is_end_note t.rest ≡ ends_by start T t x
 ends_for start T t None h = h
 ends_for start T t (Some a) (has_steps step m login layer h) = agent_due start T t a step m login layer h
-ends_for start T t (Some a) (has_rest e none) = none ∙ sym (resting start T t a e)
+ends_for start T t (Some a) (has_rest e none alone) = none ∙ sym (resting start T t a e)
 
 pub ends_told : (start : List Disk) (t : Turn) → TellsEnds start t → of_kind is_end_note t.rest ≡ ends_due start t
 ends_told start t h = ends_for start (target_before start t) t (turn_in start t) h

@@ -1,5 +1,5 @@
 -- What the target tells of deaths and ends as an agent goes on: by a reply, behind a time-out, a pointer or a doorbell. They are those that its step brings, by whether its first request finds a label.
-use Rattle.std.proofs.Common.{◌≡◌, ◌∙◌, refl, sym, ap, ℕ, ◌<◌, is_some, Bool, true, false, List, [], ◌∷◌, ◌++◌, length, append-nil, Option, Some, None, Result, Ok, Err}
+use Rattle.std.proofs.Common.{◌≡◌, ◌∙◌, refl, sym, ap, subst, ℕ, ◌<◌, is_some, Bool, true, false, List, [], ◌∷◌, ◌++◌, length, append-nil, Option, Some, None, Result, Ok, Err}
 use Rattle.std.proofs.Math.ListN.{length-set}
 use Rattle.async_packet.specs.Packet.{Packet, header_in}
 use Rattle.label_table.specs.Bodies.{Body}
@@ -7,6 +7,7 @@ use Rattle.label_table.specs.Layer.{Layer, answering_step}
 use Rattle.login_table.specs.declared.login.Login.{Login}
 use Rattle.login_table.specs.Table.{Table}
 use Rattle.orb_layout.specs.declared.ask.Ask.{Ask}
+use Rattle.orb_layout.specs.declared.ask.Ask.TheVariants.{Nothing}
 use Rattle.orb_layout.specs.declared.ask.FailCause.TheVariants as causes
 use Rattle.orb_layout.specs.declared.pointer.OrbPointer.{OrbPointer}
 use Rattle.orb_layout.specs.declared.pointer.OrbPointer.TheVariants as pointers
@@ -36,6 +37,7 @@ use Rattle.sbp_world.proofs.Agents.Walk.{Holds, desk_set, holds_set, holds_still
 use Rattle.turn_laws.proofs.StepLabels.{asked_found, finds_in}
 use Rattle.turn_laws.proofs.EndShapes.{IsShapedStep, lost_shaped, mute_of, reply_shaped, sent_of}
 use Rattle.turn_laws.proofs.EndTries.{brought, brought_sides, found_by, told_brings}
+use Rattle.turn_laws.proofs.FirstLayers.{IsBehind, first_layer}
 use Rattle.turn_laws.proofs.FollowEnds.{ends_in, follow_ends, told_by}
 use Rattle.turn_laws.proofs.FollowSends.{follow_packets, requests}
 use Rattle.turn_laws.proofs.PushSends.{Pushes, announce_sends}
@@ -52,6 +54,7 @@ pub record Tells (q : ℕ) (layer : Layer Purpose) (login : Login) (step : Agent
   pub ends : ends_in given.sides ≡ ends_in first.sides ++ brought_sides q m (brought (found_at q layer login step m) step m.phase)
   -- the layer behind the first request
   pub behind : Layer Purpose
+  pub behind_is : IsBehind q login (agent_body step.ask (is_some step.ended) login.fifo m.outgoing) layer behind
   pub sends : Pushes places login.unit q (first.packets ++ requests q login (found_at q layer login step m) layer behind step m) given.packets
 
 -- nothing yet
@@ -86,6 +89,7 @@ module _ (q : ℕ) (b : q < 8) (before : NodeState) (m : Machine) (login : Login
     goes = follow_goes s.outbox.sides q login step s (goes_none s.outbox.sides);
     ends = follow_brings;
     behind = behind_first;
+    behind_is = first_layer q b before m login step s h;
     sends = record { more = []; is = follow_requests ∙ sym (append-nil _); pushes = tt };
   }
 
@@ -123,6 +127,7 @@ module _ (q : ℕ) (b : q < 8) (node : NodeState) (size : length node.desks ≡ 
           goes = announce_goes o.sides x login.unit q (follow q login step t) r.goes;
           ends = announce_ends x login.unit q (follow q login step t) ∙ (r.ends ∙ ap (λ (k : Layer Purpose). ends_in o.sides ++ brought_sides q m (brought (found_at q k login step m) step m.phase)) (c.1.0 ∙ l));
           behind = behind_first q b node m login step t h shaped;
+          behind_is = subst (λ (k : Layer Purpose). IsBehind q login (agent_body step.ask (is_some step.ended) login.fifo m.outgoing) k (behind_first q b node m login step t h shaped)) (c.1.0 ∙ l) (first_layer q b node m login step t h);
           sends =
               announce_sends node.logins.places login.unit q (o.packets ++ requests q login (found_at q node.layer login step m) node.layer (behind_first q b node m login step t h shaped) step m) x (follow q login step t)
               (ap (λ (table : Table). table.places) (follow_logins q login step t ∙ (c.1.1 ∙ k)))
@@ -214,3 +219,8 @@ module _ (q : ℕ) (b : q < 8) (node : NodeState) (size : length node.desks ≡ 
   pub asked_tells : (ask : Ask) (login : Login) → Asks ask d.agent → Tells q answered_layer login (asks ask) d.agent node.logins.places response (asked_in q ask (Some login) behind).outbox
   unfolding answer_step
   asked_tells ask login shaped = follow_tells q b (with_desk node q d) d.agent login (asks ask) behind answered_holds shaped
+
+  -- one that asks for nothing sends nothing more
+  pub rested_packets : (login : Login) → (asked_in q Nothing (Some login) behind).outbox.packets ≡ response.packets
+  unfolding answer_step
+  rested_packets login = follow_requests q b (with_desk node q d) d.agent login (asks Nothing) behind answered_holds (tt, (tt, tt)) ∙ append-nil response.packets

@@ -53,6 +53,7 @@ use Rattle.sbp_world.proofs.FitTarget.Nodes.{IfBody, agent_body_fits}
 use Rattle.turn_laws.proofs.FollowEnds.{no_label}
 use Rattle.sbp_world.proofs.Lists.DueRuns.{named_as}
 use Rattle.turn_laws.proofs.Places.{Place}
+use Rattle.turn_laws.proofs.ReadAheads.{MayReadAhead, behind_reads, none_ahead}
 use Rattle.sbp_world.proofs.Agents.AskedAgents.{sent_reset}
 
 ahead_up : (phase : Phase) (b : Bool) → b ≡ true → (is_bare phase ≡ true → b ≡ false) → is_reset (state_in phase) ≡ false
@@ -85,6 +86,21 @@ module _ (d : Desk) (fits : Fits d) where
   lost_carries Main sent e cause = (main_loses d.agent cause (sym fits.main ∙ ap (λ (o : Option Sent). is_some o) e) fits.agent).behind.carried
   lost_carries Ahead sent e cause =
       quiet_carries (lost_step d.agent Ahead cause) (ahead_loses d.agent cause (sym fits.ahead ∙ ap (λ (o : Option Sent). is_some o) e) fits.agent).silent
+
+  -- and one who reads ahead is not dead
+  quiet_ahead : (s : AgentStep × Machine) → s.0 ≡ quiet → MayReadAhead s.0.ahead s.1
+  quiet_ahead s e = subst (λ (x : AgentStep). MayReadAhead x.ahead s.1) (sym e) none_ahead
+
+  pub reply_ahead : (which : Which) (sent : Sent) → kept_as which d ≡ Some sent → (place : ℕ) (plain : PlainDisk) (told : Option Told) (answer : Answer) → (let s = reply_step d.agent place plain told which answer in MayReadAhead s.0.ahead s.1)
+  reply_ahead Main sent e place plain told answer = behind_reads (reply_step d.agent place plain told Main answer) (main_replied d.agent place plain told answer fits.agent)
+  reply_ahead Ahead sent e place plain told answer =
+      quiet_ahead (reply_step d.agent place plain told Ahead answer) (ahead_replied d.agent place plain told answer (sym fits.ahead ∙ ap (λ (o : Option Sent). is_some o) e) fits.agent).silent
+
+  pub lost_ahead : (which : Which) (sent : Sent) → kept_as which d ≡ Some sent → (cause : FailCause) → (let s = lost_step d.agent which cause in MayReadAhead s.0.ahead s.1)
+  lost_ahead Main sent e cause =
+      behind_reads (lost_step d.agent Main cause) (main_loses d.agent cause (sym fits.main ∙ ap (λ (o : Option Sent). is_some o) e) fits.agent).behind
+  lost_ahead Ahead sent e cause =
+      quiet_ahead (lost_step d.agent Ahead cause) (ahead_loses d.agent cause (sym fits.ahead ∙ ap (λ (o : Option Sent). is_some o) e) fits.agent).silent
 
 -- ---- an ORB that has a name stands in the slot of that
 module _ (past : List Moment) (i : ℕ) (table : SlotTable) (rows : AreRows past i table) (address list number : ℕ) where
@@ -175,6 +191,16 @@ module _ (units ready : ℕ) (has : 0 < units) (start : List Disk) (past : List 
 
     pub lost_body : (which : Which) (cause : FailCause) → (let r = lost_step (desk_at node q).agent which cause in IfBody (agent_body r.0.ask (is_some r.0.ended) login.fifo r.1.outgoing))
     lost_body which cause = body_fits (lost_step (desk_at node q).agent which cause) (lost_fits (desk_at node q).agent which cause (here.holds.sound.nodes.target_holds.fits.agents q))
+
+    ahead_fits : (r : AgentStep × Machine) → FitsStep r → IfBody (agent_body r.0.ahead false login.fifo r.1.outgoing)
+    ahead_fits r f = agent_body_fits r.0.ahead false login.fifo r.1.outgoing f.ahead small_fifo f.agent.outgoing
+
+    pub reply_ahead_body : (place : ℕ) (plain : PlainDisk) (told : Option Told) (which : Which) (answer : Answer) → BytesTold told → BytesIn answer → (let r = reply_step (desk_at node q).agent place plain told which answer in IfBody (agent_body r.0.ahead false login.fifo r.1.outgoing))
+    reply_ahead_body place plain told which answer t a =
+        ahead_fits (reply_step (desk_at node q).agent place plain told which answer) (reply_fits (desk_at node q).agent place plain told which answer t a (here.holds.sound.nodes.target_holds.fits.agents q))
+
+    pub lost_ahead_body : (which : Which) (cause : FailCause) → (let r = lost_step (desk_at node q).agent which cause in IfBody (agent_body r.0.ahead false login.fifo r.1.outgoing))
+    lost_ahead_body which cause = ahead_fits (lost_step (desk_at node q).agent which cause) (lost_fits (desk_at node q).agent which cause (here.holds.sound.nodes.target_holds.fits.agents q))
 
     -- and so do those of a loss behind a step
     pub again_body : (m : Machine) → FitsAgent m → (let l = no_label m in IfBody (agent_body l.0.ask (is_some l.0.ended) login.fifo l.1.outgoing))

@@ -1,4 +1,4 @@
--- What is told of a disc that came, with what is so of the layer there: all else is told before, and the layer is as the steps of the agent's own requests left it.
+-- What is told and sent of a disc that came, with what is so of the layer there: all else is told and sent before, and the layer is as the steps of the agent's own requests left it.
 use Rattle.std.proofs.Common.{◌≡◌, refl, sym, ap, ◌∙◌, subst, ℕ, Bool, true, false, List, ◌++◌, append-nil, Option, Some, None}
 use Rattle.async_packet.specs.Labels.{LabelParts}
 use Rattle.command_agent.specs.Machine.{Machine}
@@ -12,6 +12,7 @@ use Rattle.login_table.specs.declared.login.Login.{Login}
 use Rattle.orb_layout.specs.Replies.{Answer}
 use Rattle.rbc_disk.specs.Disk.{Disk, disk_at}
 use Rattle.rbc_disk.specs.Runs.{Told}
+use Rattle.sbp_journal.specs.declared.outbox.Outgoing.{Outgoing}
 use Rattle.sbp_journal.specs.Outgoings.{OutboxState, empty_outbox}
 use Rattle.sbp_target.specs.Agents.{follow}
 use Rattle.sbp_target.specs.Desks.{taken, which_in}
@@ -34,6 +35,8 @@ module _ (Z : Layer Purpose → Type 0) (node : NodeState) where
     pub layer : Layer Purpose
     pub on : Z layer
     pub told : AreLast (announced_if disc_came unit from node layer).0 outbox.sides
+    pub first : List Outgoing
+    pub packets_are : outbox.packets ≡ first ++ (announced_if disc_came unit from node layer).1
 
   record Ready (s : Scene) : Type 0 where
     on : Z s.node.layer
@@ -41,7 +44,13 @@ module _ (Z : Layer Purpose → Type 0) (node : NodeState) where
     apart : Apart node s.node
 
   announces_ready : (b : Bool) (unit place : ℕ) (s : Scene) → Ready s → AnnouncesOn b unit place (announced_by b unit place s).outbox
-  announces_ready false unit place s r = record { layer = s.node.layer; on = r.on; told = record { before = s.outbox.sides; plain = r.plain; told_is = sym (append-nil s.outbox.sides) } }
+  announces_ready false unit place s r = record {
+    layer = s.node.layer;
+    on = r.on;
+    told = record { before = s.outbox.sides; plain = r.plain; told_is = sym (append-nil s.outbox.sides) };
+    first = s.outbox.packets;
+    packets_are = sym (append-nil s.outbox.packets);
+  }
   announces_ready true unit place s r =
       let a = from_adds 8 0 unit place node s (record { logins = r.apart.logins; enabled = λ p b. r.apart.enabled p }) in
       let is : announced_from 8 0 unit place node s.node.layer s.node.pending ≡ announced_from 8 0 unit place node s.node.layer node.pending =
@@ -50,6 +59,8 @@ module _ (Z : Layer Purpose → Type 0) (node : NodeState) where
         layer = s.node.layer;
         on = r.on;
         told = record { before = s.outbox.sides; plain = r.plain; told_is = a.told_is ∙ ap (λ (x : Announced). s.outbox.sides ++ x.0) is };
+        first = s.outbox.packets;
+        packets_are = a.packets_are ∙ ap (λ (x : Announced). s.outbox.packets ++ x.1) is;
       }
 
   module _ (place : ℕ) (login : Login) (asks : (layer : Layer Purpose) (body : Body) → Z layer → Z (asking_step layer login.node body (purposes.Agent place)).1) (disowns : (layer : Layer Purpose) (peer : ℕ) (label : LabelParts) → Z layer → Z (disowning_step layer peer label)) where

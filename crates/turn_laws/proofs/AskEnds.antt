@@ -45,7 +45,7 @@ use Rattle.sbp_world.specs.Worlds.{Scene, WorldState}
 use Rattle.sbp_world.proofs.Agents.Management.Still.{hist}
 use Rattle.sbp_world.proofs.FitTarget.Agents.{FitsAsk}
 use Rattle.turn_laws.proofs.AgentDue.{HasTurn, IsTurnOf, has_rest, has_steps}
-use Rattle.turn_laws.proofs.AgentEnds.{Tells, asked_tells, found_at}
+use Rattle.turn_laws.proofs.AgentEnds.{Tells, asked_tells, found_at, rested_packets}
 use Rattle.turn_laws.proofs.AgentHere.{again_body, fifo_is, good, holder_is, initiator_is, names_are, small_fifo, stands_are}
 use Rattle.bus_transactions.specs.Fitting.{FitsRequest}
 use Rattle.orb_layout.specs.declared.ask.Ask.TheVariants.{Nothing}
@@ -58,11 +58,7 @@ use Rattle.sbp_world.specs.Agents.Holders.{IsHeld}
 use Rattle.sbp_world.specs.FitTarget.{FitsAgent}
 use Rattle.sbp_target.specs.declared.purpose.Purpose.{Purpose}
 use Rattle.bus_transactions.specs.Judging.{AreJudged}
-use Rattle.bus_transactions.specs.Wire.{as_sending}
-use Rattle.sbp_bus.specs.Generations.{node_of}
-use Rattle.sbp_world.proofs.Agents.CrewFirsts.{access_there, asks_part}
-use Rattle.sbp_world.proofs.Agents.Management.Holding.{was_sent}
-use Rattle.sbp_world.proofs.Common.{equal}
+use Rattle.sbp_world.proofs.Agents.CrewFirsts.{asks_part}
 use Rattle.sbp_world.proofs.FitTarget.Nodes.{IfBody, agent_body_fits}
 use Rattle.sbp_world.proofs.Lists.DueRuns.{list_same}
 use Rattle.sbp_world.proofs.Lists.OpenPlaces.{opened_here}
@@ -75,17 +71,19 @@ use Rattle.turn_laws.proofs.FollowEnds.{ends_in}
 use Rattle.turn_laws.proofs.FollowSends.{requests, requests_to_peer}
 use Rattle.turn_laws.proofs.FollowSides.{AreBeside}
 use Rattle.turn_laws.proofs.PushSends.{Pushes}
-use Rattle.turn_laws.proofs.AnswerNotes.{source_there}
-use Rattle.turn_laws.proofs.SentAnswers.{reply_due}
-use Rattle.turn_laws.proofs.TurnSends.{SendsOwn, is_current, sends_second}
+use Rattle.turn_laws.proofs.TurnSends.{SendsOwn, sends_second}
 use Rattle.turn_laws.proofs.TurnWrites.{all_writes, turn_writes}
 use Rattle.sbp_journal.specs.declared.outbox.Outgoing.{Outgoing}
 use Rattle.sbp_laws.specs.SentWrites.{writes_to}
 use Rattle.sbp_world.specs.Hosts.Handing.{AreOthers}
 use Rattle.sbp_world.proofs.Lists.StatusReads.{answer_reads}
 use Rattle.sbp_world.proofs.Lists.StatusSteps.{none_wrote}
-use Rattle.turn_laws.proofs.FoundLabels.{Spells, peer_is, request_finds, request_spells}
+use Rattle.turn_laws.proofs.FirstLayers.{IsBehind}
+use Rattle.turn_laws.proofs.FoundLabels.{Spells, asked_labels, peer_is, request_finds, request_spells}
+use Rattle.turn_laws.proofs.FreeLabels.{KnowsLabels}
+use Rattle.turn_laws.proofs.ReadAheads.{none_ahead}
 use Rattle.turn_laws.proofs.Handed.{handed}
+use Rattle.turn_laws.proofs.OnlyAnswers.{answered_alone, from_there, one_due}
 use Rattle.turn_laws.proofs.Places.{Place}
 
 -- ---- a packet carries what a pointer or a doorbell asks for; and an ORB that is pointed to is there
@@ -173,6 +171,17 @@ module _ (units ready : ℕ) (has : 0 < units) (start : List Disk) (past : List 
       let part = asks_part units ready has start w here.holds serial false one found zero_to p read none in
       request_spells units ready start past s here q login served.is served.live serial one found zero_to part.label part.kind part.part answered_layer answered_peers answered_node
 
+  answered_generation : answered_layer.generation ≡ node.layer.generation
+  unfolding answering_step
+  answered_generation = ap (λ (l : Layer Purpose). l.generation) same_layer
+
+  labels_so : KnowsLabels (terms (said (notes.Got serial) ∷ ms)) 0 (suc i) login.node answered_layer
+  labels_so =
+      let part = asks_part units ready has start w here.holds serial false one found zero_to p read none in
+      subst (λ n. KnowsLabels (terms (said (notes.Got serial) ∷ ms)) 0 (suc n) login.node answered_layer)
+      (sym (initiator_is units ready has start past s here q login served.is served.live ∙ holder_is units ready has start past s here q login served.is served.live))
+      (asked_labels units ready start past s here q login served.is served.live serial one found zero_to part.label part.kind part.part answered_layer answered_peers answered_node answered_generation)
+
   -- what is written behind the response
   abbrev response : List Outgoing
   response = record { to = (header_in p).source; label = None; bytes = (answering_step new p one.bytes 0 []).0 } ∷ []
@@ -188,14 +197,6 @@ module _ (units ready : ℕ) (has : 0 < units) (start : List Disk) (past : List 
       (requests_to_peer q login (found_at q answered_layer login (asks ask) m) answered_layer behind (asks ask) m) pushes
 
   -- and sent there
-  from_there : node_of w.generations 0 (header_in p).source ≡ Some one.from
-  from_there =
-      let stands = here.holds.sound.stands in
-      let q = as_sending one in
-      let now : one.generation ≡ wire.generation one.to = equal one.generation (wire.generation one.to) (is_current wire q (judged.0 q (was_sent w stands serial one found))) in
-      let inside : one.to ≤ length w.initiators = omega (arith, zero_to) in
-      subst (λ n. node_of w.generations n (header_in p).source ≡ Some one.from) zero_to (source_there w stands serial one found inside p read now)
-
   sends_behind : (now : WorldState) (o : OutboxState) (behind : Layer Purpose) (ask : Ask) (m : Machine) → now.generations ≡ w.generations → AreOthers o.sides
       → Pushes node.logins.places login.unit q (response ++ requests q login (found_at q answered_layer login (asks ask) m) answered_layer behind (asks ask) m) o.packets
       → SendsOwn start (t (handed 0 0 o now)) login.node (suc i) (requests q login (found_at q answered_layer login (asks ask) m) answered_layer behind (asks ask) m)
@@ -203,10 +204,9 @@ module _ (units ready : ℕ) (has : 0 < units) (start : List Disk) (past : List 
       let out = requests q login (found_at q answered_layer login (asks ask) m) answered_layer behind (asks ask) m in
       let mine = initiator_is units ready has start past s here q login served.is served.live ∙ holder_is units ready has start past s here q login served.is served.live in
       let first : Outgoing = record { to = (header_in p).source; label = None; bytes = (answering_step new p one.bytes 0 []).0 } in
-      let there = access_there p none in
-      let due = reply_due start ms serial (as_sending one) (was_sent w here.holds.sound.stands serial one found) p there.access read there.is (handed 0 0 o now) in
       sends_second start (t (handed 0 0 o now)) login.node (suc i) w.generations (peer_is units ready start past s here q login served.is served.live ∙ ap (λ n. Some (suc n)) (sym mine))
-      o now same others refl node.logins.places login.unit q out (ap (λ (ns : List Note). length ns) due) first one.from from_there pushes
+      o now same others refl node.logins.places login.unit q out (one_due units ready start past s here serial one found zero_to p read now same o others judged none) first one.from
+      (from_there units ready start past s here serial one found zero_to p read now same o others judged none) pushes
 
   -- the turn of an agent that asks
   abbrev law_turn : Ask → Machine → AgentTurn
@@ -215,7 +215,7 @@ module _ (units ready : ℕ) (has : 0 < units) (start : List Disk) (past : List 
   body_fits : (ask : Ask) (m : Machine) → FitsAsk ask → FitsAgent m → IfBody (agent_body ask false login.fifo m.outgoing)
   body_fits ask m f g = agent_body_fits ask false login.fifo m.outgoing f (small_fifo units ready has start past s here q login served.is served.live) g.outgoing
 
-  module _ (rest : List Note) (ask : Ask) (m : Machine) (law_ask : Ask) (law_machine : Machine) (ask_is : law_ask ≡ ask) (alike : Alike A.untold law_machine m) (shaped : IsShapedStep (asks ask, m)) (carried : Carries ask m.outgoing) (reads : IsNoWrite ask) (fits_ask : FitsAsk ask) (fits_agent : FitsAgent m) (H : ℕ → Holder) (K : ℕ → ℕ → Option TicketParts) (told_is : of_kind is_end_note rest ≡ ends_noted H K (brought_sides q m (brought (found_at q answered_layer login (asks ask) m) (asks ask) m.phase))) (initiator : (H q).initiator ≡ (holder w q).initiator) (list : (H q).list ≡ list_taken start (said (notes.Got serial) ∷ ms) q) (behind : Layer Purpose) (writes : writes_to (suc i) rest ≡ all_writes (suc i) (requests q login (found_at q answered_layer login (asks ask) m) answered_layer behind (asks ask) m)) (sends : SendsOwn start (t rest) login.node (suc i) (requests q login (found_at q answered_layer login (asks ask) m) answered_layer behind (asks ask) m)) (tickets : (orb : ℕ) → K q orb ≡ ticket_at w q orb) where
+  module _ (rest : List Note) (ask : Ask) (m : Machine) (law_ask : Ask) (law_machine : Machine) (ask_is : law_ask ≡ ask) (alike : Alike A.untold law_machine m) (shaped : IsShapedStep (asks ask, m)) (carried : Carries ask m.outgoing) (reads : IsNoWrite ask) (fits_ask : FitsAsk ask) (fits_agent : FitsAgent m) (H : ℕ → Holder) (K : ℕ → ℕ → Option TicketParts) (told_is : of_kind is_end_note rest ≡ ends_noted H K (brought_sides q m (brought (found_at q answered_layer login (asks ask) m) (asks ask) m.phase))) (initiator : (H q).initiator ≡ (holder w q).initiator) (list : (H q).list ≡ list_taken start (said (notes.Got serial) ∷ ms) q) (behind : Layer Purpose) (behind_is : IsBehind q login (agent_body ask false login.fifo m.outgoing) answered_layer behind) (writes : writes_to (suc i) rest ≡ all_writes (suc i) (requests q login (found_at q answered_layer login (asks ask) m) answered_layer behind (asks ask) m)) (sends : SendsOwn start (t rest) login.node (suc i) (requests q login (found_at q answered_layer login (asks ask) m) answered_layer behind (asks ask) m)) (tickets : (orb : ℕ) → K q orb ≡ ticket_at w q orb) where
     is_turn : IsTurnOf start T (t rest) (law_turn law_ask law_machine) (asks ask) m login answered_layer
     is_turn = record {
       step_is = ap asks ask_is;
@@ -230,7 +230,11 @@ module _ (units ready : ℕ) (has : 0 < units) (start : List Disk) (past : List 
       spells = spells_so;
       fits_lost = again_body units ready has start past s here q login served.is served.live m fits_agent;
       tame = none_wrote;
+      ahead = none_ahead;
+      fits_ahead = tt;
+      labels = labels_so;
       behind = behind;
+      behind_is = behind_is;
       writes = writes;
       sends = sends;
       holders = H;
@@ -301,7 +305,7 @@ module _ (units ready : ℕ) (has : 0 < units) (start : List Disk) (past : List 
             let K = ticket_at opened in
             asks_due (handed 0 0 o now) ask m law_ask law_machine ask_is alike shaped carried reads fits_ask fits_agent H K
             (opened_handed H K 0 q (orb_of m) g.more o now (ap (λ (y : OutboxState). y.sides) o_is ∙ g.is) (λ k. refl, λ k orb. refl) g.beside ∙ ap (ends_noted H K) (sym (ap ends_in g.is) ∙ tells.ends))
-            owner (opened_list law_list) tells.behind
+            owner (opened_list law_list) tells.behind tells.behind_is
             (writes_behind now o tells.behind ask m bus_same others (subst (λ (y : OutboxState). Pushes node.logins.places login.unit q (response ++ requests q login (found_at q answered_layer login (asks ask) m) answered_layer tells.behind (asks ask) m) y.packets) (sym o_is) tells.sends))
             (sends_behind now o tells.behind ask m bus_same others (subst (λ (y : OutboxState). Pushes node.logins.places login.unit q (response ++ requests q login (found_at q answered_layer login (asks ask) m) answered_layer tells.behind (asks ask) m) y.packets) (sym o_is) tells.sends))
             opened_ticket
@@ -326,7 +330,7 @@ module _ (units ready : ℕ) (has : 0 < units) (start : List Disk) (past : List 
             asks_due (handed 0 0 o now) ask m law_ask law_machine ask_is alike shaped carried reads fits_ask fits_agent (holder now) (ticket_at now) ring_noted
             (ap (λ (h : Holder). h.initiator) (holders q))
             (ap (λ (h : Holder). h.list) (holders q) ∙ (sym (here.taken q b up) ∙ sym law_list))
-            ring_tells.behind
+            ring_tells.behind ring_tells.behind_is
             (writes_behind now o ring_tells.behind ask m bus_same others (subst (λ (y : OutboxState). Pushes node.logins.places login.unit q (response ++ requests q login (found_at q answered_layer login (asks ask) m) answered_layer ring_tells.behind (asks ask) m) y.packets) (sym o_is) ring_tells.sends))
             (sends_behind now o ring_tells.behind ask m bus_same others (subst (λ (y : OutboxState). Pushes node.logins.places login.unit q (response ++ requests q login (found_at q answered_layer login (asks ask) m) answered_layer ring_tells.behind (asks ask) m) y.packets) (sym o_is) ring_tells.sends))
             (λ orb. tickets_now q orb)
@@ -336,3 +340,9 @@ module _ (units ready : ℕ) (has : 0 < units) (start : List Disk) (past : List 
         rung_none nothing =
             has_rest (ap asks (ask_is ∙ nothing))
             (ring_noted ∙ ap (λ x. ends_noted (holder now) (ticket_at now) (brought_sides q m (brought (found_at q answered_layer login (asks x) m) (asks x) m.phase))) nothing)
+            (answered_alone units ready start past s here serial one found zero_to p read now bus_same o others judged none (answering_step new p one.bytes 0 []).0 rests_alone)
+          where
+            rests_alone : o.packets ≡ response
+            rests_alone =
+                ap (λ (y : OutboxState). y.packets) o_is ∙ (ap (λ x. (asked_in q x (Some login) (answered p one.bytes 0 [] (scene (with_desk left q (record d { agent = m })) empty_outbox))).outbox.packets) nothing
+                ∙ rested_packets q b left (good units ready has start past s here).mid.size p one.bytes empty_outbox (record d { agent = m }) login)

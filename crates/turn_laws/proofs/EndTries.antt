@@ -135,7 +135,7 @@ IsShaped (Some kind) dead phases.WritingLastStatus = Unit {0}
 IsShaped (Some kind) dead phase = ⊥
 IsShaped None dead phase = Unit {0}
 
-ends_none : (kind : StatusKind) (dead : Option FailCause) (phase : Phase) → IsShaped (Some kind) dead phase → fails_in phase ≡ None
+pub ends_none : (kind : StatusKind) (dead : Option FailCause) (phase : Phase) → IsShaped (Some kind) dead phase → fails_in phase ≡ None
 ends_none kind dead phases.WritingStatus h = refl
 ends_none kind dead phases.WritingLastStatus h = refl
 ends_none kind dead phases.Reset h = absurd h

@@ -66,7 +66,7 @@ module _ (units ready : ℕ) (has : 0 < units) (start : List Disk) (past : List 
       let sender : packet.from ≡ suc i = from_asked start w here.holds.sound.stands (g units ready has start w here.holds) (law units ready has start w here.holds) here.holds.at serial request found packet e ∙ node_is in
       ap (λ n. is_serial (Some n) 0) sender ∙ (let other : nat_eq (suc i) 0 ≡ false = grind arith in other)
 
-  away : (so : Option Sending) → wire.sent serial ≡ so → is_serial (sender_in so) 0 ≡ false
+  pub away : (so : Option Sending) → wire.sent serial ≡ so → is_serial (sender_in so) 0 ≡ false
   away None e = refl
   away (Some packet) e = from_is packet e
 

@@ -273,7 +273,7 @@ module _ (units ready : ℕ) (has : 0 < units) (start : List Disk) where
             let from = a.from in
             ap (λ so. is_serial (sender_in so) 0) a.sent ∙ (let z : nat_eq a.packet.from 0 ≡ true = grind (arith, nat_tests) in z)
 
-        call_is : (for : TermPurpose) → purpose_of T serial ≡ for → call_by (said (notes.TimedOut serial)) T wire ≡ answer_to for Expired
+        pub call_is : (for : TermPurpose) → purpose_of T serial ≡ for → call_by (said (notes.TimedOut serial)) T wire ≡ answer_to for Expired
         call_is for f = ap (λ b. cond b (answer_to (purpose_of T serial) Expired) no_call) sender_zero ∙ ap (λ x. answer_to x Expired) f
 
       late_due : (purpose : Option Purpose) (layer : Layer Purpose) → expiring_step node.layer request.peer request.label ≡ (Ok purpose, layer) → Due (notes.TimedOut serial) (late_fails node fits good (Ok purpose) layer)
@@ -324,18 +324,18 @@ module _ (units ready : ℕ) (has : 0 < units) (start : List Disk) where
     abbrev own_terms : Target
     own_terms = over (target_at start (hist past s.world))
 
-    abbrev DueNow : Bool → List Note
-    DueNow b = DueBy own_wire (terms (said (notes.TimedOut serial) ∷ hist past s.world)) own_terms (cond b (answer_to (purpose_of own_terms serial) Expired) no_call)
+    abbrev CallNow : Bool → Call
+    CallNow b = cond b (answer_to (purpose_of own_terms serial) Expired) no_call
 
-    by_sender : (so : Option Sending) → own_wire.sent serial ≡ so → DueNow (is_serial (sender_in (own_wire.sent serial)) 0) ≡ []
-    by_sender None e = ap (λ x. DueNow (is_serial (sender_in x) 0)) e
+    by_sender : (so : Option Sending) → own_wire.sent serial ≡ so → CallNow (is_serial (sender_in (own_wire.sent serial)) 0) ≡ no_call
+    by_sender None e = ap (λ x. CallNow (is_serial (sender_in x) 0)) e
     by_sender (Some q) e =
         let from = from_asked start s.world here.holds.sound.stands (g units ready has start s.world here.holds) (law units ready has start s.world here.holds) here.holds.at serial request found q e ∙ node_is in
         let away : nat_eq q.from 0 ≡ false = grind (arith, nat_tests) in
-        ap (λ x. DueNow (is_serial (sender_in x) 0)) e ∙ ap DueNow away
+        ap (λ x. CallNow (is_serial (sender_in x) 0)) e ∙ ap CallNow away
 
-    own_late : DueNow (is_serial (sender_in (own_wire.sent serial)) 0) ≡ []
-    own_late = by_sender (own_wire.sent serial) refl
+    pub own_late_calls : call_by (said (notes.TimedOut serial)) own_terms own_wire ≡ no_call
+    own_late_calls = by_sender (own_wire.sent serial) refl
 
   pub failure_cases : Cases units ready start (FailsWhereDue start)
   failure_cases = record {
@@ -350,7 +350,8 @@ module _ (units ready : ℕ) (has : 0 < units) (start : List Disk) where
     late = λ past s serial request done t found node_is e others here behind judged.
         target_noted t.outbox (with_note (notes.TimedOut serial) (with_target t.node s.world)) others ∙ lapse_due past s here serial request found node_is done t e;
     late_own = λ past s serial request j outbox state found node_is inside e own here behind judged.
-        own_handed is_failure_note failure_kind no_own (suc j) 0 outbox _ own ∙ sym (own_late past s here serial j request found node_is);
+        own_handed is_failure_note failure_kind no_own (suc j) 0 outbox _ own
+        ∙ sym (ap (DueBy (terms (hist past s.world)) (terms (said (notes.TimedOut serial) ∷ hist past s.world)) (over (target_at start (hist past s.world)))) (own_late_calls past s here serial j request found node_is));
     sees = λ past s others here behind judged.
         let latest = s.world.generations.latest in none_noted _ _ others (sight_fails s.world.target (good past s here) latest.generation (id_of latest 0));
     sees_own = λ past s j inside own here behind judged. own_handed is_failure_note failure_kind no_own (suc j) 0 _ _ own;

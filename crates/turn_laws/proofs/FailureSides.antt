@@ -71,6 +71,11 @@ abbrev pub lost_cause : Layer Purpose → ℕ → Option Body → Option FailCau
 lost_cause layer source None = None
 lost_cause layer source (Some body) = unsent_cause (asking_step layer source body purposes.Management).0
 
+-- an answer leaves the labels
+pub answer_alike : (node : NodeState) (p : Packet) (bytes : List ℕ) (m : management.Machine) → Alike node.layer (answered p bytes 0 [] (scene (record node { manager = m }) empty_outbox)).node.layer
+unfolding sending.answer_step answering_step
+answer_alike node p bytes m = filter_alike node.layer _
+
 pub lost_alike : (before now : Layer Purpose) → Alike before now → (source : ℕ) (body : Option Body) → lost_cause now source body ≡ lost_cause before source body
 lost_alike before now a source None = refl
 lost_alike before now a source (Some body) = ap unsent_cause (finds_alike before now a source body purposes.Management)
@@ -179,10 +184,6 @@ module _ (node : NodeState) (fits : (source : ℕ) (answer : Answer) → managem
       answer_none : (rcode : ℕ) (given : List ℕ) → failing (answered p bytes rcode given (scene node empty_outbox)).outbox.sides ≡ []
       answer_none rcode given = quiet_fails _ (calm.answers g.lives node p bytes rcode given (scene node empty_outbox) calm_here).quiet
 
-      answer_alike : (m : management.Machine) → Alike node.layer (answered p bytes 0 [] (scene (record node { manager = m }) empty_outbox)).node.layer
-      unfolding sending.answer_step answering_step
-      answer_alike m = filter_alike node.layer _
-
       starts_fail : (source : ℕ) (r : Result Ask Busy × management.Machine) → ((ask : Ask) → r.0 ≡ Ok ask → management.source_in r.1.operation ≡ Some source) → failing (started_by source p bytes r (scene node empty_outbox)).outbox.sides ≡ start_fails r source
       starts_fail source (Ok ask, m) h =
           let s = answered p bytes 0 [] (scene (record node { manager = m }) empty_outbox) in
@@ -191,7 +192,7 @@ module _ (node : NodeState) (fits : (source : ℕ) (answer : Answer) → managem
           ask_fails source ask s (λ e. ap (λ (x : management.Machine). management.source_in x.operation) same ∙ h ask refl)
           ∙ ap (λ xs. xs ++ fail_side source (lost_cause s.node.layer source (manager_body ask s.node.manager.outgoing))) (quiet_fails _ c.quiet)
           ∙ ap (λ (x : management.Machine). fail_side source (lost_cause s.node.layer source (manager_body ask x.outgoing))) same
-          ∙ ap (fail_side source) (lost_alike node.layer s.node.layer (answer_alike m) source (manager_body ask m.outgoing))
+          ∙ ap (fail_side source) (lost_alike node.layer s.node.layer (answer_alike node p bytes m) source (manager_body ask m.outgoing))
       starts_fail source (Err busy, m) h = quiet_fails _ (calm.answers g.lives (record node { manager = m }) p bytes 4 [] (scene (record node { manager = m }) empty_outbox) (calm_at m)).quiet
 
       started_source : (operation : Option Operation) (source orb : ℕ) (ask : Ask) → (management.start_with operation node.manager source orb).0 ≡ Ok ask → management.source_in (management.start_with operation node.manager source orb).1.operation ≡ Some source

@@ -27,7 +27,7 @@ use Rattle.sbp_journal.specs.Transactions.{Kind, Part, Sending, Transaction, ask
 use Rattle.async_packet.specs.Fields.{rcode_of}
 use Rattle.sbp_journal.specs.Wire.{Held, Terms, arrives, closes, closes_if, free, gets, gets_as, is_news, is_served, judges, rests, terms, waits}
 use Rattle.sbp_journal.specs.declared.note.Note.TheVariants as notes
-use Rattle.sbp_laws.specs.Packets.{finds_label, label_for}
+use Rattle.sbp_laws.specs.Packets.{finds_label, free_from, free_labels, is_free, label_for, to_peer}
 use Rattle.sbp_laws.specs.Targets.{target_at}
 use Rattle.sbp_target.specs.declared.purpose.Purpose.{Purpose}
 use Rattle.sbp_target.specs.declared.purpose.Purpose.TheVariants as purposes
@@ -40,6 +40,7 @@ use Rattle.sbp_world.proofs.Agents.Management.Still.{hist}
 use Rattle.sbp_world.proofs.Wire.Asks.{upd_own}
 use Rattle.sbp_world.proofs.Wire.Found.{node_found}
 use Rattle.sbp_world.proofs.Wire.Holding.{latest_small}
+use Rattle.turn_laws.proofs.FreeLabels.{KnowsLabels, knows_peers, knows_then, labels_at}
 use Rattle.turn_laws.proofs.RequestLabels.{AreOf, bytes_at, finds_at}
 use Rattle.turn_laws.proofs.StepLabels.{finds_in, peers_ask}
 use Rattle.turn_laws.proofs.Places.{Place}
@@ -70,6 +71,11 @@ module _ (node peer : ℕ) (body : Body) where
       ∙ (ap (λ i. found (record b { ids = i; held = a.held; last = a.last })) s.ids
       ∙ (ap (λ h. found (record b { held = h; last = a.last })) s.held
       ∙ ap (λ l. found (record b { last = l })) s.last)))
+
+pub same_frees : (node peer : ℕ) (a b : Terms) → SameLabels a b → free_labels a node peer ≡ free_labels b node peer
+same_frees node peer a b s =
+    ap (λ g. free_from 64 (λ label. is_free (a.held (to_peer (record a { generation = g }) node peer label)))) s.generation
+    ∙ ap (λ h. free_from 64 (λ label. is_free (h (to_peer b node peer label)))) s.held
 
 -- a packet is got in a line that repeats as in one that does not
 abbrev repeating : Terms → Terms
@@ -150,7 +156,7 @@ module _ (units ready : ℕ) (start : List Disk) (past : List Moment) (s : Scene
   peer_is = node_found w here.holds.sound.stands 0 (omega arith) login.node (record { node = suc i; there = inside; id_is = node_id })
 
   -- over any wire with the target's generation
-  module _ (before : List Moment) (layers : ℕ → Node) (v : WorldState) (stands : StandsAt before layers None v) (generations : v.generations ≡ w.generations) (count : length v.initiators ≡ length w.initiators) (layer : Layer Purpose) (own_is : layers 0 ≡ bare layer) (small : layer.node < 2 ^ 16) (body : Body) (fit : FitsRequest body) where
+  module _ (before : List Moment) (layers : ℕ → Node) (v : WorldState) (stands : StandsAt before layers None v) (generations : v.generations ≡ w.generations) (count : length v.initiators ≡ length w.initiators) (layer : Layer Purpose) (own_is : layers 0 ≡ bare layer) (small : layer.node < 2 ^ 16) where
     inside_there : suc i ≤ length v.initiators
     inside_there = let f : suc i ≤ length w.initiators = inside in let c = count in omega (arith, f, c)
 
@@ -165,14 +171,18 @@ module _ (units ready : ℕ) (start : List Disk) (past : List Moment) (s : Scene
     id_small : login.node < 2 ^ 16
     id_small = subst (λ n. n < 2 ^ 16) node_id (latest_small (topology_at w.generations 0) (suc i))
 
-    valid : IsValid (request_with (header_to layer.node login.node 0) body)
-    valid = request_fits layer.node login.node body small id_small fit
+    labels_there : KnowsLabels (terms (hist before v)) 0 (suc i) login.node layer
+    labels_there = labels_at v stands 0 (suc i) low inside_there layer own_is login.node id_is small id_small
 
-    finds_there : finds_in q layer login body ≡ finds_label (terms (hist before v)) 0 (suc i) body
-    finds_there = finds_at v stands 0 (suc i) low inside_there layer own_is login.node id_is body valid (purposes.Agent q)
+    module _ (body : Body) (fit : FitsRequest body) where
+      valid : IsValid (request_with (header_to layer.node login.node 0) body)
+      valid = request_fits layer.node login.node body small id_small fit
 
-    spells_there : (asked : Asked) → (asking_step layer login.node body (purposes.Agent q)).0 ≡ Some asked → AreOf body asked.bytes
-    spells_there = bytes_at v stands 0 (suc i) low inside_there layer own_is login.node id_is body valid (purposes.Agent q)
+      finds_there : finds_in q layer login body ≡ finds_label (terms (hist before v)) 0 (suc i) body
+      finds_there = finds_at v stands 0 (suc i) low inside_there layer own_is login.node id_is body valid (purposes.Agent q)
+
+      spells_there : (asked : Asked) → (asking_step layer login.node body (purposes.Agent q)).0 ≡ Some asked → AreOf body asked.bytes
+      spells_there = bytes_at v stands 0 (suc i) low inside_there layer own_is login.node id_is body valid (purposes.Agent q)
 
   small_here : node.layer.node < 2 ^ 16
   small_here = here.holds.sound.nodes.target_holds.layer.small
@@ -195,6 +205,11 @@ module _ (units ready : ℕ) (start : List Disk) (past : List Moment) (s : Scene
     late_spells body fit =
         spells_there past (upd (layers_of w) request.node (bare new)) (with_note (notes.TimedOut serial) w) stands_late refl refl new
         (ap (λ n. upd (layers_of w) n (bare new) 0) zero_is ∙ upd_own (layers_of w) 0 (bare new)) small_late body fit
+
+    pub late_labels : KnowsLabels (terms (said (notes.TimedOut serial) ∷ ms)) 0 (suc i) login.node new
+    late_labels =
+        labels_there past (upd (layers_of w) request.node (bare new)) (with_note (notes.TimedOut serial) w) stands_late refl refl new
+        (ap (λ n. upd (layers_of w) n (bare new) 0) zero_is ∙ upd_own (layers_of w) 0 (bare new)) small_late
 
   -- ---- a packet that is got
   module _ (serial : ℕ) (one : Sent) (found : found_sent serial w.store.kept ≡ Some one) (zero_to : one.to ≡ 0) where
@@ -227,6 +242,13 @@ module _ (units ready : ℕ) (start : List Disk) (past : List Moment) (s : Scene
           spells_there line (upd (layers_of v) one.to (bare new)) (with_note (notes.Got serial) v) stands_got refl refl new
           (ap (λ n. upd (layers_of v) n (bare new) 0) zero_to ∙ upd_own (layers_of v) 0 (bare new)) small_got body fit
 
+      pub response_labels : KnowsLabels (terms (said (notes.Got serial) ∷ ms)) 0 (suc i) login.node new
+      response_labels =
+          knows_then (terms (said (notes.Got serial) ∷ line)) (terms (said (notes.Got serial) ∷ ms)) 0 (suc i) login.node new
+          (same_frees 0 (suc i) (terms (said (notes.Got serial) ∷ line)) (terms (said (notes.Got serial) ∷ ms)) (gets_same (t.sent serial) serial t))
+          (labels_there line (upd (layers_of v) one.to (bare new)) (with_note (notes.Got serial) v) stands_got refl refl new
+          (ap (λ n. upd (layers_of v) n (bare new) 0) zero_to ∙ upd_own (layers_of v) 0 (bare new)) small_got)
+
     -- a request, which is answered first
     module _ (number : ℕ) (kind : Kind) (part : part_of one.bytes ≡ request number kind) (new : Layer Purpose) (peers_are : new.peers ≡ node.layer.peers) (node_is : new.node ≡ node.layer.node) where
       pub request_finds : (body : Body) → FitsRequest body → finds_in q new login body ≡ finds_label (terms (said (notes.Got serial) ∷ ms)) 0 (suc i) body
@@ -239,3 +261,11 @@ module _ (units ready : ℕ) (start : List Disk) (past : List Moment) (s : Scene
       request_spells body fit asked e =
           spells_there past (layers_of w) w here.holds.sound.stands refl refl node.layer refl small_here body fit asked
           (sym (peers_ask node.layer new peers_are node_is login.node body (purposes.Agent q)) ∙ e)
+
+      pub asked_labels : new.generation ≡ node.layer.generation → KnowsLabels (terms (said (notes.Got serial) ∷ ms)) 0 (suc i) login.node new
+      asked_labels generation_is =
+          let after = terms (said (notes.Got serial) ∷ ms) in
+          knows_peers after 0 (suc i) login.node node.layer new peers_are node_is generation_is
+          (knows_then t after 0 (suc i) login.node node.layer
+          (sym (same_frees 0 (suc i) after t (request_labels serial (as_sending one) number kind t (was_sent w here.holds.sound.stands serial one found) part)))
+          (labels_there past (layers_of w) w here.holds.sound.stands refl refl node.layer refl small_here))

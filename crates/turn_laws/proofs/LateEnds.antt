@@ -42,12 +42,13 @@ use Rattle.sbp_world.proofs.Agents.CrewLapse.{Asked, asked, for_it, handed as ha
 use Rattle.sbp_world.proofs.Agents.CrewSeats.{IsServing}
 use Rattle.sbp_world.proofs.Agents.Management.Still.{hist}
 use Rattle.sbp_world.proofs.Agents.Steps.{reply_alike}
+use Rattle.sbp_world.proofs.Common.{some_none}
 use Rattle.sbp_world.proofs.Lists.DueTurns.{plain_told}
 use Rattle.sbp_world.proofs.Lists.RunTells.{AreRunless, lapse_runless}
 use Rattle.sbp_world.proofs.Lists.Runless.{AllPlain}
 use Rattle.turn_laws.proofs.AgentDue.{IsTurnOf, TellsEnds, has_steps, none_tells, turn_in, turn_tells}
 use Rattle.turn_laws.proofs.AgentEnds.{Tells, expired_tells, found_at}
-use Rattle.turn_laws.proofs.AgentHere.{again_body, desk_fits, fifo_is, good, holder_is, initiator_is, lost_body, lost_carries, names_are, stands_are, up_by}
+use Rattle.turn_laws.proofs.AgentHere.{again_body, desk_fits, fifo_is, good, holder_is, initiator_is, lost_ahead, lost_ahead_body, lost_body, lost_carries, names_are, stands_are, up_by}
 use Rattle.turn_laws.proofs.EndNotes.{NoEnds, beside_handed, ends_noted, low_ranks, none_handed}
 use Rattle.turn_laws.proofs.FollowEnds.{ends_in}
 use Rattle.turn_laws.proofs.EndShapes.{lost_shaped}
@@ -61,7 +62,8 @@ use Rattle.turn_laws.proofs.TurnWrites.{all_writes, turn_writes}
 use Rattle.sbp_laws.specs.SentWrites.{writes_to}
 use Rattle.sbp_world.proofs.FitTarget.Agents.{lost_fits}
 use Rattle.sbp_world.proofs.Lists.StatusSteps.{lost_leaves}
-use Rattle.turn_laws.proofs.FoundLabels.{late_finds, late_spells, peer_is}
+use Rattle.turn_laws.proofs.FoundLabels.{late_finds, late_labels, late_spells, peer_is}
+use Rattle.turn_laws.proofs.FreeLabels.{KnowsLabels}
 use Rattle.turn_laws.proofs.Handed.{handed}
 use Rattle.turn_laws.proofs.OrderManaged.{manages}
 use Rattle.turn_laws.proofs.Places.{Place}
@@ -98,7 +100,7 @@ module _ (units ready : ℕ) (has : 0 < units) (start : List Disk) (past : List 
     a : Asked units ready has start w here.holds serial request found zero_is purpose new e
     a = asked units ready has start w here.holds serial request found zero_is purpose new e
 
-    sender : is_serial (sender_in (wire.sent serial)) 0 ≡ true
+    pub sender : is_serial (sender_in (wire.sent serial)) 0 ≡ true
     sender = ap (λ so. is_serial (sender_in so) 0) a.sent ∙ ap (λ n. is_serial (Some n) 0) a.from
 
     event_for : (rest : List Note) (for : TermPurpose) → purpose_of T serial ≡ for → agent_event start (t rest) ≡ reply_to for Expired
@@ -179,6 +181,10 @@ module _ (units ready : ℕ) (has : 0 < units) (start : List Disk) (past : List 
       turn_is : (rest : List Note) → turn_in start (t rest) ≡ Some (law_turn rest)
       turn_is rest = turn_for rest (replies reply) (event_for rest (for_agent q its.which) its.purpose_is)
 
+      -- so it is for an agent
+      pub has_turn : (rest : List Note) → turn_in start (t rest) ≡ None → ⊥
+      has_turn rest e = some_none (law_turn rest) (sym (turn_is rest) ∙ e)
+
       module _ (rest : List Note) (plainly : AllPlain rest) where
         alike : StepsAlike A.untold A.untold (law_step rest) l
         alike =
@@ -246,7 +252,13 @@ module _ (units ready : ℕ) (has : 0 < units) (start : List Disk) (past : List 
               spells = late_spells units ready start past s here q login there live serial request found zero_is purpose new e;
               fits_lost = again_body units ready has start past s here q login there live l.1 (lost_fits d.agent its.which causes.Timeout (here.holds.sound.nodes.target_holds.fits.agents q)).agent;
               tame = (lost_leaves d.agent its.which causes.Timeout).tame;
+              ahead = lost_ahead d (desk_fits units ready has start past s here q b) its.which its.sent its.kept causes.Timeout;
+              fits_ahead = lost_ahead_body units ready has start past s here q login there live its.which causes.Timeout;
+              labels = subst (λ n. KnowsLabels (terms (said (notes.TimedOut serial) ∷ ms)) 0 (suc n) login.node new)
+                  (sym (initiator_is units ready has start past s here q login there live ∙ holder_is units ready has start past s here q login there live))
+                  (late_labels units ready start past s here q login there live serial request found zero_is purpose new e);
               behind = tells.behind;
+              behind_is = tells.behind_is;
               writes = writes;
               sends = sends;
               holders = holder now;

@@ -41,6 +41,7 @@ pub mod RequestWrites
 pub mod FetchSteps
 pub mod EndNotes
 pub mod EndFound
+pub mod ReadAheads
 pub mod AgentEnds
 pub mod FoundLabels
 pub mod AgentDue
@@ -50,6 +51,7 @@ pub mod LateEnds
 pub mod ReplyEnds
 pub mod GotEnds
 pub mod RequestEvents
+pub mod OnlyAnswers
 pub mod AskEnds
 pub mod RequestEnds
 pub mod TargetEnds
@@ -141,6 +143,8 @@ pub mod Announcing
 pub mod StatusKinds
 pub mod PushOwners
 pub mod OtherLabels
+pub mod FreeLabels
+pub mod FirstLayers
 pub mod FollowLayers
 pub mod AnnouncedLayers
 pub mod PushNotes
@@ -201,5 +205,9 @@ pub mod KnownRuns
 pub mod SentBodies
 pub mod SentOwn
 pub mod TurnSends
-pub mod FirstRequests
+pub mod AgentSends
+pub mod RequestPackets
 pub mod AgentRequests
+pub mod RequestPackets
+pub mod ManagerRequests
+pub mod PushRequests

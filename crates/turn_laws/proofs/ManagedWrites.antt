@@ -79,6 +79,7 @@ use Rattle.turn_laws.proofs.OperationFinds.{finds_response, spells_response}
 use Rattle.turn_laws.proofs.OperationSteps.{body_same, step_stays}
 use Rattle.turn_laws.proofs.Operators.{IsOperator, laws_name, operator_is, operator_node}
 use Rattle.turn_laws.proofs.Places.{Place}
+use Rattle.turn_laws.proofs.RequestLabels.{access_in_body}
 use Rattle.turn_laws.proofs.RequestWrites.{read_by, written_by}
 use Rattle.turn_laws.proofs.TurnWrites.{all_writes, handed_writes, packet_writes, reads_write, to_peer}
 
@@ -123,7 +124,7 @@ start_none start t None source = tt
 start_none start t (Some access) source = start_at_none start t (start_at access.offset) source access
 
 -- ---- the packets of a response to the operation, and the logins behind it
-abbrev Found : NodeState → (Finding Purpose) → Layer Purpose → Whole → Type 0
+abbrev pub Found : NodeState → (Finding Purpose) → Layer Purpose → Whole → Type 0
 Found node (of_response p label (Some purposes.Management)) layer w =
     ((scene_of w).outbox.packets ≡ reply_packets node layer (source_in node.manager.operation) (answer_in p)) × ((scene_of w).node.logins ≡ (reply_step node.manager node.logins node.keys (answer_in p)).1.1)
 Found node finding layer w = Unit {0}
@@ -132,7 +133,7 @@ module _ (node : NodeState) (g : Good node) (run : Option Told) (disks : List Di
   abbrev up : Finding Purpose → Layer Purpose → Whole
   up f layer = (received_as run bytes f (with_layer layer (whole (target_scene node empty_outbox) disks))).1
 
-  found_so : (f : Finding Purpose) (layer : Layer Purpose) → judging_step node.layer generation bytes ≡ (f, layer) → IsFound f node.layer layer bytes → Found node f layer (up f layer)
+  pub found_so : (f : Finding Purpose) (layer : Layer Purpose) → judging_step node.layer generation bytes ≡ (f, layer) → IsFound f node.layer layer bytes → Found node f layer (up f layer)
   unfolding concluded
   found_so of_generation layer e f = tt
   found_so of_grammar layer e f = tt
@@ -251,7 +252,7 @@ module _ (units ready : ℕ) (has : 0 < units) (start : List Disk) (past : List 
               let b : step_body r ≡ Some body = sym body_is ∙ ap (λ x. body_for x r.1.0) f in
               its body b
               ∙ written_by (suc i) source offset r.1.0.outgoing (asked body)
-              (spells_response units ready has start past s here serial one found zero_to outbox v fresh_is then p label (Some purposes.Management) layer e i source of body (fits body b))
+              (λ given f. access_in_body body given.bytes (spells_response units ready has start past s here serial one found zero_to outbox v fresh_is then p label (Some purposes.Management) layer e i source of body (fits body b) given f))
               ∙ ap (λ x. cond x (record { to = suc i; offset = offset; payload = r.1.0.outgoing } ∷ []) [])
               (finds_response units ready has start past s here serial one found zero_to outbox v fresh_is then p label (Some purposes.Management) layer e i source of body (fits body b))
 

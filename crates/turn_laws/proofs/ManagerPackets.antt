@@ -1,10 +1,12 @@
 -- The packets of a call of the management operation (NCITS 325-1998, management agent): one request, to the node of the operation, where it asks for something and that finds a label. A decision, a failure and a lost request send nothing. And the logins behind it.
-use Rattle.std.proofs.Common.{◌≡◌, ◌∙◌, refl, sym, ap, ℕ, List, [], ◌++◌, append-nil, Option, Some, None}
+use Rattle.std.proofs.Common.{◌≡◌, ◌∙◌, refl, sym, ap, subst, ℕ, List, [], ◌∷◌, ◌++◌, append-nil, length, Option, Some, None, Result, Ok, Err}
+use Rattle.async_packet.specs.Packet.{Packet, header_in}
 use Rattle.label_table.specs.Bodies.{Body}
 use Rattle.label_table.specs.declared.judgement.Asked.{Asked}
-use Rattle.label_table.specs.Layer.{Layer, asking_step}
+use Rattle.label_table.specs.Layer.{Layer, answering_step, asking_step}
 use Rattle.login_table.specs.Table.{Table}
 use Rattle.mgmt_agent.specs.declared.decision.ManagerStep.{ManagerStep}
+use Rattle.mgmt_agent.specs.declared.operation.Busy.{Busy}
 use Rattle.mgmt_agent.specs.declared.operation.Operation.{Operation}
 use Rattle.mgmt_agent.specs.Machine as management
 use Rattle.orb_layout.specs.declared.ask.Ask.{Ask}
@@ -12,10 +14,13 @@ use Rattle.orb_layout.specs.declared.ask.FailCause.{FailCause}
 use Rattle.orb_layout.specs.Replies.{Answer, NoLabel}
 use Rattle.sbp_journal.specs.declared.outbox.Outgoing.{Outgoing}
 use Rattle.sbp_journal.specs.Outgoings.{OutboxState, empty_outbox}
+use Rattle.target_base.specs.Addresses.{demand_of}
+use Rattle.target_base.specs.declared.address.Demand.TheVariants as demands
 use Rattle.sbp_target.specs.declared.purpose.Purpose.{Purpose}
 use Rattle.sbp_target.specs.declared.purpose.Purpose.TheVariants as purposes
 use Rattle.sbp_target.specs.Management.{ask_manager, decided_by, failed_by, lose_operation, lost_in, manage, managed_in, managed_with, manager_asked, manager_body, manager_lost, manager_sent, tell_failed, with_manager}
 use Rattle.sbp_target.specs.Nodes.{NodeState, Scene, scene}
+use Rattle.sbp_target.specs.Serving.{answered, serve, served_as, start, started_by}
 use Rattle.sbp_target.specs.Sending.{sent_by}
 use Rattle.sbp_target.specs.Sending as sending
 use Rattle.sbp_target.proofs.Histories.Managing.{unlabelled}
@@ -25,7 +30,7 @@ use Rattle.sbp_world.proofs.Agents.Management.Calm.{From}
 use Rattle.sbp_world.proofs.Agents.Management.Managing.{decision_stands}
 use Rattle.turn_laws.proofs.AskedLabels.{Alike, finds_alike}
 use Rattle.turn_laws.proofs.FailureEffects.{decided_keeps}
-use Rattle.turn_laws.proofs.FailureSides.{office_at, step_body}
+use Rattle.turn_laws.proofs.FailureSides.{answer_alike, office_at, step_body}
 use Rattle.turn_laws.proofs.FollowSends.{packet_of}
 
 -- ---- the packets of a scene
@@ -96,6 +101,39 @@ manage_packets node answer layer lives f = by (management.source_in node.manager
     by : (source : Option ℕ) → out (managed_in source answer (scene (record node { layer = layer }) empty_outbox)) ≡ reply_packets node layer source answer
     by None = refl
     by (Some source) = with_packets lives source (record node { layer = layer }) f (management.reply_step node.manager node.logins node.keys answer)
+
+-- ---- an operation is started: its request stands behind the answer
+abbrev pub start_packets : NodeState → (source : ℕ) → Result Ask Busy × management.Machine → List Outgoing
+start_packets node source (Ok ask, m) = operation_packets node.layer source (manager_body ask m.outgoing)
+start_packets node source (Err busy, m) = []
+
+-- these stand behind one to this node
+pub record StandBehind (to : ℕ) (packets all : List Outgoing) : Type 0 where
+  pub first : Outgoing
+  pub to_is : first.to ≡ to
+  pub is : all ≡ first ∷ packets
+
+module _ (node : NodeState) (p : Packet) (bytes : List ℕ) where
+  abbrev source : ℕ
+  source = (header_in p).source
+
+  starts : (r : Result Ask Busy × management.Machine) → StandBehind source (start_packets node source r) (out (started_by source p bytes r (scene node empty_outbox)))
+  unfolding sending.answer_step
+  starts (Ok ask, m) =
+      let s = answered p bytes 0 [] (scene (record node { manager = m }) empty_outbox) in
+      let first : Outgoing = record { to = source; label = None; bytes = (answering_step node.layer p bytes 0 []).0 } in
+      record {
+        first = first;
+        to_is = refl;
+        is = ask_packets source ask s ∙ ap (λ ps. first ∷ ps) (packets_alike node.layer s.node.layer (answer_alike node p bytes m) source (manager_body ask m.outgoing));
+      }
+  starts (Err busy, m) = record { first = record { to = source; label = None; bytes = (answering_step node.layer p bytes 4 []).0 }; to_is = refl; is = refl }
+
+  pub serve_packets : (orb : ℕ) → demand_of (length node.rom) p ≡ demands.Manage orb → StandBehind source (start_packets node source (management.start_step node.manager source orb)) (out (serve p bytes (scene node empty_outbox)))
+  unfolding serve start
+  serve_packets orb e =
+      subst (λ d. StandBehind source (start_packets node source (management.start_step node.manager source orb)) (out (served_as d p bytes (scene node empty_outbox)))) (sym e)
+      (starts (management.start_step node.manager source orb))
 
 -- ---- the logins behind it: those that its step leaves
 lost_logins : (source : ℕ) (s : Scene) (r : ManagerStep × (management.Machine × Table)) → r.1.1 ≡ s.node.logins → (manager_lost source s r).node.logins ≡ s.node.logins

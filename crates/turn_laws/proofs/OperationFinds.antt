@@ -23,7 +23,7 @@ use Rattle.sbp_journal.specs.Run.{Moment, said}
 use Rattle.sbp_journal.specs.Transactions.{Kind, Sending, Transaction, asked_by, part_of, request}
 use Rattle.sbp_journal.specs.Wire.{Terms, arrives, gets, gets_as, is_news, is_served, judges, terms}
 use Rattle.sbp_journal.specs.declared.note.Note.TheVariants as notes
-use Rattle.sbp_laws.specs.Packets.{access_in_bytes, finds_label, id_for, label_for}
+use Rattle.sbp_laws.specs.Packets.{finds_label, id_for, label_for}
 use Rattle.sbp_target.specs.declared.purpose.Purpose.{Purpose}
 use Rattle.sbp_target.specs.declared.purpose.Purpose.TheVariants as purposes
 use Rattle.sbp_world.specs.Delivering.{marked}
@@ -40,7 +40,7 @@ use Rattle.sbp_world.proofs.Wire.Deliver.{judged_marked}
 use Rattle.sbp_world.proofs.Wire.Holding.{latest_small}
 use Rattle.sbp_world.proofs.Wire.Nodes.{marked_alike}
 use Rattle.turn_laws.proofs.Flown.{got_flies}
-use Rattle.turn_laws.proofs.RequestLabels.{access_in_body, body_access, bytes_at, finds_at}
+use Rattle.turn_laws.proofs.RequestLabels.{AreOf, bytes_at, finds_at}
 use Rattle.turn_laws.proofs.Operators.{IsOperator}
 use Rattle.turn_laws.proofs.Places.{Place}
 
@@ -98,10 +98,9 @@ module _ (units ready : ℕ) (has : 0 < units) (start : List Disk) (past : List 
     finds_there =
         finds_at v h 0 (suc i) (omega arith) (subst (λ n. suc i ≤ n) (ap length (sym alike.initiators)) inside) layer own source (id_there (suc i) inside ∙ source_is) body valid purposes.Management
 
-    spells_there : (asked : Asked) → (asking_step layer source body purposes.Management).0 ≡ Some asked → access_in_bytes asked.bytes ≡ body_access body
-    spells_there asked e =
-        access_in_body body asked.bytes
-        (bytes_at v h 0 (suc i) (omega arith) (subst (λ n. suc i ≤ n) (ap length (sym alike.initiators)) inside) layer own source (id_there (suc i) inside ∙ source_is) body valid purposes.Management asked e)
+    spells_there : (asked : Asked) → (asking_step layer source body purposes.Management).0 ≡ Some asked → AreOf body asked.bytes
+    spells_there =
+        bytes_at v h 0 (suc i) (omega arith) (subst (λ n. suc i ≤ n) (ap length (sym alike.initiators)) inside) layer own source (id_there (suc i) inside ∙ source_is) body valid purposes.Management
 
   module _ (serial : ℕ) (one : Sent) (found : found_sent serial w.store.kept ≡ Some one) (zero_to : one.to ≡ 0) where
     -- ---- behind a response
@@ -128,7 +127,7 @@ module _ (units ready : ℕ) (has : 0 < units) (start : List Disk) (past : List 
           finds_there now stands_now (record { generations = alike.generations; target = alike.target; initiators = alike.initiators }) layer own i source of body fits
           ∙ ap (λ x. finds_label (terms (said (notes.Got serial) ∷ x)) 0 (suc i) body) (marked_hist past serial again w)
 
-      pub spells_response : (i source : ℕ) → Operator i source → (body : Body) → FitsRequest body → (asked : Asked) → (asking_step layer source body purposes.Management).0 ≡ Some asked → access_in_bytes asked.bytes ≡ body_access body
+      pub spells_response : (i source : ℕ) → Operator i source → (body : Body) → FitsRequest body → (asked : Asked) → (asking_step layer source body purposes.Management).0 ≡ Some asked → AreOf body asked.bytes
       spells_response i source of body fits =
           let alike = marked_alike w serial again in
           let own = ap (upd (layers_of w) one.to (bare layer)) (sym zero_to) ∙ upd_own (layers_of w) one.to (bare layer) in
@@ -140,3 +139,6 @@ module _ (units ready : ℕ) (has : 0 < units) (start : List Disk) (past : List 
         let part = asks_part units ready has start w here.holds serial false one found zero_to p read none in
         finds_there w stands (record { generations = refl; target = refl; initiators = refl }) w.target.layer refl i source of body fits
         ∙ sym (got_finds serial part.label part.kind (as_sending one) (terms ms) (suc i) body (was_sent w stands serial one found) part.part)
+
+    pub spells_request : (i source : ℕ) → Operator i source → (body : Body) → FitsRequest body → (asked : Asked) → (asking_step w.target.layer source body purposes.Management).0 ≡ Some asked → AreOf body asked.bytes
+    spells_request i source of body fits = spells_there w stands (record { generations = refl; target = refl; initiators = refl }) w.target.layer refl i source of body fits

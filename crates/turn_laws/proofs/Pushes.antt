@@ -1,11 +1,16 @@
 -- Each turn of every run has the notes of unsolicited statuses that the media law has: a login that hears of a disc is sent one where its write finds a label and none is pending to its
 -- node, and both are so at its place, behind the requests of the agent that loaded the disc and the statuses to other nodes, as they are by the terms behind the turn's first note.
-use Rattle.std.proofs.Common.{arith, ◌≡◌, ◌∙◌, refl, sym, ap, subst, inl, inr, ℕ, suc, ◌+◌, ◌<◌, ◌≤◌, ◌==◌, ◌&&◌, ◌||◌, not, nat_eq, is_some, Bool, true, false, List, [], ◌∷◌, ◌++◌, length, map, Option, Some, None, Result}
+use Rattle.std.proofs.Common.{arith, ◌≡◌, ◌∙◌, refl, sym, ap, subst, inl, inr, ℕ, suc, ◌+◌, ◌<◌, ◌≤◌, ◌^◌, ◌==◌, ◌&&◌, ◌||◌, not, nat_eq, is_some, Bool, true, false, List, [], ◌∷◌, ◌++◌, length, map, Option, Some, None, Result, Ok}
 use Rattle.std.specs.List.{list_any}
 use Rattle.std.proofs.lemmas.Bool.Decides.{nat_tests}
 use Rattle.async_packet.specs.Labels.{LabelParts}
 use Rattle.async_packet.specs.Packet.{Packet, header_in}
+use Rattle.async_packet.specs.Reading.{reading}
 use Rattle.bus_transactions.specs.Bare.{bare}
+use Rattle.bus_transactions.specs.Judging.{AreJudged}
+use Rattle.bus_transactions.specs.Wire.{as_sending}
+use Rattle.bus_transactions.proofs.FitSteps.{judges_same}
+use Rattle.bus_transactions.proofs.Fits.{request_fits}
 use Rattle.bus_transactions.specs.Fitting.{FitsRequest}
 use Rattle.bus_transactions.proofs.Rooms.{HasRoom}
 use Rattle.label_table.specs.Bodies.{Body}
@@ -19,7 +24,7 @@ use Rattle.packet_store.specs.Kept.{found_sent}
 use Rattle.packet_store.specs.declared.sent.Sent.{Sent}
 use Rattle.rbc_disk.specs.Disk.{Disk, disk_at}
 use Rattle.rbc_disk.specs.Runs.{Told}
-use Rattle.sbp_bus.specs.Generations.{id_of}
+use Rattle.sbp_bus.specs.Generations.{id_of, topology_at}
 use Rattle.sbp_bus.specs.Packets.{end_note, judged_note}
 use Rattle.sbp_bus.specs.Places.{or_nobody}
 use Rattle.sbp_bus.specs.declared.places.Holder.{Holder}
@@ -41,12 +46,17 @@ use Rattle.sbp_journal.specs.declared.event.Event.{Event}
 use Rattle.sbp_journal.specs.declared.event.Event.TheVariants as events
 use Rattle.sbp_journal.specs.declared.note.Note.{Note}
 use Rattle.sbp_journal.specs.declared.note.Note.TheVariants as notes
+use Rattle.sbp_journal.specs.declared.outbox.Outgoing.{Outgoing}
 use Rattle.sbp_journal.specs.declared.side.Side.{Side}
-use Rattle.sbp_laws.specs.MediaLaw.{Load, is_pending, is_push_note, load_if, load_in, logins_for, may_push, push_body, push_notes}
+use Rattle.sbp_laws.specs.Agents.{target_before, wire_after}
+use Rattle.sbp_laws.specs.Agents as laws
+use Rattle.sbp_laws.specs.Management.{call_of, no_call}
+use Rattle.sbp_laws.specs.SentRequests.{behind_answer}
+use Rattle.sbp_laws.specs.MediaLaw.{Load, is_pending, is_push_note, load_if, load_in, logins_for, logins_told, may_push, push_body, push_notes, push_requests}
 use Rattle.sbp_laws.specs.NoteKinds.{of_kind}
 use Rattle.sbp_laws.specs.Packets.{finds_label}
 use Rattle.sbp_laws.specs.Targets.{Target, initiator_with, over, place_on, target_at}
-use Rattle.sbp_laws.specs.Turns.{Turn, turn}
+use Rattle.sbp_laws.specs.Turns.{EachTurn, Turn, turn}
 use Rattle.sbp_target.specs.Calls.{receives}
 use Rattle.sbp_target.specs.Histories.Layers.{first_of, layer_after}
 use Rattle.sbp_target.specs.Histories.Sides.{Announces, AreLast, agent_tells, announced_from, announced_if, decision_changes, delivery_tells, operation_tells, request_changes}
@@ -69,29 +79,36 @@ use Rattle.sbp_world.specs.Delivering.{MayTell, faults_after, marked, whole_of}
 use Rattle.sbp_world.specs.FitTarget.{FitsLogin}
 use Rattle.sbp_world.specs.Handing.{handed_out}
 use Rattle.sbp_world.specs.Hosts.Handing.{AreOthers}
+use Rattle.sbp_world.specs.Sending.{sent_all}
 use Rattle.sbp_world.specs.Telling.{holder}
 use Rattle.sbp_world.specs.Lines.{weight_in}
 use Rattle.sbp_world.specs.Wire.Wires.{layers_of}
 use Rattle.sbp_world.specs.Worlds.{Scene, WorldState, initiator_at, with_note, with_target}
 use Rattle.sbp_world.proofs.Agents.CrewFirsts.{agrees}
 use Rattle.sbp_world.proofs.Agents.Management.Calm.{AreQuiet}
-use Rattle.sbp_world.proofs.Agents.Management.Holding.{good_of}
+use Rattle.sbp_world.proofs.Agents.Management.Delivery.{marked_generations}
+use Rattle.sbp_world.proofs.Agents.Management.Holding.{good_of, known_id, was_sent}
 use Rattle.sbp_world.proofs.Agents.Management.Still.{hist}
 use Rattle.sbp_world.proofs.Common.{and_first, and_second, equal, untrue}
 use Rattle.sbp_world.proofs.Formed.{AreOwn}
 use Rattle.sbp_world.proofs.Lists.RunTells.{NoneRan, RanBy, TellsRun, delivery_tells as runs_tell, served_there}
+use Rattle.sbp_world.proofs.Wire.Alike.{all_alike}
 use Rattle.sbp_world.proofs.Wire.Asks.{upd_own}
 use Rattle.sbp_world.proofs.Wire.Bus.{holds}
+use Rattle.sbp_world.proofs.Wire.Holding.{latest_small}
 use Rattle.turn_laws.specs.Alone.{PushesAlone}
 use Rattle.turn_laws.specs.Announced.{AnnouncesWhereDue, hearer}
 use Rattle.turn_laws.specs.Pushes.{PushesLaw, PushesWhereDue}
+use Rattle.turn_laws.specs.Runs.{OfEveryRun}
 use Rattle.turn_laws.proofs.Alone.{alone_cases, any_none, first_kept_here}
 use Rattle.turn_laws.proofs.AnnouncedLayers.{AnnouncesOn, reply_tells}
 use Rattle.turn_laws.proofs.Announcing.{agent_quiet, announced_cases, got_ids, got_initiator, hearer_is, load_of, loader_live, own_push, push_kind, second_of, told_same}
 use Rattle.turn_laws.proofs.Calls.{Brings, CarriedCases, Cases, calls, injects, loses, refuses, refuses_action, resets, sets_key}
 use Rattle.turn_laws.proofs.Cuts.{marked_holder}
-use Rattle.turn_laws.proofs.FoundLabels.{response_finds}
-use Rattle.turn_laws.proofs.Handed.{handed, notes_told}
+use Rattle.turn_laws.proofs.EachTurns.{brought_law}
+use Rattle.turn_laws.proofs.FoundLabels.{peer_is, response_finds}
+use Rattle.turn_laws.proofs.Gots.{agent_calls}
+use Rattle.turn_laws.proofs.Handed.{handed, notes_sent, notes_told}
 use Rattle.turn_laws.proofs.KindNotes.{kind_handed, own_handed}
 use Rattle.turn_laws.proofs.LaterTerms.{Pushes}
 use Rattle.turn_laws.proofs.ManagedSides.{from_self}
@@ -101,22 +118,45 @@ use Rattle.turn_laws.proofs.PendingHeard.{agent_not, base, good as heard_good}
 use Rattle.turn_laws.proofs.PendingKept.{Id, Pending}
 use Rattle.turn_laws.proofs.PendingTurns.{Kept, note_pushes}
 use Rattle.turn_laws.proofs.Places.{Place}
-use Rattle.turn_laws.proofs.PushNotes.{Holds, notes_from}
+use Rattle.turn_laws.proofs.PushNotes.{AreDue, Holds, notes_from}
 use Rattle.turn_laws.proofs.PushSerials.{Apart, Has}
 use Rattle.turn_laws.proofs.PushSides.{AreSilent, NoPushes, if_pushes, decision_silent, expired_silent, first_none, last_noted, plain_none, pushes_in, pushes_none, quiet_before, request_silent, sight_silent, silent_none}
+use Rattle.turn_laws.proofs.RequestLabels.{AreOf, layer_spells}
+use Rattle.turn_laws.proofs.SentAnswers.{none_due}
+use Rattle.turn_laws.proofs.SentOwn.{AreFor}
 use Rattle.turn_laws.proofs.SerialsStay.{ends_turn}
 use Rattle.turn_laws.proofs.StatusCalls.{Got, Hears, hears as hears_all}
+use Rattle.turn_laws.proofs.TurnSends.{AreSentFor, all_alone, notes_both, response_is, sent_for}
 use Rattle.turn_laws.proofs.TurnWires.{Judges, alone, judged_stands, repeated}
 use Rattle.sbp_world.proofs.FitTarget.Pass.{block_few, block_bytes}
 
--- ---- where nothing is told of a disc
-names_none : (T : Target) (after : Terms) (logins : List Login) → [] ≡ map (λ login. initiator_with after login.node) logins → [] ≡ push_notes T after logins
-names_none T after [] e = refl
-names_none T after (login ∷ logins) e = absurd (let no : [] ≡ initiator_with after login.node ∷ map (λ (other : Login). initiator_with after other.node) logins = e in cc)
+-- ---- the notes of a turn are due, and the last of its packets are theirs: none, or those of a turn that is not for the operation
+abbrev pub requests_due : List Disk → Turn → List laws.Request
+requests_due start t = let T = target_before start t in push_requests T (wire_after t) (logins_told T t)
 
-pub nothing_due : (start : List Disk) (t : Turn) → of_kind is_push_note t.rest ≡ [] → AnnouncesWhereDue start t → PushesWhereDue start t
+-- these are the last ones
+pub record AreLastFor (packets : List Note) (wants : List laws.Request) : Type 0 where
+  pub first : List Note
+  pub last : List Note
+  pub is : packets ≡ first ++ last
+  pub are : AreFor 0 last wants
+
+pub data SendsLast (start : List Disk) (t : Turn) : Type 0 where
+  sends_none : requests_due start t ≡ [] → SendsLast start t
+  sends_some : (serial : ℕ) → t.start ≡ said (notes.Got serial) → call_of (target_before start t) t ≡ no_call → AreLastFor (behind_answer start t) (requests_due start t) → SendsLast start t
+
+abbrev pub PushesAreSent : List Disk → Turn → Type 0
+PushesAreSent start t = PushesWhereDue start t × SendsLast start t
+
+-- ---- where nothing is told of a disc
+names_none : (after : Terms) (logins : List Login) → [] ≡ map (λ login. initiator_with after login.node) logins → logins ≡ []
+names_none after [] e = refl
+names_none after (login ∷ logins) e = absurd (let no : [] ≡ initiator_with after login.node ∷ map (λ (other : Login). initiator_with after other.node) logins = e in cc)
+
+pub nothing_due : (start : List Disk) (t : Turn) → of_kind is_push_note t.rest ≡ [] → AnnouncesWhereDue start t → PushesAreSent start t
 nothing_due start t e h =
-    e ∙ names_none (over (target_at start t.past)) (terms (t.start ∷ t.past)) (logins_for (over (target_at start t.past)) (load_in (over (target_at start t.past)) (terms t.past) t.rest)) (sym (ap (map hearer) e) ∙ h)
+    let T = target_before start t in
+    let none = names_none (wire_after t) (logins_told T t) (sym (ap (map hearer) e) ∙ h) in (e ∙ ap (push_notes T (wire_after t)) (sym none), sends_none (ap (push_requests T (wire_after t)) none))
 
 -- ---- one node more among those that have one pending
 other_listed : (p y : ℕ) (xs : List ℕ) → nat_eq p y ≡ false → is_listed p (xs ++ y ∷ []) ≡ is_listed p xs
@@ -316,7 +356,7 @@ module _ (units ready : ℕ) (has : 0 < units) (start : List Disk) (past : List 
               listed = λ p q b h j. let low : at ≤ p = omega (arith, b) in r.listed p q low h j;
             }
 
-        -- its write finds a label exactly where the terms have it so
+        -- its write finds a label exactly where the terms have it so, and is spelled so
         fits : FitsRequest (push_body login)
         fits = let g = subst (FitsLogin _) there (here.holds.sound.nodes.target_holds.fits.logins at) in (g.0, block_few, block_bytes)
 
@@ -329,6 +369,16 @@ module _ (units ready : ℕ) (has : 0 < units) (start : List Disk) (past : List 
             (goes_finds row (suc (i at login there live)) (few at login there live) layer l roomy goes (push_body login) purposes.Unsolicited (purposes.Agent at))
             ∙ (response_finds units ready start past s here at login there live serial one found zero_to pkt label (Some (purposes.Agent place)) layer e (push_body login) fits
             ∙ ap (λ j. finds_label after 0 (suc j) (push_body login)) (sym (after_is at login there live)))
+
+        spells : (asked : Asked) → (Search l login).0 ≡ Some asked → AreOf (push_body login) asked.bytes
+        spells =
+            let small = latest_small (topology_at w.generations 0) in
+            let low : at ≤ at = omega arith in
+            let node_is : l.node ≡ layer.node = (r.alike at login low there f).node in
+            let own_small : layer.node < 2 ^ 16 =
+            subst (λ n. n < 2 ^ 16) (sym (judges_same node.layer one.generation one.bytes).node ∙ ap (λ (x : Finding Purpose × Layer Purpose). x.1.node) e) here.holds.sound.nodes.target_holds.layer.small in
+            let peer_small : login.node < 2 ^ 16 = subst (λ n. n < 2 ^ 16) (sym (known_id w here.holds.sound.stands (suc (i at login there live)) (inside at login there live)) ∙ id_is at login there live) (small (suc (i at login there live))) in
+            layer_spells l login.node (push_body login) r.roomy.places (request_fits l.node login.node (push_body login) (subst (λ n. n < 2 ^ 16) (sym node_is) own_small) peer_small fits) purposes.Unsolicited
 
         answers : (is_some (Search l login).0 && not (is_listed login.node pending)) ≡ may_push T after login
         answers =
@@ -343,10 +393,12 @@ module _ (units ready : ℕ) (has : 0 < units) (start : List Disk) (past : List 
         listed = λ p q b h j. let low : at ≤ p = omega (arith, b) in r.listed p q low h j;
       }
 
-      all_hold : Holds node T after H unit from Rests
+      all_hold : Holds node T after H w.generations unit from Rests
       all_hold = record {
         answers = λ l pending at r login there f. answers l pending at r login there f;
         named = λ at login there f. named at login there (live_of at login f);
+        there = λ at login there f. peer_is units ready start past s here at login there (live_of at login f) ∙ ap (λ j. Some (suc j)) (sym (after_is at login there (live_of at login f)));
+        spells = λ l pending at r login there f. spells l pending at r login there f;
         told = λ at login b there. told_same units ready has start past s here serial unit from at b login there;
         skips = λ l pending at r. rests_next l pending at r;
         sends = λ l pending at r login there f given next g. sends_on l pending at r login there f given next g;
@@ -359,10 +411,10 @@ module _ (units ready : ℕ) (has : 0 < units) (start : List Disk) (past : List 
       agreed : Agrees (office_of T) node
       agreed = agrees units ready has start w here.holds
 
-      all_notes : (l : Layer Purpose) → Rests l node.pending 0 → pushes_in H (announced_from 8 0 unit from node l node.pending).0 ≡ push_notes T after (logins_for T (Some load))
+      all_notes : (l : Layer Purpose) → Rests l node.pending 0 → AreDue node T after H w.generations unit from Rests all_hold (announced_from 8 0 unit from node l node.pending) (logins_for T (Some load))
       all_notes l r =
           let size : length T.table.places ≡ 8 = ap (λ (x : Table). length x.places) agreed.table ∙ good.table.sound.size in
-          notes_from node T after H unit from Rests all_hold T.table.places 8 0 l node.pending r size refl
+          notes_from node T after H w.generations unit from Rests all_hold T.table.places 8 0 l node.pending r size refl
           (λ n. ap (λ (x : Table). place_at x.places n) agreed.table ∙ ap (λ m. login_at node m) (let z : n ≡ 0 + n = omega arith in z))
 
     -- ---- the agent's own requests before
@@ -401,7 +453,7 @@ module _ (units ready : ℕ) (has : 0 < units) (start : List Disk) (past : List 
               untrue (sym (ap (λ b. not b) z) ∙ apart_from)
 
     -- ---- the notes of the turn
-    module _ (v : WorldState) (same : (p : ℕ) → holder v p ≡ H p) where
+    module _ (v : WorldState) (same : (p : ℕ) → holder v p ≡ H p) (bus : v.generations ≡ w.generations) (read : reading one.bytes ≡ Ok pkt) (kind : is_some (reply_kind pkt) ≡ true) (judged : AreJudged (said (notes.Got serial) ∷ ms)) where
       abbrev answered : Finding Purpose
       answered = of_response pkt label (Some (purposes.Agent place))
 
@@ -411,7 +463,10 @@ module _ (units ready : ℕ) (has : 0 < units) (start : List Disk) (past : List 
       abbrev Noted : List Note
       Noted = handed 0 0 Left.outbox v
 
-      module _ (login : Login) (served : served_login node place ≡ Some login) (quiet : AreQuiet Left.outbox.sides) (first : List (wire_calls.Call Purpose)) where
+      abbrev Its : Turn
+      Its = turn ms (said (notes.Got serial)) Noted
+
+      module _ (login : Login) (served : served_login node place ≡ Some login) (others : AreOthers Left.outbox.sides) (quiet : AreQuiet Left.outbox.sides) (first : List (wire_calls.Call Purpose)) where
         abbrev is_new : Bool
         is_new = came (disk_at s.media.disks login.unit) (disk_at Left.disks login.unit)
 
@@ -428,22 +483,36 @@ module _ (units ready : ℕ) (has : 0 < units) (start : List Disk) (past : List 
             let there = served_there node place login served in
             reply_tells (Z login there live) node place login (asks_so login there live) (disowns_so login there live) run (header_in pkt).source label (answer_in pkt) layer s.media.disks served (first_so login there live)
 
-        module _ (tells : Announces is_new login.unit place node first Left.outbox) (runs : TellsRun (NoneRan node one run s.media) (RanBy node one run s.media) Left.outbox.sides) (names : AnnouncesWhereDue start (turn ms (said (notes.Got serial)) Noted)) where
-          by_new : (b : Bool) → is_new ≡ b → PushesWhereDue start (turn ms (said (notes.Got serial)) Noted)
+        module _ (tells : Announces is_new login.unit place node first Left.outbox) (runs : TellsRun (NoneRan node one run s.media) (RanBy node one run s.media) Left.outbox.sides) (names : AnnouncesWhereDue start Its) where
+          -- its packets behind those of the agent
+          last_are : (l : Layer Purpose) (pushed : List Outgoing) (own : List Outgoing) → Left.outbox.packets ≡ own ++ pushed → (wants : List laws.Request) → AreSentFor w.generations pushed wants → AreLastFor (behind_answer start Its) wants
+          last_are l pushed own packets wants for =
+              let all = all_alone start Its w.generations Left.outbox v bus others refl (none_due start ms serial (as_sending one) (was_sent w here.holds.sound.stands serial one found) Noted (response_is one.bytes pkt read kind)) in
+              record {
+                first = notes_sent 0 own all.world;
+                last = notes_sent 0 pushed (sent_all 0 own all.world);
+                is = all.is ∙ (ap (λ ps. notes_sent 0 ps all.world) packets ∙ notes_both own pushed all.world);
+                are = sent_for w.generations pushed wants (sent_all 0 own all.world) ((all_alike 0 own all.world).generations ∙ all.bus) for;
+              }
+
+          by_new : (b : Bool) → is_new ≡ b → PushesAreSent start Its
           by_new false g =
               let behind = layer_after node.layer (tells.steps ++ first) in
-              nothing_due start (turn ms (said (notes.Got serial)) Noted) (notes_are behind tells.told ∙ ap (λ b. pushes_in H (announced_if b login.unit place node behind).0) g) names
+              nothing_due start Its (notes_are behind tells.told ∙ ap (λ b. pushes_in H (announced_if b login.unit place node behind).0) g) names
           by_new true g =
               let there = served_there node place login served in
               let live = loader_live units ready has start past s here serial one found run v same pkt label place layer e login served quiet first runs g in
               let a = announced_there live in
               let load_is : load_in T t Noted ≡ load_if is_new login.unit place = load_of units ready has start past s here serial one found run v same pkt label place layer e login served quiet first runs in
-              notes_are a.layer a.told
-              ∙ (ap (λ b. pushes_in H (announced_if b login.unit place node a.layer).0) g
-              ∙ (all_notes login.unit place a.layer (rests_so login there live a.layer a.on)
-              ∙ sym (ap (λ l. push_notes T after (logins_for T l)) (load_is ∙ ap (λ b. load_if b login.unit place) g))))
+              let due = all_notes login.unit place a.layer (rests_so login there live a.layer a.on) in
+              let logins : logins_for T (Some (load login.unit place)) ≡ logins_for T (load_in T t Noted) = sym (ap (logins_for T) (load_is ∙ ap (λ b. load_if b login.unit place) g)) in (
+                notes_are a.layer a.told ∙ (ap (λ b. pushes_in H (announced_if b login.unit place node a.layer).0) g ∙ (due.0 ∙ ap (push_notes T after) logins)),
+                sends_some serial refl (agent_calls units ready has start past s here serial one found zero_to judged pkt read kind label layer (Some (purposes.Agent place)) e place refl)
+                    (subst (λ ls. AreLastFor (behind_answer start Its) (push_requests T after ls)) logins
+                    (last_are a.layer (announced_from 8 0 login.unit place node a.layer node.pending).1 a.first (a.packets_are ∙ ap (λ b. a.first ++ (announced_if b login.unit place node a.layer).1) g) (push_requests T after (logins_for T (Some (load login.unit place)))) due.1)),
+              )
 
-          pub agent_pushes : PushesWhereDue start (turn ms (said (notes.Got serial)) Noted)
+          pub agent_pushes : PushesAreSent start Its
           agent_pushes = by_new is_new refl
 
 -- ---- a packet comes to the target
@@ -469,17 +538,17 @@ module _ (units ready : ℕ) (has : 0 < units) (start : List Disk) (past : List 
   abbrev Runs : List Side → Type 0
   Runs told = TellsRun (NoneRan its_node one run s.media) (RanBy its_node one run s.media) told
 
-  module _ (media : Media) (behind : Place units ready start past (record { world = handed_out 0 0 X.1.outbox (V X.0); media = media })) (others : AreOthers X.1.outbox.sides) (v : WorldState) (same : (p : ℕ) → holder v p ≡ holder s.world p) where
+  module _ (media : Media) (behind : Place units ready start past (record { world = handed_out 0 0 X.1.outbox (V X.0); media = media })) (others : AreOthers X.1.outbox.sides) (v : WorldState) (same : (p : ℕ) → holder v p ≡ holder s.world p) (bus : v.generations ≡ s.world.generations) where
     abbrev Turned : Judged → OutboxState → Turn
     Turned judged outbox = turn moments (said (judged_note serial judged)) (handed 0 0 outbox v)
 
-    silent : (judged : Judged) (outbox : OutboxState) → AreOthers outbox.sides → NoPushes outbox.sides → AnnouncesWhereDue start (Turned judged outbox) → PushesWhereDue start (Turned judged outbox)
+    silent : (judged : Judged) (outbox : OutboxState) → AreOthers outbox.sides → NoPushes outbox.sides → AnnouncesWhereDue start (Turned judged outbox) → PushesAreSent start (Turned judged outbox)
     silent judged outbox o n names = nothing_due start (Turned judged outbox) (kind_handed is_push_note push_kind 0 0 outbox v ∙ pushes_none 0 outbox.sides v o n) names
 
-    no_sides : (judged : Judged) (outbox : OutboxState) → AreOthers outbox.sides → outbox.sides ≡ [] → AnnouncesWhereDue start (Turned judged outbox) → PushesWhereDue start (Turned judged outbox)
+    no_sides : (judged : Judged) (outbox : OutboxState) → AreOthers outbox.sides → outbox.sides ≡ [] → AnnouncesWhereDue start (Turned judged outbox) → PushesAreSent start (Turned judged outbox)
     no_sides judged outbox o e names = silent judged outbox o (subst NoPushes (sym e) tt) names
 
-    operation_due : (source : Option ℕ) (answer : Answer) (outbox : OutboxState) → AreOthers outbox.sides → operation_tells source answer its_node outbox.sides → AnnouncesWhereDue start (Turned judgements.Got outbox) → PushesWhereDue start (Turned judgements.Got outbox)
+    operation_due : (source : Option ℕ) (answer : Answer) (outbox : OutboxState) → AreOthers outbox.sides → operation_tells source answer its_node outbox.sides → AnnouncesWhereDue start (Turned judgements.Got outbox) → PushesAreSent start (Turned judgements.Got outbox)
     operation_due None answer outbox o tells names = no_sides judgements.Got outbox o tells names
     operation_due (Some source) answer outbox o tells names =
         let x = manager_reply its_node.manager its_node.logins its_node.keys answer in
@@ -489,7 +558,7 @@ module _ (units ready : ℕ) (has : 0 < units) (start : List Disk) (past : List 
     abbrev Finds : Finding Purpose → Layer Purpose → Type 0
     Finds f layer = judging_step its_node.layer one.generation one.bytes ≡ (f, layer)
 
-    module _ (p : Packet) (label : LabelParts) (place : ℕ) (layer : Layer Purpose) (e : Finds (of_response p label (Some (purposes.Agent place))) layer) (g : Got its_node good_here p label (Some (purposes.Agent place)) layer X.1.node) where
+    module _ (p : Packet) (read : reading one.bytes ≡ Ok p) (kind : is_some (reply_kind p) ≡ true) (judged : AreJudged (said (notes.Got serial) ∷ moments)) (label : LabelParts) (place : ℕ) (layer : Layer Purpose) (e : Finds (of_response p label (Some (purposes.Agent place))) layer) (g : Got its_node good_here p label (Some (purposes.Agent place)) layer X.1.node) where
       abbrev agents : Finding Purpose
       agents = of_response p label (Some (purposes.Agent place))
 
@@ -500,46 +569,46 @@ module _ (units ready : ℕ) (has : 0 < units) (start : List Disk) (past : List 
       Tells there first = agent_tells there place its_node first s.media.disks (Given agents layer).1.disks handed_over
 
       abbrev DueWhereNamed : Type 0
-      DueWhereNamed = AnnouncesWhereDue start (Turned judgements.Got handed_over) → PushesWhereDue start (Turned judgements.Got handed_over)
+      DueWhereNamed = AnnouncesWhereDue start (Turned judgements.Got handed_over) → PushesAreSent start (Turned judgements.Got handed_over)
 
       by_login : (there : Option Login) → served_login its_node place ≡ there → AreOthers handed_over.sides → AreQuiet handed_over.sides → (first : List (wire_calls.Call Purpose)) → Tells there first → Runs handed_over.sides → DueWhereNamed
       by_login None served o q first tells runs names = no_sides judgements.Got (Given agents layer).1.outbox o tells names
       by_login (Some login) served o q first tells runs names =
           agent_pushes units ready has start past s here serial run one found zero_to p label place layer e
-          (base units ready has start past s here k serial again run one found zero_to media behind others p label (Some (purposes.Agent place)) layer e g (agent_not place)) v same login served q first tells runs names
+          (base units ready has start past s here k serial again run one found zero_to media behind others p label (Some (purposes.Agent place)) layer e g (agent_not place)) v same bus read kind judged login served o q first tells runs names
 
     abbrev Dues : Finding Purpose → Layer Purpose → Type 0
     Dues f layer =
         (let outbox = (Given f layer).1.outbox in
-        AreOthers outbox.sides → (first : List (wire_calls.Call Purpose)) → delivery_tells f its_node first s.media.disks (Given f layer).1.disks outbox → Runs outbox.sides → AnnouncesWhereDue start (Turned (Given f layer).0 outbox) → PushesWhereDue start (Turned (Given f layer).0 outbox))
+        AreOthers outbox.sides → AreJudged (said (judged_note serial (Given f layer).0) ∷ moments) → (first : List (wire_calls.Call Purpose)) → delivery_tells f its_node first s.media.disks (Given f layer).1.disks outbox → Runs outbox.sides → AnnouncesWhereDue start (Turned (Given f layer).0 outbox) → PushesAreSent start (Turned (Given f layer).0 outbox))
 
-    by_response : (p : Packet) (label : LabelParts) (purpose : Option Purpose) (layer : Layer Purpose) → Finds (of_response p label purpose) layer → is_some (reply_kind p) ≡ true → Got its_node good_here p label purpose layer X.1.node → Dues (of_response p label purpose) layer
-    by_response p label None layer e kind g o first tells runs names = no_sides judgements.Got (Given (of_response p label None) layer).1.outbox o tells names
-    by_response p label (Some purposes.Unsolicited) layer e kind g o first tells runs names = no_sides judgements.Got (Given (of_response p label (Some purposes.Unsolicited)) layer).1.outbox o tells names
-    by_response p label (Some purposes.Management) layer e kind g o first tells runs names =
+    by_response : (p : Packet) (label : LabelParts) (purpose : Option Purpose) (layer : Layer Purpose) → Finds (of_response p label purpose) layer → reading one.bytes ≡ Ok p → is_some (reply_kind p) ≡ true → Got its_node good_here p label purpose layer X.1.node → Dues (of_response p label purpose) layer
+    by_response p label None layer e read kind g o judged first tells runs names = no_sides judgements.Got (Given (of_response p label None) layer).1.outbox o tells names
+    by_response p label (Some purposes.Unsolicited) layer e read kind g o judged first tells runs names = no_sides judgements.Got (Given (of_response p label (Some purposes.Unsolicited)) layer).1.outbox o tells names
+    by_response p label (Some purposes.Management) layer e read kind g o judged first tells runs names =
         operation_due (source_in its_node.manager.operation) (answer_in p) (Given (of_response p label (Some purposes.Management)) layer).1.outbox o tells names
-    by_response p label (Some (purposes.Agent place)) layer e kind g o first tells runs names =
+    by_response p label (Some (purposes.Agent place)) layer e read kind g o judged first tells runs names =
         let c = closing_known its_node.layer layer good_here.lives one.generation one.bytes p label (Some (purposes.Agent place)) good_here.mid.known e kind in
         let lives = live_on (wire_calls.closed (header_in p).source label c.kind (Some (purposes.Agent place))) good_here.lives in
-        by_login p label place layer e g (served_login its_node place) refl o
+        by_login p read kind judged label place layer e g (served_login its_node place) refl o
         (agent_quiet units ready has start past s here serial one found run v same p label place layer lives (from_self its_node good_here layer lives c.known)) first tells runs names
 
     by_finding : (f : Finding Purpose) (layer : Layer Purpose) → Finds f layer → IsFound f its_node.layer layer one.bytes → Hears its_node good_here f layer X.1.node → Dues f layer
-    by_finding of_generation layer e f h o first tells runs names = no_sides (judgements.Ignored causes.Generation) (Given of_generation layer).1.outbox o tells names
-    by_finding of_grammar layer e f h o first tells runs names = no_sides (judgements.Ignored causes.Grammar) (Given of_grammar layer).1.outbox o tells names
-    by_finding of_label layer e f h o first tells runs names = no_sides (judgements.Ignored causes.Label) (Given of_label layer).1.outbox o tells names
-    by_finding (of_again p rcode) layer e f h o first tells runs names = no_sides (judgements.Ignored causes.Again) (Given (of_again p rcode) layer).1.outbox o tells names
-    by_finding (of_response p label purpose) layer e f h o first tells runs names = by_response p label purpose layer e f.kind h o first tells runs names
-    by_finding (of_request p) layer e f h o first tells runs names =
+    by_finding of_generation layer e f h o judged first tells runs names = no_sides (judgements.Ignored causes.Generation) (Given of_generation layer).1.outbox o tells names
+    by_finding of_grammar layer e f h o judged first tells runs names = no_sides (judgements.Ignored causes.Grammar) (Given of_grammar layer).1.outbox o tells names
+    by_finding of_label layer e f h o judged first tells runs names = no_sides (judgements.Ignored causes.Label) (Given of_label layer).1.outbox o tells names
+    by_finding (of_again p rcode) layer e f h o judged first tells runs names = no_sides (judgements.Ignored causes.Again) (Given (of_again p rcode) layer).1.outbox o tells names
+    by_finding (of_response p label purpose) layer e f h o judged first tells runs names = by_response p label purpose layer e f.read f.kind h o judged first tells runs names
+    by_finding (of_request p) layer e f h o judged first tells runs names =
         let b = is_barred its_node p in
         let x = Given (of_request p) layer in
         silent x.0 x.1.outbox o (first_none (request_changes b p its_node) x.1.outbox.sides (request_silent b p its_node) tells) names
 
-    pub heard_pushes : MayTell run one its_node s.media → AnnouncesWhereDue start (Turned X.0 X.1.outbox) → PushesWhereDue start (Turned X.0 X.1.outbox)
+    pub heard_pushes : MayTell run one its_node s.media → AreJudged (said (judged_note serial X.0) ∷ moments) → AnnouncesWhereDue start (Turned X.0 X.1.outbox) → PushesAreSent start (Turned X.0 X.1.outbox)
     unfolding received
-    heard_pushes may names =
+    heard_pushes may judged names =
         let f = judging_step its_node.layer one.generation one.bytes in
-        by_finding f.0 f.1 refl (found_as its_node.layer one.generation one.bytes) (hears_all its_node good_here run s.media.disks one.generation one.bytes) others (first_of (receives run s.media.disks one.generation one.bytes))
+        by_finding f.0 f.1 refl (found_as its_node.layer one.generation one.bytes) (hears_all its_node good_here run s.media.disks one.generation one.bytes) others judged (first_of (receives run s.media.disks one.generation one.bytes))
         (side_law.deliveries run s.media.disks one.generation one.bytes its_node) (runs_tell its_node good_here.mid.size good_here.table.sound one run s.media may) names
 
 -- ---- the turns of the calls
@@ -559,19 +628,19 @@ module _ (units ready : ℕ) (has : 0 < units) (start : List Disk) where
   abbrev Carries : CarriedCases units ready start (Kept start) (PushesAlone start)
   Carries = alone_cases units ready has start
 
-  own_pushes : (past : List Moment) (first : Moment) (node weight : ℕ) (outbox : OutboxState) (w : WorldState) → AreOwn outbox.sides → AnnouncesWhereDue start (turn past first (handed node weight outbox w)) → PushesWhereDue start (turn past first (handed node weight outbox w))
+  own_pushes : (past : List Moment) (first : Moment) (node weight : ℕ) (outbox : OutboxState) (w : WorldState) → AreOwn outbox.sides → AnnouncesWhereDue start (turn past first (handed node weight outbox w)) → PushesAreSent start (turn past first (handed node weight outbox w))
   own_pushes past first node weight outbox w own names = nothing_due start (turn past first (handed node weight outbox w)) (own_handed is_push_note push_kind own_push node weight outbox w own) names
 
-  still_pushes : (past : List Moment) (first : Moment) (outbox : OutboxState) (w : WorldState) → AreOthers outbox.sides → NoPushes outbox.sides → AnnouncesWhereDue start (turn past first (handed 0 0 outbox w)) → PushesWhereDue start (turn past first (handed 0 0 outbox w))
+  still_pushes : (past : List Moment) (first : Moment) (outbox : OutboxState) (w : WorldState) → AreOthers outbox.sides → NoPushes outbox.sides → AnnouncesWhereDue start (turn past first (handed 0 0 outbox w)) → PushesAreSent start (turn past first (handed 0 0 outbox w))
   still_pushes past first outbox w o n names = nothing_due start (turn past first (handed 0 0 outbox w)) (kind_handed is_push_note push_kind 0 0 outbox w ∙ pushes_none 0 outbox.sides w o n) names
 
-  pushes_cases : CarriedCases units ready start (Kept start) (PushesWhereDue start)
+  pushes_cases : CarriedCases units ready start (Kept start) (PushesAreSent start)
   pushes_cases = record {
     heard = λ past s serial again run one found zero_to may others here behind noted k.
         let x = received run one.generation one.bytes (whole_of s.world.target s.media) in
         let v = with_note (judged_note serial x.0) (marked serial again (with_target x.1.node s.world)) in (
           heard_pushes units ready has start past s here k serial again run one found zero_to (record { disks = x.1.disks; faults = faults_after run one s.world.target s.media }) behind others v
-              (λ p. marked_holder serial again (with_target x.1.node s.world) p) may (Names.heard past s serial again run one found zero_to may others here behind noted),
+              (λ p. marked_holder serial again (with_target x.1.node s.world) p) (marked_generations serial again (with_target x.1.node s.world)) may noted.judged (Names.heard past s serial again run one found zero_to may others here behind noted),
           (Carries.heard past s serial again run one found zero_to may others here behind noted k).1,
         );
     heard_own = λ past s serial again one i found to_is inside own here behind noted k.
@@ -622,8 +691,11 @@ module _ (units ready : ℕ) (has : 0 < units) (start : List Disk) where
       nothing_due start (turn (hist past s.world) (asked line event) rest) (line_none line s event rest brings) (Names.lines past s line event rest behind brings fresh here there),
       (Carries.lines past s line event rest behind brings fresh here there stays k).1,
     );
-    begins = λ line initiators is_ready. refl;
+    begins = λ line initiators is_ready. (refl, sends_none refl);
   }
 
+pub pushes_sent_law : OfEveryRun (λ start past. EachTurn (PushesAreSent start) past)
+pushes_sent_law = of_every_carried Kept PushesAreSent first_kept_here (λ units ready start has. pushes_cases units ready has start)
+
 pub pushes_law : PushesLaw
-pushes_law = of_every_carried Kept PushesWhereDue first_kept_here (λ units ready start has. pushes_cases units ready has start)
+pushes_law = brought_law PushesAreSent PushesWhereDue (λ start t h. h.0) pushes_sent_law

@@ -55,7 +55,7 @@ use Rattle.sbp_world.proofs.Lists.StatusSteps.{replied_leaves}
 use Rattle.sbp_world.proofs.Lists.DueRuns.{AtDelivery, alike, event_is, plain_is}
 use Rattle.turn_laws.proofs.AgentDue.{IsTurnOf, TellsEnds, has_steps, turn_in, turn_tells}
 use Rattle.turn_laws.proofs.AgentEnds.{Tells, advance_tells, found_at}
-use Rattle.turn_laws.proofs.AgentHere.{again_body, desk_fits, fifo_is, good, holder_is, initiator_is, names_are, reply_body, reply_carries, stands_are, up_by}
+use Rattle.turn_laws.proofs.AgentHere.{again_body, desk_fits, fifo_is, good, holder_is, initiator_is, names_are, reply_ahead, reply_ahead_body, reply_body, reply_carries, stands_are, up_by}
 use Rattle.turn_laws.proofs.EndNotes.{beside_handed, ends_noted}
 use Rattle.turn_laws.proofs.EndShapes.{reply_shaped}
 use Rattle.turn_laws.proofs.EndSizes.{reply_sized}
@@ -67,7 +67,8 @@ use Rattle.turn_laws.proofs.PushSends.{Pushes}
 use Rattle.turn_laws.proofs.SentAnswers.{none_due}
 use Rattle.turn_laws.proofs.TurnSends.{SendsOwn, response_is, sends_alone}
 use Rattle.turn_laws.proofs.TurnWrites.{all_writes, turn_writes}
-use Rattle.turn_laws.proofs.FoundLabels.{peer_is, response_finds, response_spells}
+use Rattle.turn_laws.proofs.FoundLabels.{peer_is, response_finds, response_labels, response_spells}
+use Rattle.turn_laws.proofs.FreeLabels.{KnowsLabels}
 use Rattle.turn_laws.proofs.Handed.{handed}
 use Rattle.turn_laws.proofs.Places.{Place}
 
@@ -225,7 +226,14 @@ module _ (units ready : ℕ) (has : 0 < units) (start : List Disk) (past : List 
           fits_lost = again_body units ready has start past s here q login there live own.1
               (reply_fits d.agent q plain run which answer told_bytes (answer_small p (bytes_of p one.bytes (spelled one.bytes p read) (ours w here.holds.sound.stands serial one found).bytes)) (here.holds.sound.nodes.target_holds.fits.agents q)).agent;
           tame = (replied_leaves d.agent q plain run which answer).tame;
+          ahead = reply_ahead d (desk_fits units ready has start past s here q b) which kept kept_is q plain run answer;
+          fits_ahead = reply_ahead_body units ready has start past s here q login there live q plain run which answer told_bytes
+              (answer_small p (bytes_of p one.bytes (spelled one.bytes p read) (ours w here.holds.sound.stands serial one found).bytes));
+          labels = subst (λ n. KnowsLabels (terms (said (notes.Got serial) ∷ ms)) 0 (suc n) login.node new)
+              (sym (initiator_is units ready has start past s here q login there live ∙ holder_is units ready has start past s here q login there live))
+              (response_labels units ready start past s here q login there live serial one found zero_to p label (Some (purposes.Agent q)) new e);
           behind = tells.behind;
+          behind_is = tells.behind_is;
           writes = writes;
           sends = sends;
           holders = holder w;

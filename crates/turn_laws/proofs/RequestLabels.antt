@@ -12,6 +12,7 @@ use Rattle.bus_transactions.specs.Sent.{LabelsLaw, bare_request}
 use Rattle.bus_transactions.specs.Sent as sent
 use Rattle.bus_transactions.specs.Wire.{Node, Wire, id_for, transaction}
 use Rattle.bus_transactions.proofs.Bares.{takes_steps}
+use Rattle.bus_transactions.proofs.Places.{Places}
 use Rattle.bus_transactions.proofs.MoveAsk.{asked_bytes}
 use Rattle.bus_transactions.proofs.SentLaws.{asked_own, labels_always}
 use Rattle.bus_transactions.proofs.Stands.{Stands as Holds}
@@ -73,6 +74,21 @@ pub record IsSpelled (t : Terms) (node peer : ℕ) (body : Body) (asked : Asked)
   pub number : label_of asked.bytes ≡ asked.label.number
   pub spelled : asked.bytes ≡ canon (request_with (header_to (id_of t node) (packets.id_for t node peer) asked.label.number) body)
 
+-- ---- the label and the bytes of a request that found one
+named_by : (l : Node) (id : ℕ) (body : Body) (asked : Asked) (r : Option Asked × Node) → AskedAs l id (unlabelled l id body) r → r.0 ≡ Some asked → (asked.label.number < 64) × (asked.bytes ≡ with_label asked.label.number (unlabelled l id body))
+named_by l id body asked (None, new) a e = absurd (let no : None ≡ Some asked = e in cc)
+named_by l id body asked (Some other, new) a e = subst (λ (x : Asked). (x.label.number < 64) × (x.bytes ≡ with_label x.label.number (unlabelled l id body))) (same_Some other asked e) (a.small, a.labelled)
+
+bare_answer : {P : Type 0} (r : Option Asked × Layer P) → (bare_after same r).0 ≡ r.0
+bare_answer (asked, after) = refl
+
+-- of any layer whose places are in order
+pub layer_spells : {P : Type 0} (layer : Layer P) (id : ℕ) (body : Body) → Places (bare layer).generation (bare layer).peers → IsValid (request_with (header_to layer.node id 0) body) → (purpose : P) (asked : Asked) → (asking_step layer id body purpose).0 ≡ Some asked → AreOf body asked.bytes
+layer_spells {P} layer id body places valid purpose asked e =
+    let l = bare layer in
+    let n = named_by l id body asked (asking_step l id body tt) (asks l id body places) (ap (λ r. r.0) ((takes_steps P).asks layer id body purpose) ∙ (bare_answer (asking_step layer id body purpose) ∙ e)) in
+    record { source = layer.node; destination = id; label = asked.label.number; valid = valid; small = n.0; spelled = n.1 }
+
 module _ {P : Type 0} {past : List Moment} {layers : ℕ → Node} (w : WorldState) (stands : StandsAt past layers None w) (node peer : ℕ) (node_there : node ≤ length w.initiators) (peer_there : peer ≤ length w.initiators) (layer : Layer P) (own_is : layers node ≡ bare layer) (id : ℕ) (id_is : id_for stands.wire node peer ≡ id) (body : Body) (valid : IsValid (request_with (header_to layer.node id 0) body)) where
   abbrev wire : Wire
   wire = stands.wire
@@ -89,15 +105,12 @@ module _ {P : Type 0} {past : List Moment} {layers : ℕ → Node} (w : WorldSta
   layer_is : wire.layer node ≡ bare layer
   layer_is = stands.is.layers_are node node_there ∙ own_is
 
-  bare_first : (r : Option Asked × Layer P) → (bare_after same r).0 ≡ r.0
-  bare_first (asked, after) = refl
-
   asks_same : (purpose : P) → (asking_step layer id body purpose).0 ≡ own (wire.layer node) (id_for wire node peer)
   asks_same purpose =
       sym (ap (λ l. own l (id_for wire node peer)) layer_is
       ∙ (ap (own (bare layer)) id_is
       ∙ (ap (λ r. r.0) ((takes_steps P).asks layer id body purpose)
-      ∙ bare_first (asking_step layer id body purpose))))
+      ∙ bare_answer (asking_step layer id body purpose))))
 
   may : MayAsk wire node peer body
   may = record {
@@ -161,16 +174,10 @@ module _ {P : Type 0} {past : List Moment} {layers : ℕ → Node} (w : WorldSta
       ∙ (ap (λ o. is_some o) (label_at purpose) ∙ sym (found_by t node peer body (label_for t node peer (request_bytes t node peer body)) refl))
 
   -- ---- its bytes
-  named_by : (asked : Asked) (r : Option Asked × Node) → AskedAs (wire.layer node) (id_for wire node peer) (unlabelled (wire.layer node) (id_for wire node peer) body) r → r.0 ≡ Some asked
-      → (asked.label.number < 64) × (asked.bytes ≡ with_label asked.label.number (unlabelled (wire.layer node) (id_for wire node peer) body))
-  named_by asked (None, new) a e = absurd (let no : None ≡ Some asked = e in cc)
-  named_by asked (Some other, new) a e =
-      subst (λ (x : Asked). (x.label.number < 64) × (x.bytes ≡ with_label x.label.number (unlabelled (wire.layer node) (id_for wire node peer) body))) (same_Some other asked e) (a.small, a.labelled)
-
   pub spelled_at : (purpose : P) (asked : Asked) → (asking_step layer id body purpose).0 ≡ Some asked → IsSpelled (terms (hist past w)) node peer body asked
   spelled_at purpose asked e =
       let n = asked.label.number in
-      let a = named_by asked (asking_step (wire.layer node) (id_for wire node peer) body tt) (asks (wire.layer node) (id_for wire node peer) body (wire_holds.nodes node).places) (sym (asks_same purpose) ∙ e) in
+      let a = named_by (wire.layer node) (id_for wire node peer) body asked (asking_step (wire.layer node) (id_for wire node peer) body tt) (asks (wire.layer node) (id_for wire node peer) body (wire_holds.nodes node).places) (sym (asks_same purpose) ∙ e) in
       let known = wire_holds.nodes node in
       let old = request_with (header_to (wire.layer node).node (id_for wire node peer) 0) body in
       record {
@@ -189,5 +196,5 @@ module _ {P : Type 0} {past : List Moment} {layers : ℕ → Node} (w : WorldSta
   bytes_at purpose asked e =
       let own_layer = wire.layer node in
       let to = id_for wire node peer in
-      let n = named_by asked (asking_step own_layer to body tt) (asks own_layer to body (wire_holds.nodes node).places) (sym (asks_same purpose) ∙ e) in
+      let n = named_by own_layer to body asked (asking_step own_layer to body tt) (asks own_layer to body (wire_holds.nodes node).places) (sym (asks_same purpose) ∙ e) in
       record { source = own_layer.node; destination = to; label = asked.label.number; valid = may.valid; small = n.0; spelled = n.1 }

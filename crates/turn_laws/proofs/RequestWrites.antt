@@ -1,7 +1,6 @@
 -- What the requests behind a step of an agent write: a write that finds a label is one write of its bytes, what finds none and what reads is none; and where a read finds no label, no write does.
 use Rattle.std.proofs.Common.{◌≡◌, ◌∙◌, refl, sym, ap, subst, ℕ, zero, suc, ◌+◌, ◌≤◌, ◌&&◌, ◌||◌, not, nat_le, nat_lt, is_some, Bool, true, false, cond, List, [], ◌∷◌, ◌++◌, length, Option, Some, None, arith}
 use Rattle.std.proofs.lemmas.Grind.{common_steps}
-use Rattle.async_packet.specs.Canon.{canon, four, three}
 use Rattle.async_packet.specs.Fields.{largest}
 use Rattle.bus_transactions.specs.Fitting.{FitsRequest}
 use Rattle.command_agent.specs.Machine.{Machine}
@@ -9,7 +8,7 @@ use Rattle.command_agent.specs.Steps.{block_of, end_step, lost_step, main_lost, 
 use Rattle.command_agent.specs.declared.phase.Phase.{Phase}
 use Rattle.command_agent.specs.declared.phase.Phase.TheVariants as phases
 use Rattle.label_table.specs.declared.judgement.Asked.{Asked}
-use Rattle.label_table.specs.Bodies.{Body, block_read, block_write, header_to, request_with}
+use Rattle.label_table.specs.Bodies.{Body, block_read, block_write}
 use Rattle.label_table.specs.Layer.{Layer, asking_step, free_labels}
 use Rattle.label_table.specs.Requests.{is_last, is_write, with_label}
 use Rattle.login_table.specs.declared.login.Login.{Login}
@@ -30,7 +29,6 @@ use Rattle.sbp_target.specs.declared.purpose.Purpose.TheVariants as purposes
 use Rattle.sbp_target.specs.Agents.{agent_body}
 use Rattle.sbp_world.proofs.Common.{and_first, none_is, some_none, untrue}
 use Rattle.sbp_world.proofs.Hosts.Labels.{found_by}
-use Rattle.sbp_world.proofs.Hosts.Mild.{quad_tcode}
 use Rattle.sbp_world.proofs.Lists.StatusPackets.{AllRead}
 use Rattle.sbp_world.proofs.Lists.StatusReads.{IsOfBody, IsRead, asked_body, body_reads, reads_body}
 use Rattle.turn_laws.proofs.EndFound.{fits}
@@ -38,6 +36,7 @@ use Rattle.turn_laws.proofs.EndTries.{fails_in}
 use Rattle.turn_laws.proofs.FollowEnds.{no_label}
 use Rattle.turn_laws.proofs.FollowSends.{packet_of, requested, requested_ahead}
 use Rattle.turn_laws.proofs.FoundLabels.{Spells}
+use Rattle.turn_laws.proofs.FreeLabels.{read_plain}
 use Rattle.turn_laws.proofs.RequestLabels.{access_in_body, body_access}
 use Rattle.turn_laws.proofs.StepLabels.{finds_in}
 use Rattle.turn_laws.proofs.TurnWrites.{all_writes}
@@ -87,10 +86,6 @@ module _ (q : ℕ) (layer : Layer Purpose) (login : Login) where
       by false = tt
 
 -- ---- where a read finds no label
-read_plain : (node peer offset len : ℕ) → is_write (canon (request_with (header_to node peer 0) (block_read offset len))) ≡ false
-unfolding is_write three four
-read_plain node peer offset len = ap (λ n. nat_le n 1) (quad_tcode peer 0 5 (canon (request_with (header_to node peer 0) (block_read offset len))) _ (omega arith) refl)
-
 none_lower : (tries label : ℕ) (test other : ℕ → Bool) → ((m : ℕ) → other m ≡ true → test m ≡ true) → lowest_from tries test label ≡ None → lowest_from tries other label ≡ None
 unfolding lowest_from
 none_lower zero label test other h e = refl

@@ -16,7 +16,7 @@ use Rattle.sbp_laws.specs.Deliveries.{is_run_note, is_taken_note, once_told}
 use Rattle.sbp_laws.specs.LoginLaw.{is_decision_note, is_login_note}
 use Rattle.sbp_laws.specs.MediaLaw.{is_push_note, is_told_note}
 use Rattle.sbp_laws.specs.NoteKinds.{is_cleared_note, is_cut_note, is_end_note, is_failure_note, is_operation_note, of_kind}
-use Rattle.sbp_laws.specs.SentRequests.{IsAsked}
+use Rattle.sbp_laws.specs.SentRequests.{ArePackets, IsAsked}
 use Rattle.sbp_world.proofs.Common.{untrue}
 use Rattle.turn_laws.specs.AgentRequests.{BeginAs}
 use Rattle.turn_laws.proofs.LaterTerms.{Clean}
@@ -161,12 +161,19 @@ abbrev pub AskFor : Bool → Body → List ℕ → Type 0
 AskFor true (block_write offset payload) bytes = AreChunk offset (length payload) bytes
 AskFor is_untold body bytes = AreOf body bytes
 
--- the packets begin with those of these requests
-abbrev pub BeginFor : (node : ℕ) → List Note → List Request → Type 0
-BeginFor node packets [] = Unit {0}
-BeginFor node (notes.Sent serial generation from to bytes ∷ rest) (want ∷ requests) =
-    ((from ≡ node) × ((to ≡ want.to) × AskFor want.is_untold want.body bytes)) × BeginFor node rest requests
-BeginFor node rest (want ∷ requests) = ⊥
+-- the packets are those of these requests, one by one
+abbrev pub AreFor : (node : ℕ) → List Note → List Request → Type 0
+AreFor node [] [] = Unit {0}
+AreFor node (notes.Sent serial generation from to bytes ∷ rest) (want ∷ requests) =
+    ((from ≡ node) × ((to ≡ want.to) × AskFor want.is_untold want.body bytes)) × AreFor node rest requests
+AreFor node packets requests = ⊥
+
+pub both_for : (node : ℕ) (a b : List Note) (x y : List Request) → AreFor node a x → AreFor node b y → AreFor node (a ++ b) (x ++ y)
+both_for node [] b [] y h k = k
+both_for node [] b (want ∷ x) y h k = absurd h
+both_for node (notes.Sent serial generation from to bytes ∷ a) b [] y h k = absurd h
+both_for node (notes.Sent serial generation from to bytes ∷ a) b (want ∷ x) y h k = (h.0, both_for node a b x y h.1 k)
+both_for node (note ∷ a) b x y h k = absurd h
 
 module _ (t : Terms) (node : ℕ) (want : Request) (serial generation from to : ℕ) (bytes : List ℕ) (number : serial ≡ t.count + 1) (sender : from ≡ node) (receiver : to ≡ want.to) (own : bus.IsOwn t generation node want.to bytes) where
   asked_as : (is_untold : Bool) (body : Body) → AskFor is_untold body bytes → IsAsked is_untold body t node want serial generation from to bytes
@@ -177,10 +184,11 @@ module _ (t : Terms) (node : ℕ) (want : Request) (serial generation from to : 
   asked_as true (block_read offset len) a = is_request t generation node want bytes own (block_read offset len) a serial from to number sender receiver
   asked_as false body a = is_request t generation node want bytes own body a serial from to number sender receiver
 
-pub asked_all : (node : ℕ) (packets : List Note) (requests : List Request) (past : List Moment) → Clean (terms past) → AllOwn (once_told past packets) → BeginFor node packets requests → BeginAs past node packets requests
-asked_all node packets [] past clean own b = tt
-asked_all node [] (want ∷ requests) past clean own b = absurd b
-asked_all node (notes.Sent serial generation from to bytes ∷ rest) (want ∷ requests) past clean own b =
+pub asked_exactly : (node : ℕ) (packets : List Note) (requests : List Request) (past : List Moment) → Clean (terms past) → AllOwn (once_told past packets) → AreFor node packets requests → ArePackets past node packets requests
+asked_exactly node [] [] past clean own b = tt
+asked_exactly node [] (want ∷ requests) past clean own b = absurd b
+asked_exactly node (notes.Sent serial generation from to bytes ∷ rest) [] past clean own b = absurd b
+asked_exactly node (notes.Sent serial generation from to bytes ∷ rest) (want ∷ requests) past clean own b =
     let t = terms past in
     let note = notes.Sent serial generation from to bytes in
     let behind = subst AllOwn (told_one note rest past) own in
@@ -190,6 +198,14 @@ asked_all node (notes.Sent serial generation from to bytes ∷ rest) (want ∷ r
     let its = subst (λ x. bus.IsOwn t generation node x bytes) b.0.1.0 (subst (λ x. bus.IsOwn t generation x to bytes) b.0.0 (here.0.0 honest)) in
     let q : Sending = record { generation = generation; from = from; to = to; bytes = bytes; injected = t.injected serial } in (
       asked_as t node want serial generation from to bytes number b.0.0 b.0.1.0 its want.is_untold want.body b.0.1.1,
-      asked_all node rest requests (said note ∷ past) (sent_clean serial q t clean) behind b.1,
+      asked_exactly node rest requests (said note ∷ past) (sent_clean serial q t clean) behind b.1,
     )
-asked_all node (note ∷ rest) (want ∷ requests) past clean own b = absurd b
+asked_exactly node (note ∷ rest) requests past clean own b = absurd b
+
+-- so packets begin where those are the first
+pub begin_as : (node : ℕ) (first more : List Note) (requests : List Request) (past : List Moment) → ArePackets past node first requests → BeginAs past node (first ++ more) requests
+begin_as node [] more [] past h = tt
+begin_as node [] more (want ∷ requests) past h = absurd h
+begin_as node (notes.Sent serial generation from to bytes ∷ first) more [] past h = absurd h
+begin_as node (notes.Sent serial generation from to bytes ∷ first) more (want ∷ requests) past h = (h.0, begin_as node first more requests (said (notes.Sent serial generation from to bytes) ∷ past) h.1)
+begin_as node (note ∷ first) more requests past h = absurd h

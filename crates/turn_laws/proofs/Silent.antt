@@ -305,7 +305,7 @@ module _ (start : List Disk) (t : Turn) (calm : AllInner t.rest) (logins : HasLo
       (λ none.
       let as_end = reply_ends (agent_at B reply.place).machine reply.place plain told reply.which reply.answer in
       heard end e (status_served start B t a step m login layer h as_end end e none) (λ list number. h.stands s.1.present list number))
-  ends_by (has_rest still none) (Some end) e = none_is end (sym (end_by_ends t.rest ∙ ap end_in none) ∙ e)
+  ends_by (has_rest still none alone) (Some end) e = none_is end (sym (end_by_ends t.rest ∙ ap end_in none) ∙ e)
 
   pub reply_heard : HasTurn start B t a → EndsHeard start t
   reply_heard h = ends_by h (end_in t.rest) refl
@@ -313,7 +313,7 @@ module _ (start : List Disk) (t : Turn) (calm : AllInner t.rest) (logins : HasLo
 -- ---- a turn that asks an agent ends none
 module _ (start : List Disk) (T : Target) (t : Turn) where
   asks_heard : (a : AgentTurn) → a.step.ended ≡ None → HasTurn start T t a → EndsHeard start t
-  asks_heard a e (has_rest still none) = none_heard start t none
+  asks_heard a e (has_rest still none alone) = none_heard start t none
   asks_heard a e (has_steps step m login layer h) = by_end (end_in t.rest) refl
     where
       as_end : EndsAs a.step.ended a.step a.machine

@@ -74,7 +74,7 @@ module _ (start : List Disk) (t : Turn) (calm : AllInner t.rest) (logins : HasLo
           next_held start t calm logins count reply event_is (ap is_nothing f) (held s.0.ended s.0.ask s.1.phase offset len e f w)
 
   reply_sent : HasTurn start B t a → StatusesAreSent start t
-  reply_sent (has_rest still none) = none_sent start t none
+  reply_sent (has_rest still none alone) = none_sent start t none
   reply_sent (has_steps step m login layer h) =
       statuses_sent start t a step m login layer h (reply_ends (agent_at B reply.place).machine reply.place plain told reply.which reply.answer) (ap place_in event_is)
       (λ offset len f tells. record { src = ap src_by (next offset len f) ∙ src_same s.1.orb.next; present = read_here start t calm logins count reply event_is tells })
@@ -88,7 +88,7 @@ module _ (start : List Disk) (t : Turn) where
   T = target_before start t
 
   asks_sent : (a : AgentTurn) → a.step.ended ≡ None → IsNoWrite a.step.ask → place_in (agent_event start t) ≡ a.place → HasTurn start T t a → StatusesAreSent start t
-  asks_sent a e n p (has_rest still none) = none_sent start t none
+  asks_sent a e n p (has_rest still none alone) = none_sent start t none
   asks_sent a e n p (has_steps step m login layer h) =
       statuses_sent start t a step m login layer h (subst (λ x. EndsAs x a.step a.machine) (sym e) tt) p (λ offset len f tells. wrote_none a.step.ask offset len n f)
 

@@ -17,6 +17,8 @@ use Rattle.turn_laws.proofs.Ends.{ends_law}
 use Rattle.turn_laws.proofs.Faults.{faults_law}
 use Rattle.turn_laws.proofs.Judgements.{judgement_run_law}
 use Rattle.turn_laws.proofs.LoginRuns.{login_run_law}
+use Rattle.turn_laws.proofs.ManagerRequests.{manager_requests_law}
+use Rattle.turn_laws.proofs.PushRequests.{push_requests_law}
 use Rattle.turn_laws.proofs.Pushes.{pushes_law}
 use Rattle.turn_laws.proofs.Once.{once_law}
 use Rattle.turn_laws.proofs.OrderRuns.{ordered_law}
@@ -35,6 +37,8 @@ turns_law = record {
     actions = actions_law.after_lines line run is some most size;
     act_requests = act_requests_law.after_lines line run is some most size;
     agent_requests = agent_requests_law.after_lines line run is some most size;
+    manager_requests = manager_requests_law.after_lines line run is some most size;
+    push_requests = push_requests_law.after_lines line run is some most size;
     ordered = ordered_law.after_lines line run is some most size;
     cuts = cuts_law.after_lines line run is some most size;
     cleared = cleared_law.after_lines line run is some most size;
@@ -63,6 +67,8 @@ turns_law = record {
     actions = actions_law.between line run is some most size next deliveries told may;
     act_requests = act_requests_law.between line run is some most size next deliveries told may;
     agent_requests = agent_requests_law.between line run is some most size next deliveries told may;
+    manager_requests = manager_requests_law.between line run is some most size next deliveries told may;
+    push_requests = push_requests_law.between line run is some most size next deliveries told may;
     ordered = ordered_law.between line run is some most size next deliveries told may;
     cuts = cuts_law.between line run is some most size next deliveries told may;
     cleared = cleared_law.between line run is some most size next deliveries told may;

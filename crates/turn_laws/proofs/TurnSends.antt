@@ -1,5 +1,6 @@
 -- What the target sends in a turn of an agent, behind the response of the turn: the agent's requests, and others behind them.
-use Rattle.std.proofs.Common.{◌≡◌, ◌∙◌, refl, sym, ap, ℕ, Bool, true, false, List, [], ◌∷◌, ◌++◌, is_some, drop, length, Option, Some, None, Ok}
+use Rattle.std.proofs.Common.{◌≡◌, ◌∙◌, refl, sym, ap, subst, ℕ, Bool, true, false, List, [], ◌∷◌, ◌++◌, append_assoc, is_some, drop, length, Option, Some, None, Ok}
+use Rattle.std.proofs.lemmas.Option.{same_Some}
 use Rattle.async_packet.specs.Packet.{Packet}
 use Rattle.async_packet.specs.Reading.{reading}
 use Rattle.bus_transactions.specs.Judging.{facts_of, may_get}
@@ -14,18 +15,20 @@ use Rattle.sbp_journal.specs.Transactions.{Sending, part_of}
 use Rattle.sbp_journal.specs.Wire.{Terms}
 use Rattle.sbp_journal.specs.declared.note.Note.{Note}
 use Rattle.sbp_journal.specs.declared.outbox.Outgoing.{Outgoing}
+use Rattle.sbp_laws.specs.Agents.{Request}
 use Rattle.sbp_laws.specs.SentAnswers.{answer_due}
 use Rattle.sbp_laws.specs.SentRequests.{behind_answer}
 use Rattle.sbp_laws.specs.JudgementLaw.{is_response}
 use Rattle.sbp_laws.specs.Turns.{Turn, sends_of}
 use Rattle.sbp_world.specs.Hosts.Handing.{AreOthers}
-use Rattle.sbp_world.specs.Sending.{sent}
+use Rattle.sbp_world.specs.Sending.{sent, sent_all}
 use Rattle.sbp_world.specs.Telling.{told_all}
 use Rattle.sbp_world.specs.Worlds.{WorldState}
 use Rattle.sbp_world.proofs.Common.{untrue}
 use Rattle.sbp_world.proofs.Lists.StatusOffice.{sides_generations}
 use Rattle.turn_laws.proofs.Handed.{handed, notes_sent, notes_told, packet_note}
 use Rattle.turn_laws.proofs.PushSends.{Pushes}
+use Rattle.turn_laws.proofs.SentOwn.{AreFor, AskFor}
 use Rattle.turn_laws.proofs.SentAnswers.{others_unsent, sends_behind, told_unsent}
 use Rattle.turn_laws.proofs.TurnWrites.{sent_generations}
 
@@ -53,7 +56,46 @@ handed_sends o w others =
     let v = told_all 0 o.sides w in
     sends_behind (notes_told 0 o.sides w) (notes_sent 0 o.packets v) (told_unsent 0 o.sides w (others_unsent o.sides others)) ∙ all_sent o.packets v
 
-module _ (start : List Disk) (t : Turn) (peer node : ℕ) (g : GenerationsState) (there : node_of g 0 peer ≡ Some node) (o : OutboxState) (w : WorldState) (same : w.generations ≡ g) (others : AreOthers o.sides) (rest_is : t.rest ≡ handed 0 0 o w) (places : List (Option Login)) (unit place : ℕ) (out : List Outgoing) where
+-- packets that ask for these bodies, each of the node to which it goes
+abbrev pub AreSentFor : GenerationsState → List Outgoing → List Request → Type 0
+AreSentFor g [] [] = Unit {0}
+AreSentFor g (packet ∷ later) (want ∷ requests) = ((node_of g 0 packet.to ≡ Some want.to) × AskFor want.is_untold want.body packet.bytes) × AreSentFor g later requests
+AreSentFor g packets requests = ⊥
+
+one_for : (to : Option ℕ) (packet : Outgoing) (w : WorldState) (want : Request) (later : List Note) (requests : List Request) → to ≡ Some want.to → AskFor want.is_untold want.body packet.bytes → AreFor 0 later requests → AreFor 0 (packet_note to 0 packet w ++ later) (want ∷ requests)
+one_for None packet w want later requests e a h = absurd (let no : None ≡ Some want.to = e in cc)
+one_for (Some to) packet w want later requests e a h = ((refl, (same_Some to want.to e, a)), h)
+
+pub sent_for : (g : GenerationsState) (packets : List Outgoing) (requests : List Request) (w : WorldState) → w.generations ≡ g → AreSentFor g packets requests → AreFor 0 (notes_sent 0 packets w) requests
+sent_for g [] [] w same h = tt
+sent_for g [] (want ∷ requests) w same h = absurd h
+sent_for g (packet ∷ later) [] w same h = absurd h
+sent_for g (packet ∷ later) (want ∷ requests) w same h =
+    let v = sent 0 packet w in
+    one_for (node_of w.generations 0 packet.to) packet w want (notes_sent 0 later v) requests (ap (λ (x : GenerationsState). node_of x 0 packet.to) same ∙ h.0.0) h.0.1 (sent_for g later requests v (sent_generations packet w ∙ same) h.1)
+
+pub both_sent : (g : GenerationsState) (a b : List Outgoing) (x y : List Request) → AreSentFor g a x → AreSentFor g b y → AreSentFor g (a ++ b) (x ++ y)
+both_sent g [] b [] y h k = k
+both_sent g [] b (want ∷ x) y h k = absurd h
+both_sent g (packet ∷ a) b [] y h k = absurd h
+both_sent g (packet ∷ a) b (want ∷ x) y h k = (h.0, both_sent g a b x y h.1 k)
+
+-- the notes of two, and the bus between them
+pub notes_both : (a b : List Outgoing) (w : WorldState) → notes_sent 0 (a ++ b) w ≡ notes_sent 0 a w ++ notes_sent 0 b (sent_all 0 a w)
+unfolding sent_all
+notes_both [] b w = refl
+notes_both (packet ∷ a) b w =
+    let v = sent 0 packet w in
+    let note = packet_note (node_of w.generations 0 packet.to) 0 packet w in
+    ap (λ ns. note ++ ns) (notes_both a b v) ∙ sym (append_assoc note (notes_sent 0 a v) (notes_sent 0 b (sent_all 0 a v)))
+
+-- these packets are all that stands there
+pub record SendsAll (start : List Disk) (t : Turn) (g : GenerationsState) (packets : List Outgoing) : Type 0 where
+  pub world : WorldState
+  pub bus : world.generations ≡ g
+  pub is : behind_answer start t ≡ notes_sent 0 packets world
+
+module _ (start : List Disk) (t : Turn) (g : GenerationsState) (o : OutboxState) (w : WorldState) (same : w.generations ≡ g) (others : AreOthers o.sides) (rest_is : t.rest ≡ handed 0 0 o w) where
   abbrev v : WorldState
   v = told_all 0 o.sides w
 
@@ -64,28 +106,32 @@ module _ (start : List Disk) (t : Turn) (peer node : ℕ) (g : GenerationsState)
   bus = sides_generations 0 o.sides w ∙ same
 
   -- no response is due
-  pub sends_alone : answer_due start t t.start ≡ [] → Pushes places unit place out o.packets → SendsOwn start t peer node out
-  sends_alone none p = record {
-    more = p.more;
-    world = v;
-    there = ap (λ (x : GenerationsState). node_of x 0 peer) bus ∙ there;
-    is = ap (λ (ns : List Note). drop (length ns) (sends_of t.rest)) none ∙ (sends_are ∙ ap (λ ps. notes_sent 0 ps v) p.is);
-  }
+  pub all_alone : answer_due start t t.start ≡ [] → SendsAll start t g o.packets
+  all_alone none = record { world = v; bus = bus; is = ap (λ (ns : List Note). drop (length ns) (sends_of t.rest)) none ∙ sends_are }
 
   -- or one, to a node that is there
-  pub sends_second : length (answer_due start t t.start) ≡ 1 → (first : Outgoing) (to : ℕ) → node_of g 0 first.to ≡ Some to → Pushes places unit place (first ∷ out) o.packets → SendsOwn start t peer node out
-  sends_second one first to known p =
+  pub all_second : length (answer_due start t t.start) ≡ 1 → (first : Outgoing) (to : ℕ) → node_of g 0 first.to ≡ Some to → (packets : List Outgoing) → o.packets ≡ first ∷ packets → SendsAll start t g packets
+  all_second one first to known packets packets_are =
       let next = sent 0 first v in
-      let later = notes_sent 0 (out ++ p.more) next in
+      let later = notes_sent 0 packets next in
       let goes : node_of v.generations 0 first.to ≡ Some to = ap (λ (x : GenerationsState). node_of x 0 first.to) bus ∙ known in
       record {
-        more = p.more;
         world = next;
-        there = ap (λ (x : GenerationsState). node_of x 0 peer) (sent_generations first v ∙ bus) ∙ there;
+        bus = sent_generations first v ∙ bus;
         is =
             ap (λ n. drop n (sends_of t.rest)) one
-            ∙ (ap (drop 1) (sends_are ∙ ap (λ ps. notes_sent 0 ps v) p.is) ∙ ap (λ x. drop 1 (packet_note x 0 first v ++ later)) goes);
+            ∙ (ap (drop 1) (sends_are ∙ ap (λ ps. notes_sent 0 ps v) packets_are) ∙ ap (λ x. drop 1 (packet_note x 0 first v ++ later)) goes);
       }
+
+module _ (start : List Disk) (t : Turn) (peer node : ℕ) (g : GenerationsState) (there : node_of g 0 peer ≡ Some node) (o : OutboxState) (w : WorldState) (same : w.generations ≡ g) (others : AreOthers o.sides) (rest_is : t.rest ≡ handed 0 0 o w) (places : List (Option Login)) (unit place : ℕ) (out : List Outgoing) where
+  own_of : (more : List Outgoing) → SendsAll start t g (out ++ more) → SendsOwn start t peer node out
+  own_of more x = record { more = more; world = x.world; there = ap (λ (y : GenerationsState). node_of y 0 peer) x.bus ∙ there; is = x.is }
+
+  pub sends_alone : answer_due start t t.start ≡ [] → Pushes places unit place out o.packets → SendsOwn start t peer node out
+  sends_alone none p = own_of p.more (subst (SendsAll start t g) p.is (all_alone start t g o w same others rest_is none))
+
+  pub sends_second : length (answer_due start t t.start) ≡ 1 → (first : Outgoing) (to : ℕ) → node_of g 0 first.to ≡ Some to → Pushes places unit place (first ∷ out) o.packets → SendsOwn start t peer node out
+  sends_second one first to known p = own_of p.more (all_second start t g o w same others rest_is one first to known (out ++ p.more) p.is)
 
 -- ---- a packet that is got is of its node's generation
 current_by : (c n r a e : Bool) → may_get (row_of (record { is_current = c; is_for_node = n; is_response = r; is_awaited = a; is_repeated = e })) ≡ true → c ≡ true

@@ -105,7 +105,7 @@ where_holds false A h = tt
 unserved_for : (start : List Disk) (T : Target) (t : Turn) (x : Option AgentTurn) → TellsFor start T t x → DiesUnserved T t x
 unserved_for start T t None h = tt
 unserved_for start T t (Some a) (has_steps step m login layer h) = unserved_by start T t a step m login layer h (is_untold_chunk a && lacks_label_told t) refl
-unserved_for start T t (Some a) (has_rest e none) =
+unserved_for start T t (Some a) (has_rest e none alone) =
     where_holds (is_untold_chunk a && lacks_label_told t) (UnservedBody (wire_after t) (suc (initiator_at T (wire_before t) a.place)) (body_of a.step.ask a.machine a.step.ended 0)) (resting (wire_after t) (suc (initiator_at T (wire_before t) a.place)) a quiet tt e)
 
 unserved_told : (start : List Disk) (t : Turn) → TellsEnds start t → UnservedWhereTold start t

@@ -32,3 +32,5 @@ pub mod ActEntries
 pub mod Together
 pub mod RunsEnd
 pub mod AgentRequests
+pub mod PushRequests
+pub mod ManagerRequests

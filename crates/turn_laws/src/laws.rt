@@ -19,11 +19,13 @@ ghost use Rattle.turn_laws.specs.Failures.{FailuresLaw};
 ghost use Rattle.turn_laws.specs.Faults.{FaultsLaw};
 ghost use Rattle.turn_laws.specs.Judgement.{JudgementRunLaw};
 ghost use Rattle.turn_laws.specs.Login.{LoginRunLaw};
+ghost use Rattle.turn_laws.specs.ManagerRequests.{ManagerRequestsLaw};
 ghost use Rattle.turn_laws.specs.Once.{OnceLaw};
 ghost use Rattle.turn_laws.specs.Operations.{NoneEndsLaw};
 ghost use Rattle.turn_laws.specs.Ordered.{OrderedLaw};
 ghost use Rattle.turn_laws.specs.Packets.{PacketsLaw};
 ghost use Rattle.turn_laws.specs.RunsEnd.{RunsEndLaw};
+ghost use Rattle.turn_laws.specs.PushRequests.{PushRequestsLaw};
 ghost use Rattle.turn_laws.specs.Pushes.{PushesLaw};
 ghost use Rattle.turn_laws.specs.Silent.{SilentLaw};
 ghost use Rattle.turn_laws.specs.Statuses.{StatusesLaw};
@@ -287,13 +289,33 @@ pub fn actions_are_lawful()
     ensures { ActionRunLaw }
 {}
 
-/// In each turn of every run, whatever anybody injected, the packets behind the response begin with the request that
-/// an agent of the target has first, where the laws have one: that of its step, or, where that finds no label, the
-/// status of the ORB that fails so. It has the next serial, goes in the target's generation to the initiator of the
-/// login, and is spelled canonically under the lowest label that serves it; of a chunk that its medium did not tell
-/// the number of its bytes is due. So much of `requests` of the sent law: not the read ahead, and not what is sent
-/// behind it.
+/// In each turn of every run, whatever anybody injected, the packets behind the response begin with the requests that
+/// an agent of the target has, where the laws have some: that of its step, or, where that finds no label, the status of
+/// the ORB that fails so; then the read ahead of the next ORB, where 16 labels are left. Each has the next serial, goes
+/// in the target's generation to the initiator of the login, and is spelled canonically under the lowest label that
+/// serves it; of a chunk that its medium did not tell the number of its bytes is due. So much of `requests` of the sent
+/// law: not what is sent behind them.
 #[tactic(auto, using(crate::proofs::AgentRequests::agent_requests_law))]
-pub fn agents_send_their_requests_first()
+pub fn agents_send_their_requests()
     ensures { AgentRequestsLaw }
+{}
+
+/// In each turn of every run that is for the management operation, whatever anybody injected, the packets behind the
+/// response are exactly its request, where it asks for something and that finds a label to its initiator: the read of its
+/// ORB as it starts, and at a response what its step then asks for. A time-out asks for nothing, and a write that finds
+/// an operation under way neither. It has the next serial, goes in the target's generation to the initiator of the
+/// operation, and is spelled canonically under the lowest label that serves it: of `requests` of the sent law the turns of
+/// the operation.
+#[tactic(auto, using(crate::proofs::ManagerRequests::manager_requests_law))]
+pub fn operations_send_their_requests()
+    ensures { ManagerRequestsLaw }
+{}
+
+/// In each turn of every run, whatever anybody injected, the last packets are the writes of unsolicited statuses that the
+/// media law has in it: one to each login with `unsolicited`, by rising place, of the block to its FIFO, each with the
+/// next serial, in the target's generation, to the initiator of the login, and spelled canonically under the lowest label
+/// that serves it: of `requests` of the sent law those of unsolicited statuses.
+#[tactic(auto, using(crate::proofs::PushRequests::push_requests_law))]
+pub fn unsolicited_statuses_are_sent_where_due()
+    ensures { PushRequestsLaw }
 {}

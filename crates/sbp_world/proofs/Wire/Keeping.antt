@@ -3,9 +3,7 @@ use Rattle.std.specs.Prelude.{◌≡◌, ℕ, Bool, List, []}
 use Rattle.std.proofs.Common.{◌∙◌, ap, subst, sym}
 use Rattle.rbc_disk.specs.Disk.{Disk}
 use Rattle.sbp_journal.specs.declared.event.Event.{Event}
-use Rattle.sbp_laws.specs.Lawful.{injectors}
-use Rattle.sbp_laws.proofs.InTime.{in_time_law}
-use Rattle.sbp_world.proofs.Lists.Clauses.{answers_hold, brought_law, carried_law, lengths_law, lists_law, reads_law}
+use Rattle.sbp_world.proofs.Lists.ListLaws.{list_laws}
 use Rattle.sbp_world.proofs.Lists.Executes.{due_runs_law}
 use Rattle.sbp_world.proofs.Lists.GrantRuns.{few_logins_law}
 use Rattle.sbp_world.proofs.Standing.{begins, goes_on, settles}
@@ -32,13 +30,7 @@ laws_of run are first is =
       written = lawful_where_typed first run is.few (bus_law.lawful first run is.few is.media is.count are is.lines);
       due = λ some most. due_runs_law.after_lines first run bounds some most (sym is.media);
       few_logins = λ some most. few_logins_law.few first run bounds some most (sym is.media);
-      on_lists = λ some most. lists_law.lists first run bounds some most (sym is.media);
-      in_time = λ some most tame. in_time_law (injectors (history_of first run)) run.start.disks (history_of first run) (lists_law.lists first run bounds some most (sym is.media) tame);
-      brought = λ some most. brought_law first run bounds some most (sym is.media);
-      carried = λ some most. carried_law first run bounds some most (sym is.media);
-      reads = λ some most. reads_law.after_lines first run bounds some most (sym is.media);
-      answers = λ some most. answers_hold first run bounds some most (sym is.media);
-      lengths = λ some most. lengths_law.lengths first run bounds some most (sym is.media);
+      lists = λ some most. list_laws first run bounds some most (sym is.media);
     }
 
 -- the scene that stands for a run is the one behind its lines

@@ -1,22 +1,17 @@
 -- What each line of a world keeps: the run that the world stands for has the laws of the wire, those of the lines of the bus, and those of lists.
-use Rattle.std.specs.Prelude.{◌≡◌, ◌≤◌, ◌<◌, ℕ, ◌+◌, ◌^◌, Bool, List, [], length, Option, false}
+use Rattle.std.specs.Prelude.{◌≡◌, ◌≤◌, ◌<◌, ℕ, ◌+◌, ◌^◌, Bool, List, [], length, Option}
 use Rattle.std.specs.List.{AllByRecursion}
 use Rattle.rbc_disk.specs.Held.{Held}
 use Rattle.rbc_disk.specs.Runs.{Told}
 use Rattle.sbp_journal.specs.declared.event.Event.{Event}
 use Rattle.sbp_journal.specs.declared.event.Event.TheVariants as events
-use Rattle.sbp_laws.specs.CarriedLaw.{CarriedLaw, RunsWhereDue}
-use Rattle.sbp_laws.specs.InTime.{ReadsInTime}
+use Rattle.sbp_laws.specs.CarriedLaw.{RunsWhereDue}
 use Rattle.sbp_laws.specs.Lawful.{injectors}
-use Rattle.sbp_laws.specs.OnLists.{LawfulOnLists}
 use Rattle.sbp_laws.specs.OnTheBus.{FormedOnTheBus, LawfulOnTheBus}
-use Rattle.sbp_laws.specs.Turns.{EachMoment, EachTurn}
+use Rattle.sbp_laws.specs.Turns.{EachTurn}
 use Rattle.sbp_world.specs.Forms.{AreTyped}
 use Rattle.sbp_world.specs.Histories.{history_of}
-use Rattle.sbp_world.specs.Lists.AnswerLengths.{LengthOf}
-use Rattle.sbp_world.specs.Lists.AnswersHold.{AnswersHold}
-use Rattle.sbp_world.specs.Lists.Brought.{AreBrought}
-use Rattle.sbp_world.specs.Lists.CarriedEnds.{WereRead}
+use Rattle.sbp_world.specs.Lists.ListLaws.{HasListLaws}
 use Rattle.sbp_world.specs.Lists.FewLogins.{FewLogins, IsTameOrFew}
 use Rattle.sbp_world.specs.Runs.{Run, StandsFor, entry, with_entry}
 use Rattle.sbp_world.specs.Wire.History.{IsOfWire}
@@ -36,21 +31,14 @@ pub record IsLikeAScripts (run : Run) : Type 0 where
 -- The laws of a run whose first line has this number: its history has those of the wire, its journal those of the lines of the bus, and where
 -- its notes are inside their types, as each line's are, each is determined by its text; where it
 -- has one to four units, commands run in each turn exactly where they are due, those of any initiators; and where then no initiator injected packets or few logins were
--- given, its history has the laws of lists, which read so in the order of time, and the carried law: what ran and what ended was read as it says, and brought by reads, commands run with what was read,
--- and each answer that is taken was written so; and each of these has its length, and is the plain disk's. In up to 65,536 lines behind the first, few logins are given.
+-- given, its history has the laws of lists. In up to 65,536 lines behind the first, few logins are given.
 pub record HasLaws (first : ℕ) (run : Run) : Type 0 where
   pub of_wire : IsOfWire (history_of first run)
   pub on_the_bus : FormedOnTheBus (injectors (history_of first run)) (journal_run first run)
   pub written : AllByRecursion AreTyped run.entries → LawfulOnTheBus (injectors (history_of first run)) (journal_run first run)
   pub due : 0 < run.units → run.units ≤ 4 → (wild : ℕ → Bool) → EachTurn (RunsWhereDue wild run.start.disks) (history_of first run)
   pub few_logins : 0 < run.units → run.units ≤ 4 → length run.entries ≤ 65536 → FewLogins (history_of first run)
-  pub on_lists : 0 < run.units → run.units ≤ 4 → IsTameOrFew (history_of first run) → LawfulOnLists (injectors (history_of first run)) run.start.disks (history_of first run)
-  pub in_time : 0 < run.units → run.units ≤ 4 → IsTameOrFew (history_of first run) → ReadsInTime (injectors (history_of first run)) (history_of first run)
-  pub brought : 0 < run.units → run.units ≤ 4 → IsTameOrFew (history_of first run) → AreBrought (injectors (history_of first run)) run.start.disks (history_of first run)
-  pub carried : 0 < run.units → run.units ≤ 4 → IsTameOrFew (history_of first run) → CarriedLaw (injectors (history_of first run)) run.start.disks (history_of first run)
-  pub reads : 0 < run.units → run.units ≤ 4 → IsTameOrFew (history_of first run) → WereRead (injectors (history_of first run)) run.start.disks (history_of first run)
-  pub answers : 0 < run.units → run.units ≤ 4 → IsTameOrFew (history_of first run) → AnswersHold (injectors (history_of first run)) run.start.disks (history_of first run)
-  pub lengths : 0 < run.units → run.units ≤ 4 → IsTameOrFew (history_of first run) → (i : ℕ) → i < run.initiators → injectors (history_of first run) i ≡ false → EachMoment (LengthOf run.start.disks i) (history_of first run)
+  pub lists : 0 < run.units → run.units ≤ 4 → IsTameOrFew (history_of first run) → HasListLaws run.initiators run.start.disks (history_of first run)
 
 -- A world and its media stand for a run, which has the laws where it is such as a script's. Where it has then one to four units, the terms of its journal are the states of the two ends of
 -- this world; and where besides no initiator injected packets or few logins were given, the lists that are open are those of the places.
