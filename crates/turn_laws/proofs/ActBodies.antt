@@ -133,7 +133,7 @@ module _ (past : List Moment) (i : ℕ) (s : InitiatorState) (own : IsHost past 
   rings_any (Some list) e live f = rung_by list e live host.pointer refl
 
   -- the address of the ORB in the next place of management
-  pub managed_is : (offset : ℕ) → unwrap_or s.management 0 ≡ offset → Some (block_write offset (address_bytes (start (windows.Management (host.writes % 2))))) ≡ body_in (Some (manage_demand s))
+  managed_is : (offset : ℕ) → unwrap_or s.management 0 ≡ offset → Some (block_write offset (address_bytes (start (windows.Management (host.writes % 2))))) ≡ body_in (Some (manage_demand s))
   managed_is offset e =
       ap (λ n. Some (block_write n (address_bytes (start (windows.Management (host.writes % 2)))))) (sym e)
       ∙ ap (λ n. Some (block_write (unwrap_or s.management 0) (address_bytes (start (windows.Management (n % 2)))))) (ap (λ (c : Core). c.writes) core)

@@ -1,23 +1,18 @@
 -- The requests of the actions of every run.
-use Rattle.std.proofs.Common.{arith, ◌≡◌, ◌∙◌, refl, sym, ap, subst, ℕ, zero, suc, ◌+◌, ◌<◌, ◌≤◌, not, unwrap_or, Bool, true, false, List, [], ◌∷◌, ◌++◌, length, Option, Some, None, inl, inr}
+use Rattle.std.proofs.Common.{arith, ◌≡◌, ◌∙◌, refl, sym, ap, subst, ℕ, zero, suc, ◌+◌, ◌<◌, ◌≤◌, false, List, [], ◌∷◌, ◌++◌, length, Option, Some, None}
 use Rattle.async_packet.specs.Canon.{IsValid, canon}
 use Rattle.bus_transactions.specs.Wire.{id_for}
 use Rattle.bus_transactions.proofs.Fits.{request_fits}
 use Rattle.bus_transactions.proofs.Follows.{last_is}
 use Rattle.label_table.specs.Bodies.{Body, header_to, request_with}
-use Rattle.label_table.specs.Layer.{Layer}
 use Rattle.label_table.specs.declared.judgement.Asked.{Asked}
 use Rattle.packet_store.specs.Stored.{Stored}
 use Rattle.rbc_disk.specs.Disk.{Disk}
 use Rattle.sbp_bus.specs.Generations.{GenerationsState, node_of, topology_at}
-use Rattle.sbp_initiator.proofs.FirstRow.{refusal_law}
-use Rattle.sbp_initiator.specs.Acting.{act_step, asked_as, asked_for, demand_of, demanded_as, facts_with, judged_as}
+use Rattle.sbp_initiator.specs.Acting.{act_step, asked_for, demand_of}
 use Rattle.sbp_initiator.specs.Effects.{Turn as Called}
-use Rattle.sbp_initiator.specs.Refusals.{refusal, rows_of}
-use Rattle.sbp_initiator.specs.Refusing.{finds_label}
 use Rattle.sbp_initiator.specs.States.{wanted_body}
 use Rattle.sbp_initiator.specs.declared.purpose.Demand.{Demand}
-use Rattle.sbp_initiator.specs.declared.purpose.Purpose.{Purpose}
 use Rattle.sbp_initiator.specs.declared.state.InitiatorState.{InitiatorState}
 use Rattle.sbp_journal.specs.Outgoings.{OutboxState, empty_outbox}
 use Rattle.sbp_journal.specs.Run.{Moment, asked}
@@ -32,72 +27,35 @@ use Rattle.sbp_journal.specs.declared.outbox.Outgoing.{Outgoing}
 use Rattle.sbp_laws.specs.Actions.{action_body, action_notes, append_notes, new_list, new_number, refusal_at}
 use Rattle.sbp_laws.specs.Agents.{Request, requests_to}
 use Rattle.sbp_laws.specs.Deliveries.{once_told}
-use Rattle.sbp_laws.specs.Hosts.{host_at, operation_of}
+use Rattle.sbp_laws.specs.Hosts.{host_at}
 use Rattle.sbp_laws.specs.LineLaw.{refused}
 use Rattle.sbp_laws.specs.Packets.{label_for}
 use Rattle.sbp_laws.specs.SentRequests.{ArePackets, IsRequest, RequestsLaw, before_requests, behind_answer, unless_refused}
-use Rattle.sbp_laws.specs.Turns.{Turn, Where, effects_of, sends_of, turn}
+use Rattle.sbp_laws.specs.Turns.{Turn, effects_of, sends_of, turn}
 use Rattle.sbp_world.specs.Lines.{weight_in}
-use Rattle.sbp_world.specs.Pointers.Moments.{manages}
 use Rattle.sbp_world.specs.Telling.{told_all}
 use Rattle.sbp_world.specs.Worlds.{Scene, WorldState, initiator_at, with_initiator, without_notes}
 use Rattle.sbp_world.proofs.Agents.Management.Holding.{past_terms}
 use Rattle.sbp_world.proofs.Agents.Management.Still.{hist}
-use Rattle.sbp_world.proofs.Common.{some_none, untrue}
-use Rattle.sbp_world.proofs.Hosts.Acts.{NoRow, no_row}
+use Rattle.sbp_world.proofs.Common.{untrue}
 use Rattle.sbp_world.proofs.Hosts.Knows.{target_there}
-use Rattle.sbp_world.proofs.Hosts.Requested.{all_told_bus, done_sends}
+use Rattle.sbp_world.proofs.Hosts.Requested.{all_told_bus}
 use Rattle.sbp_world.proofs.Wire.Bus.{holds}
 use Rattle.sbp_world.proofs.Wire.Holding.{target_small, to_target}
-use Rattle.turn_laws.specs.ActRequests.{ActRequestsLaw, ActsByRequests, AsksManaged, AsksOr, managed_body}
-use Rattle.turn_laws.specs.Actions.{asks_more}
+use Rattle.turn_laws.specs.ActRequests.{ActRequestsLaw, ActsByRequests}
 use Rattle.turn_laws.proofs.ActBodies.{body_in}
 use Rattle.turn_laws.proofs.ActNotes.{effects_are, sends_are}
-use Rattle.turn_laws.proofs.ActTies.{asked_bodies, fits, managed_bodies}
-use Rattle.turn_laws.proofs.Actions.{none_asked, number_is, sides_are}
-use Rattle.turn_laws.proofs.Calls.{Brings, Cases, calls, injects, is_act, loses, refuses, refuses_action, resets, sets_key}
+use Rattle.turn_laws.proofs.ActPackets.{Made, act_made, goes_through}
+use Rattle.turn_laws.proofs.ActTies.{asked_bodies, fits}
+use Rattle.turn_laws.proofs.Actions.{number_is, sides_are}
+use Rattle.turn_laws.proofs.Calls.{Brings, calls, injects, is_act, loses, refuses, refuses_action, resets, sets_key}
 use Rattle.turn_laws.proofs.Handed.{handed, notes_sent, packet_note}
+use Rattle.turn_laws.proofs.KnownRuns.{Known, KnowingCases, of_every_known}
 use Rattle.turn_laws.proofs.Pass.{call_no_act}
 use Rattle.turn_laws.proofs.Places.{Place}
 use Rattle.turn_laws.proofs.ReadsUnderWay.{AreTimely}
-use Rattle.turn_laws.proofs.Timely.{Timely, of_timely_turns}
 use Rattle.turn_laws.proofs.RequestLabels.{IsSpelled, spelled_at}
-use Rattle.sbp_world.proofs.Lists.ManageWrites.{manage_asks}
-
--- ---- what an action sends: the request that it asks for, where it asks for one
-module _ (action : Action) (s : InitiatorState) where
-  record MadeBy (demand : Demand) (packets : List Outgoing) : Type 0 where
-    asked : Asked
-    found : (asked_for demand s).0 ≡ Some asked
-    are : packets ≡ record { to = s.target; label = Some asked.label; bytes = asked.bytes } ∷ []
-
-  abbrev Made : Option Demand → List Outgoing → Type 0
-  Made None packets = packets ≡ []
-  Made (Some demand) packets = MadeBy demand packets
-
-  asked_made : (demand : Demand) (r : Option Asked × Layer Purpose) → asked_for demand s ≡ r → (asked_as r action empty_outbox s).0 ≡ None → MadeBy demand (asked_as r action empty_outbox s).1.0.packets
-  asked_made demand (None, layer) f e = some_none 10 e
-  asked_made demand (Some one, layer) f e = record {
-    asked = one;
-    found = ap (λ (x : Option Asked × Layer Purpose). x.0) f;
-    are = ap (λ (ps : List Outgoing). ps ++ record { to = s.target; label = Some one.label; bytes = one.bytes } ∷ []) (done_sends action empty_outbox (record s { layer = layer }));
-  }
-
-  demanded_made : (demand : Option Demand) → (demanded_as demand action empty_outbox s).0 ≡ None → Made demand (demanded_as demand action empty_outbox s).1.0.packets
-  demanded_made None e = done_sends action empty_outbox s
-  demanded_made (Some demand) e = asked_made demand (asked_for demand s) refl e
-
-  judged_made : (number : Option ℕ) → (judged_as number action empty_outbox s).0 ≡ None → Made (demand_of action s) (judged_as number action empty_outbox s).1.0.packets
-  judged_made (Some number) e = some_none number e
-  judged_made None e = demanded_made (demand_of action s) e
-
-  act_made : (act_step action empty_outbox s).0 ≡ None → Made (demand_of action s) (act_step action empty_outbox s).1.0.packets
-  unfolding act_step
-  act_made e = judged_made (refusal action (facts_with true s action)) e
-
-  goes_through : (act_step action empty_outbox s).0 ≡ None → NoRow (rows_of action (facts_with (finds_label action s) s action))
-  unfolding refusal
-  goes_through e = no_row (rows_of action (facts_with (finds_label action s) s action)) (sym (refusal_law.first action empty_outbox s) ∙ e)
+use Rattle.turn_laws.proofs.Timely.{Timely, untimed}
 
 -- what an action tells leaves the wire
 append_wire : (i n k : ℕ) (cmd : Cmd) (past : List Moment) → terms (once_told past (append_notes i n k cmd ++ [])) ≡ terms past
@@ -114,7 +72,7 @@ told_wire (actions.Dummy k) ms i past = refl
 told_wire _ ms i past = refl
 
 module _ (units ready : ℕ) (start : List Disk) where
-  module _ (past : List Moment) (s : Scene) (here : Place units ready start past s) (i : ℕ) (inside : i < length s.world.initiators) (action : Action) (line : ℕ) (timely : AreTimely (hist past s.world)) where
+  module _ (past : List Moment) (s : Scene) (here : Place units ready start past s) (k : Known start (hist past s.world) s) (timely : AreTimely (hist past s.world)) (i : ℕ) (inside : i < length s.world.initiators) (action : Action) (line : ℕ) where
     abbrev w : WorldState
     w = s.world
 
@@ -222,7 +180,7 @@ module _ (units ready : ℕ) (start : List Disk) where
 
       packets_for : (found : Option Body) → found ≡ body_in (demand_of action old) → ArePackets (before_requests start asking) (suc i) (behind_answer start asking) (requests_to 0 found)
       packets_for found bodies =
-          let sides = sides_are units ready start past s here i inside action timely outbox state e in
+          let sides = sides_are units ready start past s here k timely i inside action outbox state e in
           let rest = handed (i + 1) weight outbox v in
           let now = once_told asks (effects_of rest ++ []) in
           let before : terms now ≡ terms asks =
@@ -231,88 +189,47 @@ module _ (units ready : ℕ) (start : List Disk) where
           (subst (λ ns. ArePackets now (suc i) ns (requests_to 0 (body_in (demand_of action old)))) (sym (sends_are ms i (i + 1) weight action outbox v sides))
           (sent_by now before (demand_of action old) refl made))
 
-      pub packets_are : manages (operation_of action) ≡ false → ArePackets (before_requests start asking) (suc i) (behind_answer start asking) (requests_to 0 (action_body action ms i (host_at ms i)))
-      packets_are unmanaged =
-          packets_for (action_body action ms i (host_at ms i)) (asked_bodies units ready start past s here i inside action (λ f. untrue (sym unmanaged ∙ f)) (goes_through action old done))
+      packets_are : ArePackets (before_requests start asking) (suc i) (behind_answer start asking) (requests_to 0 (action_body action ms i (host_at ms i)))
+      packets_are = packets_for (action_body action ms i (host_at ms i)) (asked_bodies units ready start past s here i inside (k.1.each i inside) action (goes_through action old done))
 
-      pub managed_are : manages (operation_of action) ≡ true
-          → ArePackets (before_requests start asking) (suc i) (behind_answer start asking) (requests_to 0 (Some (managed_body (unwrap_or old.management 0) ms i)))
-      managed_are managed =
-          packets_for (Some (managed_body (unwrap_or old.management 0) ms i)) (managed_bodies units ready start past s here i inside ∙ ap body_in (sym (manage_asks action old managed)))
-
-      requests_are : asks_more action ≡ false → RequestsLaw start asking
-      requests_are more not_silent =
-          let none : refusal_at ms i action ≡ None = number_is units ready start past s here i inside action timely more ∙ done in
-          subst (λ number. ArePackets (before_requests start asking) (suc i) (behind_answer start asking) (unless_refused number (requests_to 0 (action_body action ms i (host_at ms i))))) (sym none)
-          (packets_are (none_asked action more).1)
+      pub requests_are : RequestsLaw start asking
+      requests_are not_silent =
+          let none : refusal_at ms i action ≡ None = number_is units ready start past s here k timely i inside action ∙ done in
+          subst (λ number. ArePackets (before_requests start asking) (suc i) (behind_answer start asking) (unless_refused number (requests_to 0 (action_body action ms i (host_at ms i))))) (sym none) packets_are
 
     -- a refused action sends nothing
-    refused_requests : (number : ℕ) → (act_step action empty_outbox old).0 ≡ Some number → asks_more action ≡ false → RequestsLaw start (turn ms (asked line (events.Act i action)) (refused line number))
-    refused_requests number e more not_silent =
-        let is : refusal_at ms i action ≡ Some number = number_is units ready start past s here i inside action timely more ∙ e in
+    pub refused_requests : (number : ℕ) → (act_step action empty_outbox old).0 ≡ Some number → RequestsLaw start (turn ms (asked line (events.Act i action)) (refused line number))
+    refused_requests number e not_silent =
+        let is : refusal_at ms i action ≡ Some number = number_is units ready start past s here k timely i inside action ∙ e in
         subst (λ x. ArePackets (once_told asks (refused line number ++ [])) (suc i) [] (unless_refused x (requests_to 0 (action_body action ms i (host_at ms i))))) (sym is) tt
-
-    where_known : (t : Turn) → (asks_more action ≡ false → RequestsLaw start t) → Where (not (asks_more action)) (RequestsLaw start t)
-    where_known t f = by (asks_more action) refl
-      where
-        by : (b : Bool) → asks_more action ≡ b → Where (not b) (RequestsLaw start t)
-        by true e = tt
-        by false e = f e
-
-    where_unmanaged : (t : Turn) → (manages (operation_of action) ≡ false → AsksOr start line i action t) → Where (not (manages (operation_of action))) (AsksOr start line i action t)
-    where_unmanaged t f = by (manages (operation_of action)) refl
-      where
-        by : (b : Bool) → manages (operation_of action) ≡ b → Where (not b) (AsksOr start line i action t)
-        by true e = tt
-        by false e = f e
-
-    where_managed : (t : Turn) → (manages (operation_of action) ≡ true → AsksManaged start line i t) → Where (manages (operation_of action)) (AsksManaged start line i t)
-    where_managed t f = by (manages (operation_of action)) refl
-      where
-        by : (b : Bool) → manages (operation_of action) ≡ b → Where b (AsksManaged start line i t)
-        by true e = f e
-        by false e = tt
-
-    pub does_ask : (outbox : OutboxState) (state : InitiatorState) → act_step action empty_outbox old ≡ (None, (outbox, state))
-        → ActsByRequests start (turn ms (asked line (events.Act i action)) (handed (i + 1) (weight_in action) outbox (with_initiator i state (without_notes w))))
-    does_ask outbox state e =
-        let weight = weight_in action in
-        let t = asking weight outbox state e in (
-          where_unmanaged t (λ f. inr (packets_are weight outbox state e f)),
-          (where_managed t (λ f. (unwrap_or old.management 0, inr (managed_are weight outbox state e f))), where_known t (requests_are weight outbox state e)),
-        )
-
-    pub refuses_all : (number : ℕ) → (act_step action empty_outbox old).0 ≡ Some number → ActsByRequests start (turn ms (asked line (events.Act i action)) (refused line number))
-    refuses_all number e =
-        let t = turn ms (asked line (events.Act i action)) (refused line number) in (where_unmanaged t (λ f. inl (number, refl)), (where_managed t (λ f. (0, inl (number, refl))), where_known t (refused_requests number e)))
 
   no_action : (past : List Moment) (line : ℕ) (event : Event) (rest : List Note) → is_act event ≡ false → ActsByRequests start (turn past (asked line event) rest)
   no_action past line (events.Act i action) rest e = untrue (sym e)
   no_action past line _ rest e = tt
 
-  line_asks : (past : List Moment) (s : Scene) (line : ℕ) (event : Event) (rest : List Note) → Place units ready start past s → AreTimely (hist past s.world) → Brings line s event rest → ActsByRequests start (turn (hist past s.world) (asked line event) rest)
-  line_asks past s line event rest here timely (calls is_event c) = no_action (hist past s.world) line event rest (call_no_act event c)
-  line_asks past s line event rest here timely (refuses is_event r) = no_action (hist past s.world) line event rest r.no_act
-  line_asks past s line event rest here timely (refuses_action i action number e) = refuses_all past s here i e.inside action line timely number e.is
-  line_asks past s line event rest here timely (resets physical generation e) = tt
-  line_asks past s line event rest here timely (loses serial) = tt
-  line_asks past s line event rest here timely (sets_key unit key) = tt
-  line_asks past s line event rest here timely (injects i bytes serial generation from to) = tt
+  line_asks : (past : List Moment) (s : Scene) (line : ℕ) (event : Event) (rest : List Note) → Place units ready start past s → Known start (hist past s.world) s → AreTimely (hist past s.world) → Brings line s event rest → ActsByRequests start (turn (hist past s.world) (asked line event) rest)
+  line_asks past s line event rest here k timely (calls is_event c) = no_action (hist past s.world) line event rest (call_no_act event c)
+  line_asks past s line event rest here k timely (refuses is_event r) = no_action (hist past s.world) line event rest r.no_act
+  line_asks past s line event rest here k timely (refuses_action i action number e) = refused_requests past s here k timely i e.inside action line number e.is
+  line_asks past s line event rest here k timely (resets physical generation e) = tt
+  line_asks past s line event rest here k timely (loses serial) = tt
+  line_asks past s line event rest here k timely (sets_key unit key) = tt
+  line_asks past s line event rest here k timely (injects i bytes serial generation from to) = tt
 
-  request_cases : Cases units ready start (Timely (ActsByRequests start))
+  request_cases : KnowingCases units ready start (Timely (ActsByRequests start))
   request_cases = record {
-    heard = λ past s serial again run one found zero_to may others here behind judged timely. tt;
-    heard_own = λ past s serial again one i found to_is inside own here behind judged timely. tt;
-    late = λ past s serial request done t found node_is e others here behind judged timely. tt;
-    late_own = λ past s serial request i outbox state found node_is inside e own here behind judged timely. tt;
-    sees = λ past s others here behind judged timely. tt;
-    sees_own = λ past s i inside own here behind judged timely. tt;
-    ticks = λ past s others here behind judged timely. tt;
-    ends = λ past s done here behind timely. tt;
-    acts = λ past s line i action outbox state inside e own here behind timely. does_ask past s here i inside action line timely outbox state e;
-    lines = λ past s line event rest behind brings fresh here there timely. line_asks past s line event rest here timely brings;
+    heard = λ past s serial again run one found zero_to may others here behind judged k timely. tt;
+    heard_own = λ past s serial again one i found to_is inside own here behind judged k timely. tt;
+    late = λ past s serial request done t found node_is e others here behind judged k timely. tt;
+    late_own = λ past s serial request i outbox state found node_is inside e own here behind judged k timely. tt;
+    sees = λ past s others here behind judged k timely. tt;
+    sees_own = λ past s i inside own here behind judged k timely. tt;
+    ticks = λ past s others here behind judged k timely. tt;
+    ends = λ past s done here behind k timely. tt;
+    acts = λ past s line i action outbox state inside e own here behind k timely. requests_are past s here k timely i inside action line (weight_in action) outbox state e;
+    lines = λ past s line event rest behind brings fresh here there k timely. line_asks past s line event rest here k timely brings;
     begins = λ line initiators is_ready timely. tt;
   }
 
 pub act_requests_law : ActRequestsLaw
-act_requests_law = of_timely_turns (λ start. ActsByRequests start) (λ units ready start has. request_cases units ready start)
+act_requests_law = untimed (λ start. ActsByRequests start) (of_every_known (λ start. Timely (ActsByRequests start)) (λ units ready start has. request_cases units ready start))

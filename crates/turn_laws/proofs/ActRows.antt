@@ -121,32 +121,16 @@ module _ (past : List Moment) (i : ℕ) (s : InitiatorState) (tied : Tied past i
     dead_same : told.dead_seen ≡ has.dead_seen
     dead_same = ap (λ b. b && host.marked_dead) (cares_same action) ∙ ap (λ b. (own_rows.prepares action || own_rows.rings action) && b) tied.dead
 
-    -- where the row of the ROM is this, and that of its label is what it has or where no other holds
-    rows_with : (no_rom no_label : Bool) → no_rom ≡ has.no_rom → (NoRow has → no_label ≡ has.no_label) → refusal_of (record told { no_rom = no_rom; no_label = no_label }) ≡ refusal_of has
-    rows_with no_rom no_label e l =
-        let h = lists_same in
-        refused_same (record told { no_rom = no_rom; no_label = no_label }) has (ap is_stuck session_is ∙ stuck_row s.seat)
-        (ap (λ x. not (is_right_state action x)) session_is ∙ ap not (right_row action s.seat)) e
-        (waits_same session_is) (record { mid_link = h.mid_link; not_linking = h.not_linking; no_orb = h.no_orb; no_slot = h.no_slot }) dead_same l
+    -- where the rows of the ROM and of a label are those that it has
+    module _ (l : NoRow has → told.no_label ≡ has.no_label) (rom : own_rows.needs_rom action ≡ true → is_none host.management ≡ not (is_some s.management)) where
+      told_as : refusal_of told ≡ refusal_of has
+      told_as =
+          refused_same told has (ap is_stuck session_is ∙ stuck_row s.seat) (ap (λ x. not (is_right_state action x)) session_is ∙ ap not (right_row action s.seat))
+          (ap (λ b. b && is_none host.management) (needs_same action) ∙ same_where (own_rows.needs_rom action) _ _ rom)
+          (waits_same session_is) lists_same dead_same l
 
-  module _ (o : OutboxState) where
-    abbrev found : Bool
-    found = finds_label action s
-
-    -- by its own rows of these
-    pub refuses_own : refusal_of (record (told found) { no_rom = (has found).no_rom; no_label = (has found).no_label }) ≡ (act_step action o s).0
+  -- so an action is refused as the rows say
+  module _ (o : OutboxState) (l : NoRow (has (finds_label action s)) → (told (finds_label action s)).no_label ≡ (has (finds_label action s)).no_label) (rom : own_rows.needs_rom action ≡ true → is_none host.management ≡ not (is_some s.management)) where
+    pub refuses_as : refusal_at past i action ≡ (act_step action o s).0
     unfolding refusal
-    refuses_own = rows_with found (has found).no_rom (has found).no_label refl (λ n. refl) ∙ sym (refusal_law.first action o s)
-
-    -- by the terms, where they are tied to what it has
-    module _ (l : NoRow (has found) → (told found).no_label ≡ (has found).no_label) (rom : own_rows.needs_rom action ≡ true → is_none host.management ≡ not (is_some s.management)) where
-      -- so an action is refused as the rows say
-      pub refuses_as : refusal_at past i action ≡ (act_step action o s).0
-      unfolding refusal
-      refuses_as =
-          rows_with found (told found).no_rom (told found).no_label (ap (λ b. b && is_none host.management) (needs_same action) ∙ same_where (own_rows.needs_rom action) _ _ rom) l
-          ∙ sym (refusal_law.first action o s)
-
--- what needs no ROM has no row of it
-pub none_needed : (past : List Moment) (i : ℕ) (host : Host) (action : Action) → own_rows.needs_rom action ≡ false → (refusals past i action host).no_rom ≡ false
-none_needed past i host action e = ap (λ b. b && is_none host.management) (needs_same action ∙ e)
+    refuses_as = told_as (finds_label action s) l rom ∙ sym (refusal_law.first action o s)

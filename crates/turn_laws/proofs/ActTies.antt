@@ -1,5 +1,5 @@
 -- At a place of a run the terms of an initiator that its actions are judged by are tied to what it has.
-use Rattle.std.proofs.Common.{arith, ◌≡◌, ◌∙◌, refl, sym, ap, subst, ℕ, suc, ◌+◌, ◌<◌, is_none, is_some, not, unwrap_or, true, List, Option, Some, length}
+use Rattle.std.proofs.Common.{arith, ◌≡◌, ◌∙◌, refl, sym, ap, subst, ℕ, suc, ◌+◌, ◌<◌, is_none, is_some, not, unwrap_or, true, List, Option, Some, None, length}
 use Rattle.std.proofs.lemmas.Bool.Decides.{nat_tests}
 use Rattle.bus_transactions.specs.Fitting.{FitsRequest}
 use Rattle.bus_transactions.specs.Reached.{IsAwaited}
@@ -7,27 +7,26 @@ use Rattle.bus_transactions.proofs.Reaches.{goes_on}
 use Rattle.orb_list.specs.declared.list.PresentList.{PresentList}
 use Rattle.rbc_disk.specs.Disk.{Disk}
 use Rattle.sbp_initiator.proofs.Histories.Effects.{HasMarks}
-use Rattle.sbp_initiator.specs.Acting.{act_step, asked_for, demand_of, facts_with, manage_demand}
-use Rattle.sbp_initiator.specs.Refusals.{needs_rom, rows_of}
+use Rattle.sbp_initiator.specs.Acting.{act_step, asked_for, demand_of, facts_with}
+use Rattle.sbp_initiator.specs.Refusals.{rows_of}
 use Rattle.sbp_initiator.specs.Refusing.{finds_label}
 use Rattle.sbp_initiator.specs.States.{is_list, wanted_body}
 use Rattle.sbp_initiator.specs.declared.purpose.Demand.{Demand}
 use Rattle.sbp_initiator.specs.declared.state.InitiatorState.{InitiatorState}
 use Rattle.sbp_journal.specs.Outgoings.{OutboxState}
-use Rattle.sbp_journal.specs.Rows.{Refusals, refusal_of}
+use Rattle.sbp_journal.specs.Rows.{Refusals}
 use Rattle.sbp_journal.specs.Run.{Moment}
 use Rattle.sbp_journal.specs.Transactions.{Kind, Transaction}
 use Rattle.sbp_journal.specs.Wire.{Terms, terms, waits}
 use Rattle.sbp_journal.specs.declared.event.Action.{Action}
 use Rattle.sbp_laws.specs.Actions.{action_body, refusal_at, refusals}
-use Rattle.sbp_laws.specs.Hosts.{host_at, is_stuck, operation_of}
+use Rattle.sbp_laws.specs.Hosts.{host_at, is_stuck}
 use Rattle.sbp_laws.specs.Lists.{slot_at}
 use Rattle.sbp_laws.specs.Operations.{management_offset}
 use Rattle.sbp_laws.specs.Packets.{label_for, request_bytes}
 use Rattle.sbp_laws.specs.Packets as packets
 use Rattle.sbp_world.specs.Hosts.Core.{Core}
 use Rattle.sbp_world.specs.Hosts.PointerRuns.{PointsByWrites}
-use Rattle.sbp_world.specs.Pointers.Moments.{manages}
 use Rattle.sbp_world.specs.Worlds.{Scene, WorldState, initiator_at}
 use Rattle.sbp_world.proofs.Agents.Management.Holding.{past_terms}
 use Rattle.sbp_world.proofs.Agents.Management.Still.{hist}
@@ -41,10 +40,13 @@ use Rattle.sbp_world.proofs.Hosts.Shows.{shown_now}
 use Rattle.sbp_world.proofs.Pointers.Guarded.{Guarded}
 use Rattle.sbp_world.proofs.Wire.Holding.{TargetOf}
 use Rattle.sbp_world.proofs.Wire.Starts.{laws_of}
-use Rattle.turn_laws.specs.ActRequests.{managed_body}
-use Rattle.turn_laws.proofs.ActBodies.{bodies, body_in, label_row, managed_is}
-use Rattle.turn_laws.proofs.ActRows.{Tied, refuses_as, refuses_own}
+use Rattle.turn_laws.proofs.ActBodies.{bodies, body_in, label_row}
+use Rattle.turn_laws.proofs.ActRows.{Tied, refuses_as}
 use Rattle.turn_laws.proofs.HostMarks.{Marks}
+use Rattle.turn_laws.proofs.HostRoms.{Rom as HostRom}
+use Rattle.turn_laws.proofs.RomEnds.{known_at}
+use Rattle.turn_laws.proofs.RomKnown.{KnownOf}
+use Rattle.turn_laws.proofs.RomSmall.{IsSmallDistance}
 use Rattle.turn_laws.proofs.Places.{Place}
 use Rattle.turn_laws.proofs.ReadsUnderWay.{AreTimely}
 
@@ -102,10 +104,10 @@ module _ (units ready : ℕ) (start : List Disk) (past : List Moment) (s : Scene
       sym (some_label (asked_for demand old).0) ∙ ap (λ (o : Option ℕ). is_some o) (own_label w here.holds.sound i inside body (fits action demand e) demand.purpose)
       ∙ sym (found_by t (suc i) 0 body (label_for t (suc i) 0 (request_bytes t (suc i) 0 body)) refl)
 
-  abbrev pub Rom : Type 0
+  abbrev Rom : Type 0
   Rom = is_none (host_at ms i).management ≡ not (is_some old.management)
 
-  abbrev pub Offset : Type 0
+  abbrev Offset : Type 0
   Offset = management_offset (host_at ms i).management ≡ unwrap_or old.management 0
 
   dead : AreTimely ms → (host_at ms i).marked_dead ≡ old.marks.is_dead
@@ -114,28 +116,37 @@ module _ (units ready : ℕ) (start : List Disk) (past : List Moment) (s : Scene
   tied : AreTimely ms → Tied ms i old
   tied timely = record { host = here.hosts i inside; core = here.cores i inside; points = writes.points_while; dead = dead timely }
 
-  module _ (timely : AreTimely ms) (action : Action) (o : OutboxState) where
-    abbrev pub told : Refusals
-    told = refusals ms i action (host_at ms i)
+  module _ (k : KnownOf ms i old) where
+    management_is : known_at (host_at ms i).management ≡ old.management
+    management_is = ap (λ (r : HostRom). r.management) k.is
 
-    abbrev pub has : Refusals
-    has = rows_of action (facts_with (finds_label action old) old action)
+    rom : Rom
+    rom = by (host_at ms i).management ∙ ap (λ m. not (is_some m)) management_is
+      where
+        by : (m : Option ℕ) → is_none m ≡ not (is_some (known_at m))
+        by None = refl
+        by (Some distance) = refl
 
-    pub refused_by_own : refusal_of (record told { no_rom = has.no_rom; no_label = has.no_label }) ≡ (act_step action o old).0
-    refused_by_own = refuses_own ms i old (tied timely) action o
+    offset : Offset
+    offset = by (host_at ms i).management k.small ∙ ap (λ m. unwrap_or m 0) management_is
+      where
+        by : (m : Option ℕ) → IsSmallDistance m → management_offset m ≡ unwrap_or (known_at m) 0
+        by None h = refl
+        by (Some distance) h = omega (arith, h)
 
-    module _ (rom : needs_rom action ≡ true → Rom) (offset : manages (operation_of action) ≡ true → Offset) where
+    module _ (action : Action) (o : OutboxState) where
+      abbrev pub told : Refusals
+      told = refusals ms i action (host_at ms i)
+
+      abbrev pub has : Refusals
+      has = rows_of action (facts_with (finds_label action old) old action)
+
       labelled : NoRow has → told.no_label ≡ has.no_label
-      labelled = label_row ms i old (here.hosts i inside) (here.cores i inside) (here.holding i inside) marks first action (finds_label action old) offset (finds action)
+      labelled = label_row ms i old (here.hosts i inside) (here.cores i inside) (here.holding i inside) marks first action (finds_label action old) (λ f. offset) (finds action)
 
-      pub refused_by_rows : refusal_at ms i action ≡ (act_step action o old).0
-      refused_by_rows = refuses_as ms i old (tied timely) action o labelled rom
+      pub refused_by_rows : AreTimely ms → refusal_at ms i action ≡ (act_step action o old).0
+      refused_by_rows timely = refuses_as ms i old (tied timely) action o labelled (λ f. rom)
 
-  -- and where no row holds it asks for what the terms say
-  pub asked_bodies : (action : Action) → (manages (operation_of action) ≡ true → Offset) → NoRow (rows_of action (facts_with (finds_label action old) old action)) → action_body action ms i (host_at ms i) ≡ body_in (demand_of action old)
-  asked_bodies action offset none =
-      bodies ms i old (here.hosts i inside) (here.cores i inside) (here.holding i inside) marks first action (finds_label action old) offset none
-
-  -- one with a management ORB writes its address somewhere
-  pub managed_bodies : Some (managed_body (unwrap_or old.management 0) ms i) ≡ body_in (Some (manage_demand old))
-  managed_bodies = managed_is ms i old (here.hosts i inside) (here.cores i inside) (here.holding i inside) marks first (unwrap_or old.management 0) refl
+    -- and where no row holds it asks for what the terms say
+    pub asked_bodies : (action : Action) → NoRow (rows_of action (facts_with (finds_label action old) old action)) → action_body action ms i (host_at ms i) ≡ body_in (demand_of action old)
+    asked_bodies action none = bodies ms i old (here.hosts i inside) (here.cores i inside) (here.holding i inside) marks first action (finds_label action old) (λ f. offset) none

@@ -1,42 +1,36 @@
 -- What an action of an initiator brings, in each turn of every run that begins with its line.
-use Rattle.std.proofs.Common.{◌≡◌, ◌∙◌, refl, sym, ap, subst, ℕ, ◌+◌, ◌<◌, ◌&&◌, ◌||◌, is_some, not, Bool, true, false, List, length, Option, Some, None}
+use Rattle.std.proofs.Common.{◌≡◌, ◌∙◌, refl, sym, ap, subst, ℕ, ◌+◌, ◌<◌, false, List, length, Option, Some, None}
 use Rattle.rbc_disk.specs.Disk.{Disk}
-use Rattle.sbp_initiator.specs.Acting.{act_step, facts_with}
+use Rattle.sbp_initiator.specs.Acting.{act_step}
 use Rattle.sbp_initiator.specs.Effects.{Turn as Called}
 use Rattle.sbp_initiator.specs.Histories.Ends.{own}
-use Rattle.sbp_initiator.specs.Refusals.{needs_rom, rows_of}
-use Rattle.sbp_initiator.specs.Refusing.{finds_label}
 use Rattle.sbp_initiator.specs.declared.state.InitiatorState.{InitiatorState}
 use Rattle.sbp_journal.specs.Outgoings.{OutboxState, empty_outbox}
-use Rattle.sbp_journal.specs.Rows.{Refusals}
 use Rattle.sbp_journal.specs.Run.{Moment, asked}
 use Rattle.sbp_journal.specs.declared.event.Action.{Action}
-use Rattle.sbp_journal.specs.declared.event.Action.TheVariants as actions
 use Rattle.sbp_journal.specs.declared.event.Event.{Event}
 use Rattle.sbp_journal.specs.declared.event.Event.TheVariants as events
 use Rattle.sbp_journal.specs.declared.note.Note.{Note}
 use Rattle.sbp_laws.specs.ActionLaw.{Acts, ActsOr}
-use Rattle.sbp_laws.specs.Actions.{action_notes, refusal_at, refusals}
-use Rattle.sbp_laws.specs.Hosts.{host_at, operation_of}
+use Rattle.sbp_laws.specs.Actions.{action_notes, refusal_at}
 use Rattle.sbp_laws.specs.LineLaw.{refused}
-use Rattle.sbp_laws.specs.Turns.{Where, turn}
+use Rattle.sbp_laws.specs.Turns.{turn}
 use Rattle.sbp_world.specs.Hosts.Fits.{AreRows}
 use Rattle.sbp_world.specs.Lines.{weight_in}
-use Rattle.sbp_world.specs.Pointers.Moments.{manages}
 use Rattle.sbp_world.specs.Worlds.{Scene, WorldState, initiator_at}
 use Rattle.sbp_world.proofs.Agents.Management.Still.{hist}
 use Rattle.sbp_world.proofs.Common.{untrue}
 use Rattle.sbp_world.proofs.Hosts.Telling.{action_law}
-use Rattle.turn_laws.specs.Actions.{ActionsLaw, ActsBut, ActsByRows, asks_more}
+use Rattle.turn_laws.specs.Actions.{ActionsLaw, ActsByRows}
 use Rattle.turn_laws.proofs.ActNotes.{acts_as_told}
-use Rattle.turn_laws.proofs.ActRows.{none_needed}
-use Rattle.turn_laws.proofs.ActTies.{refused_by_own, refused_by_rows}
-use Rattle.turn_laws.proofs.Calls.{Brings, Cases, calls, injects, is_act, loses, refuses, refuses_action, resets, sets_key}
+use Rattle.turn_laws.proofs.ActTies.{refused_by_rows}
+use Rattle.turn_laws.proofs.Calls.{Brings, calls, injects, is_act, loses, refuses, refuses_action, resets, sets_key}
 use Rattle.turn_laws.proofs.Handed.{handed}
+use Rattle.turn_laws.proofs.KnownRuns.{Known, KnowingCases, of_every_known}
 use Rattle.turn_laws.proofs.Pass.{call_no_act}
 use Rattle.turn_laws.proofs.Places.{Place}
 use Rattle.turn_laws.proofs.ReadsUnderWay.{AreTimely}
-use Rattle.turn_laws.proofs.Timely.{Timely, of_timely_turns}
+use Rattle.turn_laws.proofs.Timely.{Timely, untimed}
 
 by_refusal : (number : Option ℕ) (past : List Moment) (line i : ℕ) (action : Action) (told : List Note) (refusal : ℕ) → number ≡ Some refusal → told ≡ refused line refusal → ActsOr number past line i action told
 by_refusal (Some number) past line i action told refusal f g = g ∙ ap (refused line) (sym (let same : number ≡ refusal = cc in same))
@@ -46,68 +40,16 @@ by_notes : (number : Option ℕ) (past : List Moment) (line i : ℕ) (action : A
 by_notes None past line i action told e h = h
 by_notes (Some number) past line i action told e h = absurd (let no : Some number ≡ None = e in cc)
 
--- where an action asks for none of these
-pub none_asked : (action : Action) → asks_more action ≡ false → ((needs_rom action ≡ false) × (manages (operation_of action) ≡ false))
-none_asked action e = split (needs_rom action) (manages (operation_of action)) e
-  where
-    split : (a b : Bool) → (a || b) ≡ false → ((a ≡ false) × (b ≡ false))
-    split false false e = (refl, refl)
-    split false true e = untrue (sym e)
-    split true b e = untrue (sym e)
-
--- what needs the ROM has a management ORB
-rom_manages : (action : Action) → manages (operation_of action) ≡ false → needs_rom action ≡ false
-rom_manages (actions.Login unit reconnect exclusive password) e = untrue (sym e)
-rom_manages (actions.Query unit) e = untrue (sym e)
-rom_manages _ e = refl
-
-not_asked : {A : Type 0} (b : Bool) → b ≡ false → b ≡ true → A
-not_asked b e f = untrue (sym e ∙ f)
-
 module _ (units ready : ℕ) (start : List Disk) where
-  module _ (past : List Moment) (s : Scene) (here : Place units ready start past s) (i : ℕ) (inside : i < length s.world.initiators) (action : Action) (timely : AreTimely (hist past s.world)) where
+  module _ (past : List Moment) (s : Scene) (here : Place units ready start past s) (k : Known start (hist past s.world) s) (timely : AreTimely (hist past s.world)) (i : ℕ) (inside : i < length s.world.initiators) (action : Action) where
     abbrev ms : List Moment
     ms = hist past s.world
 
     abbrev old : InitiatorState
     old = initiator_at s.world i
 
-    pub number_is : asks_more action ≡ false → refusal_at ms i action ≡ (act_step action empty_outbox old).0
-    number_is e =
-        let n = none_asked action e in
-        refused_by_rows units ready start past s here i inside timely action empty_outbox (λ f. not_asked (needs_rom action) n.0 f) (λ f. not_asked (manages (operation_of action)) n.1 f)
-
-    abbrev rows : Refusals
-    rows = rows_of action (facts_with (finds_label action old) old action)
-
-    -- so it is by what holds of a number that its call has
-    module _ (line : ℕ) (told : List Note) (so : (number : Option ℕ) → number ≡ (act_step action empty_outbox old).0 → ActsOr number ms line i action told) where
-      where_known : Where (not (asks_more action)) (ActsOr (refusal_at ms i action) ms line i action told)
-      where_known = by (asks_more action) refl
-        where
-          by : (b : Bool) → asks_more action ≡ b → Where (not b) (ActsOr (refusal_at ms i action) ms line i action told)
-          by true e = tt
-          by false e = so (refusal_at ms i action) (number_is e)
-
-      but_those : ActsBut ms line i action told
-      but_those = by (manages (operation_of action)) refl
-        where
-          by : (b : Bool) → manages (operation_of action) ≡ b → ActsBut ms line i action told
-          by true e = record {
-            no_rom = rows.no_rom;
-            no_label = rows.no_label;
-            by_rows = so _ (refused_by_own units ready start past s here i inside timely action empty_outbox);
-            rom_as = λ f. ap (λ b. b && not (is_some old.management)) f;
-            label_as = λ f. untrue (sym f ∙ e);
-          }
-          by false e = record {
-            no_rom = (refusals ms i action (host_at ms i)).no_rom;
-            no_label = (refusals ms i action (host_at ms i)).no_label;
-            by_rows = so _
-                (refused_by_rows units ready start past s here i inside timely action empty_outbox (λ f. not_asked (needs_rom action) (rom_manages action e) f) (λ f. not_asked (manages (operation_of action)) e f));
-            rom_as = λ f. none_needed ms i (host_at ms i) action f;
-            label_as = λ f. refl;
-          }
+    pub number_is : refusal_at ms i action ≡ (act_step action empty_outbox old).0
+    number_is = refused_by_rows units ready start past s here i inside (k.1.each i inside) action empty_outbox timely
 
     notes_here : (act_step action empty_outbox old).0 ≡ None → (act_step action empty_outbox old).1.0.sides ≡ own (action_notes action ms i)
     notes_here e =
@@ -120,45 +62,39 @@ module _ (units ready : ℕ) (start : List Disk) where
 
     pub does_so : (line weight : ℕ) (outbox : OutboxState) (state : InitiatorState) (w : WorldState) → act_step action empty_outbox old ≡ (None, (outbox, state)) → ActsByRows (turn ms (asked line (events.Act i action)) (handed (i + 1) weight outbox w))
     does_so line weight outbox state w e =
-        let told = handed (i + 1) weight outbox w in
-        let acts = acts_as_told ms i (i + 1) weight action outbox w (sides_are outbox state e) in
-        let so : (number : Option ℕ) → number ≡ (act_step action empty_outbox old).0 → ActsOr number ms line i action told =
-        λ number n. by_notes number ms line i action told (n ∙ ap (λ (x : Option ℕ × Called). x.0) e) acts in
-        (but_those line told so, where_known line told so)
+        by_notes (refusal_at ms i action) ms line i action (handed (i + 1) weight outbox w) (number_is ∙ ap (λ (x : Option ℕ × Called). x.0) e) (acts_as_told ms i (i + 1) weight action outbox w (sides_are outbox state e))
 
     pub refuses_so : (line number : ℕ) → (act_step action empty_outbox old).0 ≡ Some number → ActsByRows (turn ms (asked line (events.Act i action)) (refused line number))
-    refuses_so line number e =
-        let so : (x : Option ℕ) → x ≡ (act_step action empty_outbox old).0 → ActsOr x ms line i action (refused line number) = λ x n. by_refusal x ms line i action (refused line number) number (n ∙ e) refl in
-        (but_those line (refused line number) so, where_known line (refused line number) so)
+    refuses_so line number e = by_refusal (refusal_at ms i action) ms line i action (refused line number) number (number_is ∙ e) refl
 
   no_action : (past : List Moment) (line : ℕ) (event : Event) (rest : List Note) → is_act event ≡ false → ActsByRows (turn past (asked line event) rest)
   no_action past line (events.Act i action) rest e = untrue (sym e)
   no_action past line _ rest e = tt
 
-  line_acts : (past : List Moment) (s : Scene) (line : ℕ) (event : Event) (rest : List Note) → Place units ready start past s → AreTimely (hist past s.world) → Brings line s event rest
+  line_acts : (past : List Moment) (s : Scene) (line : ℕ) (event : Event) (rest : List Note) → Place units ready start past s → Known start (hist past s.world) s → AreTimely (hist past s.world) → Brings line s event rest
       → ActsByRows (turn (hist past s.world) (asked line event) rest)
-  line_acts past s line event rest here timely (calls is_event c) = no_action (hist past s.world) line event rest (call_no_act event c)
-  line_acts past s line event rest here timely (refuses is_event r) = no_action (hist past s.world) line event rest r.no_act
-  line_acts past s line event rest here timely (refuses_action i action number e) = refuses_so past s here i e.inside action timely line number e.is
-  line_acts past s line event rest here timely (resets physical generation e) = tt
-  line_acts past s line event rest here timely (loses serial) = tt
-  line_acts past s line event rest here timely (sets_key unit key) = tt
-  line_acts past s line event rest here timely (injects i bytes serial generation from to) = tt
+  line_acts past s line event rest here k timely (calls is_event c) = no_action (hist past s.world) line event rest (call_no_act event c)
+  line_acts past s line event rest here k timely (refuses is_event r) = no_action (hist past s.world) line event rest r.no_act
+  line_acts past s line event rest here k timely (refuses_action i action number e) = refuses_so past s here k timely i e.inside action line number e.is
+  line_acts past s line event rest here k timely (resets physical generation e) = tt
+  line_acts past s line event rest here k timely (loses serial) = tt
+  line_acts past s line event rest here k timely (sets_key unit key) = tt
+  line_acts past s line event rest here k timely (injects i bytes serial generation from to) = tt
 
-  action_cases : Cases units ready start (Timely ActsByRows)
+  action_cases : KnowingCases units ready start (Timely ActsByRows)
   action_cases = record {
-    heard = λ past s serial again run one found zero_to may others here behind judged timely. tt;
-    heard_own = λ past s serial again one i found to_is inside own here behind judged timely. tt;
-    late = λ past s serial request done t found node_is e others here behind judged timely. tt;
-    late_own = λ past s serial request i outbox state found node_is inside e own here behind judged timely. tt;
-    sees = λ past s others here behind judged timely. tt;
-    sees_own = λ past s i inside own here behind judged timely. tt;
-    ticks = λ past s others here behind judged timely. tt;
-    ends = λ past s done here behind timely. tt;
-    acts = λ past s line i action outbox state inside e own here behind timely. does_so past s here i inside action timely line (weight_in action) outbox state _ e;
-    lines = λ past s line event rest behind brings fresh here there timely. line_acts past s line event rest here timely brings;
+    heard = λ past s serial again run one found zero_to may others here behind judged k timely. tt;
+    heard_own = λ past s serial again one i found to_is inside own here behind judged k timely. tt;
+    late = λ past s serial request done t found node_is e others here behind judged k timely. tt;
+    late_own = λ past s serial request i outbox state found node_is inside e own here behind judged k timely. tt;
+    sees = λ past s others here behind judged k timely. tt;
+    sees_own = λ past s i inside own here behind judged k timely. tt;
+    ticks = λ past s others here behind judged k timely. tt;
+    ends = λ past s done here behind k timely. tt;
+    acts = λ past s line i action outbox state inside e own here behind k timely. does_so past s here k timely i inside action line (weight_in action) outbox state _ e;
+    lines = λ past s line event rest behind brings fresh here there k timely. line_acts past s line event rest here k timely brings;
     begins = λ line initiators is_ready timely. tt;
   }
 
 pub actions_law : ActionsLaw
-actions_law = of_timely_turns (λ start. ActsByRows) (λ units ready start has. action_cases units ready start)
+actions_law = untimed (λ start. ActsByRows) (of_every_known (λ start. Timely ActsByRows) (λ units ready start has. action_cases units ready start))

@@ -15,7 +15,7 @@ use Rattle.sbp_journal.specs.Transactions.{Kind, is_same_kind, locking, no_packe
 use Rattle.sbp_laws.specs.Packets.{access_in, access_in_bytes, answer_in, answer_of, spelled_by}
 use Rattle.sbp_world.specs.Lists.Contents.{AccessOf}
 use Rattle.turn_laws.proofs.FailingRows.{MayAnswer}
-use Rattle.turn_laws.proofs.MarkAnswers.{kind_same, no_response}
+use Rattle.turn_laws.proofs.OwnAnswers.{kind_is, no_response}
 use Rattle.sbp_world.proofs.Lists.WriteAnswers.{request_kind}
 use Rattle.sbp_world.proofs.Lists.SentOwnedParts.{answers_none}
 
@@ -48,10 +48,10 @@ block_if true rcode bytes = tt
 block_if false rcode bytes = tt
 
 answer_kind : (p : Packet) (label : ℕ) (kind : Kind) → part_in p ≡ response label kind → AnswerOf kind (answer_of p)
-answer_kind (write_response header rcode) label kind e = subst (λ k. AnswerOf k (answer_of (write_response header rcode))) (kind_same _ label writing kind e) (done_if (rcode == 0) rcode)
-answer_kind (read_quadlet_response header rcode value) label kind e = subst (λ k. AnswerOf k (answer_of (read_quadlet_response header rcode value))) (kind_same _ label reading_quadlet kind e) (quadlet_if (rcode == 0) rcode _)
-answer_kind (read_block_response header rcode payload) label kind e = subst (λ k. AnswerOf k (answer_of (read_block_response header rcode payload))) (kind_same _ label reading_block kind e) (block_if (rcode == 0) rcode payload)
-answer_kind (lock_response header rcode extended payload) label kind e = subst (λ k. AnswerOf k (answer_of (lock_response header rcode extended payload))) (kind_same _ label locking kind e) tt
+answer_kind (write_response header rcode) label kind e = subst (λ k. AnswerOf k (answer_of (write_response header rcode))) (kind_is _ label writing kind e) (done_if (rcode == 0) rcode)
+answer_kind (read_quadlet_response header rcode value) label kind e = subst (λ k. AnswerOf k (answer_of (read_quadlet_response header rcode value))) (kind_is _ label reading_quadlet kind e) (quadlet_if (rcode == 0) rcode _)
+answer_kind (read_block_response header rcode payload) label kind e = subst (λ k. AnswerOf k (answer_of (read_block_response header rcode payload))) (kind_is _ label reading_block kind e) (block_if (rcode == 0) rcode payload)
+answer_kind (lock_response header rcode extended payload) label kind e = subst (λ k. AnswerOf k (answer_of (lock_response header rcode extended payload))) (kind_is _ label locking kind e) tt
 answer_kind (write_quadlet header offset value) label kind e = no_response _ label _ kind e
 answer_kind (write_block header offset payload) label kind e = no_response _ label _ kind e
 answer_kind (read_quadlet header offset) label kind e = no_response _ label _ kind e

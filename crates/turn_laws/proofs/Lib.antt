@@ -151,6 +151,7 @@ pub mod PushNotes
 pub mod Pushes
 pub mod EveryPlace
 pub mod OwnEnds
+pub mod OwnAnswers
 pub mod OwnStates
 pub mod OwnNotes
 pub mod OwnFacts
@@ -175,6 +176,7 @@ pub mod AnswerRuns
 pub mod BehindTurns
 pub mod TargetWaits
 pub mod ActNotes
+pub mod ActPackets
 pub mod ActRows
 pub mod ActBodies
 pub mod ActTies
@@ -184,8 +186,10 @@ pub mod ActEntries
 pub mod Together
 pub mod RunPlans
 pub mod RunEnds
+pub mod HostRoms
 pub mod RomEnds
 pub mod RomStays
+pub mod RomReads
 pub mod RomTerms
 pub mod RomLabels
 pub mod RomCalls
@@ -194,6 +198,10 @@ pub mod RomOthers
 pub mod RomCarried
 pub mod RomPlaces
 pub mod RomRuns
+pub mod RomSmall
+pub mod RomKnown
+pub mod KnownCarried
+pub mod KnownRuns
 pub mod SentBodies
 pub mod SentOwn
 pub mod TurnSends

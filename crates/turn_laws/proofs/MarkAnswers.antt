@@ -1,21 +1,16 @@
 -- What a response that an initiator got says of its present list: whether its ORB_POINTER write was answered, and whether it is dead, is the same by the terms and by the transaction that the response closes.
-use Rattle.std.proofs.Common.{◌≡◌, inl, inr, ◌⊎◌, refl, sym, ◌∙◌, ap, subst, ℕ, suc, ◌<◌, ◌^◌, ◌==◌, ◌&&◌, ◌||◌, ◌++◌, Bool, true, false, cond, List, [], ◌∷◌, Option, Some, None, Ok}
+use Rattle.std.proofs.Common.{◌≡◌, inl, inr, ◌⊎◌, refl, sym, ◌∙◌, ap, subst, ℕ, suc, ◌==◌, ◌&&◌, ◌||◌, Bool, true, false, cond, List, [], ◌∷◌, Option, Some, None, Ok}
 use Rattle.std.proofs.lemmas.Option.{same_Some}
-use Rattle.async_packet.specs.Fields.{value_of}
 use Rattle.async_packet.specs.Labels.{LabelParts}
-use Rattle.async_packet.specs.Packet.{Packet, header_in, lock, lock_response, read_block, read_block_response, read_quadlet, read_quadlet_response, write_block, write_quadlet, write_response}
+use Rattle.async_packet.specs.Packet.{Packet, header_in}
 use Rattle.async_packet.specs.Reading.{reading}
-use Rattle.async_packet.proofs.Spelled.{reads_spelling}
 use Rattle.bus_transactions.specs.Fitting.{AreBytes}
 use Rattle.bus_transactions.specs.Rows.{kind_as, shape, shape_of}
 use Rattle.bus_transactions.specs.Wire.{transaction}
 use Rattle.bus_transactions.proofs.PacketParts.{part_read}
-use Rattle.byteorder.specs.Endian.{big_bytes, big_number}
-use Rattle.byteorder.specs.Numbers.{big_number-reads_back}
 use Rattle.label_table.specs.Layer.{Finding, Layer, judging_step, of_again, of_generation, of_grammar, of_label, of_request, of_response}
 use Rattle.label_table.specs.Peers.{purpose_for, state_for}
 use Rattle.orb_layout.specs.Replies.{Answer, Done, Expired, NoLabel, Payload, Refused}
-use Rattle.orb_layout.proofs.Spelled.{quad_small}
 use Rattle.orb_list.specs.declared.list.PresentList.{PresentList}
 use Rattle.sbp_base.specs.Quadlets.{quad}
 use Rattle.sbp_bus.specs.Packets.{judged_note}
@@ -29,7 +24,7 @@ use Rattle.sbp_initiator.specs.declared.purpose.Purpose.TheVariants as purposes
 use Rattle.sbp_initiator.specs.declared.state.InitiatorState.{InitiatorState}
 use Rattle.sbp_journal.specs.Outgoings.{empty_outbox}
 use Rattle.sbp_journal.specs.Run.{Moment, said}
-use Rattle.sbp_journal.specs.Transactions.{Kind, Part, Sending, Transaction, between, is_same_kind, locking, no_packet, part_in, part_of, reading_block, reading_quadlet, request, response, writing}
+use Rattle.sbp_journal.specs.Transactions.{Kind, Part, Sending, Transaction, between, is_same_kind, no_packet, part_in, part_of, request, response, writing}
 use Rattle.sbp_journal.specs.Wire.{Terms, terms, waits}
 use Rattle.sbp_journal.specs.declared.cause.Judged.TheVariants as judgements
 use Rattle.sbp_journal.specs.declared.note.Note.TheVariants as notes
@@ -51,6 +46,7 @@ use Rattle.sbp_world.proofs.Wire.Kept.{and_false}
 use Rattle.sbp_world.specs.Hosts.Rows.{present_in}
 use Rattle.turn_laws.proofs.HostMarks.{dead_at, dead_by, is_done, points_at, points_by}
 use Rattle.turn_laws.proofs.HostReads.{Reads, is_gone}
+use Rattle.turn_laws.proofs.OwnAnswers.{IsEndOf, IsRead, gives, lapses, of_write, packet_ends, quad_read, read_small, refuses, write_answer}
 use Rattle.turn_laws.proofs.OwnCalls.{lives_of}
 use Rattle.turn_laws.proofs.ReadPairs.{AreZipped, zipped_map}
 use Rattle.turn_laws.proofs.ReadsUnderWay.{ClosedFor, IsPair, WaitsAt, ended_by, got_off, got_on, judge_goes, one_transaction, waits_now}
@@ -62,59 +58,14 @@ abbrev is_complete : Ending → Bool
 is_complete (endings.Complete value) = true
 is_complete ending = false
 
-pub kind_same : (n l : ℕ) (k m : Kind) → response n k ≡ response l m → k ≡ m
-kind_same n l k m e = cc
-
-pub no_response : {A : Type 0} (n l : ℕ) (k m : Kind) → request n k ≡ response l m → A
-no_response n l k m e = absurd (let no : request n k ≡ response l m = e in cc)
-
-done_if : (b : Bool) (rcode : ℕ) → is_done (cond b Done (Refused rcode)) ≡ is_complete (cond b (endings.Complete 0) (endings.Refused rcode))
-done_if true rcode = refl
-done_if false rcode = refl
-
 -- of a write
-write_answer : (p : Packet) (n : ℕ) (k : Kind) → part_in p ≡ response n k → is_same_kind writing k ≡ true → is_done (answer_of p) ≡ is_complete (ending_of p)
-write_answer (write_response header rcode) n k e a = done_if (rcode == 0) rcode
-write_answer (read_quadlet_response header rcode value) n k e a = untrue (ap (is_same_kind writing) (kind_same header.label n reading_quadlet k e) ∙ a)
-write_answer (read_block_response header rcode payload) n k e a = untrue (ap (is_same_kind writing) (kind_same header.label n reading_block k e) ∙ a)
-write_answer (lock_response header rcode extended payload) n k e a = untrue (ap (is_same_kind writing) (kind_same header.label n locking k e) ∙ a)
-write_answer (write_quadlet header offset value) n k e a = no_response header.label n writing k e
-write_answer (write_block header offset payload) n k e a = no_response header.label n writing k e
-write_answer (read_quadlet header offset) n k e a = no_response header.label n reading_quadlet k e
-write_answer (read_block header offset asked) n k e a = no_response header.label n reading_block k e
-write_answer (lock header offset extended payload) n k e a = no_response header.label n locking k e
-
--- of a read of a quadlet
-data IsRead : Ending → Answer → Type 0 where
-  gives : (value : ℕ) (bytes : List ℕ) → quad bytes 0 ≡ value → IsRead (endings.Complete value) (Payload bytes)
-  refuses : (rcode : ℕ) → IsRead (endings.Refused rcode) (Refused rcode)
-
-quad_is : (value : ℕ) → value < 2 ^ 32 → quad (big_bytes 4 value) 0 ≡ value
-quad_is value small = ap (λ xs. big_number 4 xs) (sym (append_none (big_bytes 4 value))) ∙ big_number-reads_back 4 value [] small
+wrote : (ending : Ending) (answer : Answer) → IsEndOf writing ending answer → is_done answer ≡ is_complete ending
+wrote _ _ (of_write ending) = by ending
   where
-    append_none : (xs : List ℕ) → xs ++ [] ≡ xs
-    append_none [] = refl
-    append_none (x ∷ xs) = ap (λ ys. x ∷ ys) (append_none xs)
-
-read_if : (b : Bool) (rcode value : ℕ) → value < 2 ^ 32 → IsRead (cond b (endings.Complete value) (endings.Refused rcode)) (cond b (Payload (big_bytes 4 value)) (Refused rcode))
-read_if true rcode value small = gives value (big_bytes 4 value) (quad_is value small)
-read_if false rcode value small = refuses rcode
-
-value_small : (bytes : List ℕ) → AreBytes bytes → (value : ℕ) → value ≡ value_of bytes → value < 2 ^ 32
-unfolding value_of
-value_small bytes are value e = subst (λ n. n < 2 ^ 32) (sym e) (quad_small bytes 12 are)
-
-read_answer : (bytes : List ℕ) → AreBytes bytes → (p : Packet) → reading bytes ≡ Ok p → (n : ℕ) (k : Kind) → part_in p ≡ response n k → is_same_kind reading_quadlet k ≡ true → IsRead (ending_of p) (answer_of p)
-read_answer bytes are (read_quadlet_response header rcode value) r n k e a =
-    read_if (rcode == 0) rcode value (value_small bytes are value ((reads_spelling.packets bytes (read_quadlet_response header rcode value)).0 r).2)
-read_answer bytes are (write_response header rcode) r n k e a = untrue (ap (is_same_kind reading_quadlet) (kind_same header.label n writing k e) ∙ a)
-read_answer bytes are (read_block_response header rcode payload) r n k e a = untrue (ap (is_same_kind reading_quadlet) (kind_same header.label n reading_block k e) ∙ a)
-read_answer bytes are (lock_response header rcode extended payload) r n k e a = untrue (ap (is_same_kind reading_quadlet) (kind_same header.label n locking k e) ∙ a)
-read_answer bytes are (write_quadlet header offset value) r n k e a = no_response header.label n writing k e
-read_answer bytes are (write_block header offset payload) r n k e a = no_response header.label n writing k e
-read_answer bytes are (read_quadlet header offset) r n k e a = no_response header.label n reading_quadlet k e
-read_answer bytes are (read_block header offset asked) r n k e a = no_response header.label n reading_block k e
-read_answer bytes are (lock header offset extended payload) r n k e a = no_response header.label n locking k e
+    by : (e : Ending) → is_done (write_answer e) ≡ is_complete e
+    by (endings.Complete value) = refl
+    by (endings.Refused rcode) = refl
+    by endings.Expired = refl
 
 -- ---- whether some reads under way say that the list is dead
 -- the read is that of the action, and then of this list
@@ -168,6 +119,7 @@ read_says _ _ (gives value bytes q) n present act list reads acts z there =
     says_tied bytes n (present_in present) act list reads acts z ∙ ap (λ b. b && (is_present list (present_in present) && (quad bytes 0 == 3))) there
     ∙ ap (λ b. b && (quad bytes 0 == 3)) (counts_same list present) ∙ ap (λ v. counts_for present list && (v == 3)) q
 read_says _ _ (refuses rcode) n present act list reads acts z there = refl
+read_says _ _ lapses n present act list reads acts z there = refl
 
 -- ---- the request that a packet answers
 record Answered (t : Terms) (q : Sending) (own : ℕ) : Type 0 where
@@ -236,7 +188,7 @@ pointed_if list (endings.Refused rcode) present e = refl
 pointed_if list endings.Expired present e = refl
 
 -- ---- at an initiator
-module _ (ready : Bool) (serial generation : ℕ) (bytes : List ℕ) (past : List Moment) (i : ℕ) (s : InitiatorState) (heard : IsHeard past i serial generation bytes) (shown : IsShown past i s.target s.layer) (after_it : IsShown (said (judged_note serial (receive_step generation bytes empty_outbox s).0) ∷ past) i s.target (judging_step s.layer generation bytes).1) (h : Guarded ready past i s) (fit : Fit past) (kinds : Kinds past i s.target s.layer) (listed : present_list past i ≡ present_in s.lists.slots.present) (got : (receive_step generation bytes empty_outbox s).0 ≡ judgements.Got) where
+module _ (ready : Bool) (serial generation : ℕ) (bytes : List ℕ) (past : List Moment) (i : ℕ) (s : InitiatorState) (heard : IsHeard past i serial generation bytes) (shown : IsShown past i s.target s.layer) (after_it : IsShown (said (judged_note serial (receive_step generation bytes empty_outbox s).0) ∷ past) i s.target (judging_step s.layer generation bytes).1) (h : Guarded ready past i s) (fit : Fit past) (kinds : Kinds past i s.target s.layer) (are : AreBytes heard.packet.bytes) (listed : present_list past i ≡ present_in s.lists.slots.present) (got : (receive_step generation bytes empty_outbox s).0 ≡ judgements.Got) where
   abbrev T : Terms
   T = terms past
 
@@ -330,6 +282,11 @@ module _ (ready : Bool) (serial generation : ℕ) (bytes : List ℕ) (past : Lis
   kind_is : (p : Packet) (number : ℕ) (purpose : Purpose) → is_plain purpose ≡ true → (c : IsClosed p number (Some purpose)) → c.kind ≡ kind_for purpose
   kind_is p number purpose plain c = (let w = kinds number purpose plain c.at in kinds_same c.kind (kind_for purpose) c.own w.serial (sym c.held ∙ w.held))
 
+  -- so it ends
+  closed_ends : (p : Packet) (number : ℕ) (purpose : Purpose) → is_plain purpose ≡ true → (c : IsClosed p number (Some purpose)) → IsEndOf (kind_for purpose) (ending_of p) (answer_of p)
+  closed_ends p number purpose plain c =
+      packet_ends p (read_small heard.packet.bytes are p c.read) c.label c.answer (kind_for purpose) c.part (ap (λ k. is_same_kind k c.answer) (sym (kind_is p number purpose plain c)) ∙ c.alike)
+
   -- ---- the write of ORB_POINTER
   -- where the one that is named is answered
   named_closed : (n : ℕ) → pointer past i ≡ Some n → answered_at T serial ≡ Some n → points_finding finding ≡ true
@@ -373,14 +330,13 @@ module _ (ready : Bool) (serial generation : ℕ) (bytes : List ℕ) (past : Lis
       let c = closing p label (Some (purposes.Pointer list)) f in
       let w = (h.pointed.points fit).waits_for label.number list c.at in
       let same : w.serial ≡ c.own = serial_is c.kind w.kind c.own w.serial (sym c.held ∙ w.held) in
-      let alike : is_same_kind writing c.answer ≡ true = ap (λ k. is_same_kind k c.answer) (sym (kind_is p label.number (purposes.Pointer list) refl c)) ∙ c.alike in
       let present : is_list s.lists.slots.present list ≡ true = (pointing_of h.pointed.cored).present (record { list = list; write = record { peer = s.target; number = label.number; serial = c.at.serial; kind = c.at.kind; state = c.at.state; is_for = c.at.is_for } }) in
       ap (λ found. points_by found answer (host_at past i)) c.answered
       ∙ ap (λ o. is_done answer && is_serial o c.own) (w.pointer_is ∙ ap Some same)
       ∙ ap (λ b. is_done answer && b) (itself c.own)
       ∙ and_true (is_done answer)
       ∙ ap (λ o. is_done (answer_in o)) c.packet
-      ∙ write_answer p c.label c.answer c.part alike
+      ∙ wrote (ending_of p) (answer_of p) (closed_ends p label.number (purposes.Pointer list) refl c)
       ∙ pointed_if list (ending_of p) s.lists.slots.present present
     where
       and_true : (b : Bool) → (b && true) ≡ b
@@ -412,7 +368,7 @@ module _ (ready : Bool) (serial generation : ℕ) (bytes : List ℕ) (past : Lis
   abbrev P : StateRead → ℕ → Type 0
   P one a = IsPair past i s one a
 
-  module _ (are : AreBytes heard.packet.bytes) (gone : (one : StateRead) (a : ℕ) → P one a → ended_by finding ≡ Some a → is_gone (answered_at T serial) one.serial ≡ true) (pairs : AreZipped P (Reads past i) s.states) where
+  module _ (gone : (one : StateRead) (a : ℕ) → P one a → ended_by finding ≡ Some a → is_gone (answered_at T serial) one.serial ≡ true) (pairs : AreZipped P (Reads past i) s.states) where
     -- a read that is answered is what was closed
     state_closed : (n : ℕ) → answered_at T serial ≡ Some n → (one : StateRead) (a : ℕ) (p : P one a) → (one.serial == n) ≡ true → ClosedFor finding (Some (purposes.State a p.list))
     state_closed n e one a p f =
@@ -435,11 +391,10 @@ module _ (ready : Bool) (serial generation : ℕ) (bytes : List ℕ) (past : Lis
     dead_so : (p : Packet) (label : LabelParts) (act : ℕ) (list : Option ℕ) → finding ≡ of_response p label (Some (purposes.State act list)) → dead_at past serial i ≡ finds_dead (purposes.State act list) (ending_of p) s.lists.slots.present
     dead_so p label act list f =
         let c = closing p label (Some (purposes.State act list)) f in
-        let alike : is_same_kind reading_quadlet c.answer ≡ true = ap (λ k. is_same_kind k c.answer) (sym (kind_is p label.number (purposes.State act list) refl c)) ∙ c.alike in
         ap (λ found. dead_by found answer (present_list past i) (host_at past i)) c.answered
         ∙ ap (λ o. says_dead (answer_in o) c.own (present_list past i) (Reads past i)) c.packet
         ∙ ap (λ o. says_dead (answer_of p) c.own o (Reads past i)) listed
-        ∙ read_says (ending_of p) (answer_of p) (read_answer heard.packet.bytes are p c.read c.label c.answer c.part alike) c.own s.lists.slots.present act list (Reads past i) s.states
+        ∙ read_says (ending_of p) (answer_of p) (quad_read (ending_of p) (answer_of p) (closed_ends p label.number (purposes.State act list) refl c)) c.own s.lists.slots.present act list (Reads past i) s.states
         (zipped_map P (IsTied c.own act list) (tied c) (Reads past i) s.states pairs)
         (lives_of ready i s h.pointed.cored.own.called s.target label.number act list c.at)
       where

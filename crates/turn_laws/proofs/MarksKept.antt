@@ -222,9 +222,9 @@ module _ (ready : Bool) (serial generation : ℕ) (bytes : List ℕ) (past : Lis
     judged_marks : (j : Judged) → judged ≡ j → marks_at (said (judged_note serial j) ∷ past) i ≡ says (marks_at past i)
     judged_marks judgements.Got e =
         got_marks serial heard.packet past i heard.sent heard.to_is
-        ∙ ap (λ b. marks (b || (host_at past i).pointed) ((host_at past i).marked_dead || dead_at past serial i)) (points_same ready serial generation bytes past i s heard shown after_it h fit kinds host.rows.fits.present e)
+        ∙ ap (λ b. marks (b || (host_at past i).pointed) ((host_at past i).marked_dead || dead_at past serial i)) (points_same ready serial generation bytes past i s heard shown after_it h fit kinds (are e) host.rows.fits.present e)
         ∙ ap (λ b. marks (finding_answers finding s || (host_at past i).pointed) ((host_at past i).marked_dead || b))
-        (dead_same ready serial generation bytes past i s heard shown after_it h fit kinds host.rows.fits.present e (are e) (λ one a p f. ap (λ j. is_gone (gone_by j past serial) one.serial) (sym e) ∙ gone one a p f) pairs)
+        (dead_same ready serial generation bytes past i s heard shown after_it h fit kinds (are e) host.rows.fits.present e (λ one a p f. ap (λ j. is_gone (gone_by j past serial) one.serial) (sym e) ∙ gone one a p f) pairs)
     judged_marks (judgements.Ignored cause) e =
         let none = none_said finding refl cause e in
         none_taken (marks_at past i) ∙ ap (λ b. marks (b || (host_at past i).pointed) ((host_at past i).marked_dead || false)) (sym none.0)

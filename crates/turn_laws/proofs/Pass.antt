@@ -471,6 +471,10 @@ module _ (K : List Disk → List Moment → Scene → Type 0) (L : List Disk →
   pub turns_after : (entries : List Entry) → length entries + 2 < 2 ^ 32 → AreEntries (beginning run) entries → AreLines run entries → EachTurn (L disks) (moments_behind line run entries)
   turns_after entries short every fit = let b = all_behind entries short every fit in subst (EachTurn (L disks)) b.is b.turns
 
+  -- what is carried, behind some of its lines
+  pub kept_after : (entries : List Entry) → length entries + 2 < 2 ^ 32 → AreEntries (beginning run) entries → AreLines run entries → K disks (moments_behind line run entries) (after (beginning run) entries)
+  kept_after entries short every fit = let b = all_behind entries short every fit in subst (λ ms. K disks ms (after (beginning run) entries)) b.is b.kept
+
   more_calls : (most : Option ℕ) → calls_nodes (more_deliveries most) ≡ true
   more_calls (Some count) = refl
   more_calls None = refl

@@ -185,7 +185,7 @@ module _ (ready : Bool) (i : ℕ) (s : InitiatorState) (own : IsCalled ready i s
   unfolding done_step
   rom_asked (None, l) step free e = some_none 10 e
   rom_asked (Some asked, l) step free e =
-      next_call s h (asked_as (Some asked, l) actions.Rom empty_outbox s).1 refl small s.layer valid c (λ n a x. (let k = h.runs n a x in none_is k.running (sym free ∙ k.is))) (wanted_body demand.wanted) asked (record { operation = operations.Rom; act = s.counts.acts; managed = None }) (omega arith) refl refl step refl
+      next_call s h (asked_as (Some asked, l) actions.Rom empty_outbox s).1 refl small s.layer valid c (λ n a x. (let k = h.runs n a x in none_is k.running (sym free ∙ k.is))) 0xffff_f000_0400 asked (record { operation = operations.Rom; act = s.counts.acts; managed = None }) (omega arith) refl refl step refl
 
   rom_judged : (refused : Option ℕ) → s.operation ≡ None → (judged_as refused actions.Rom empty_outbox s).0 ≡ None → CallRom s (judged_as refused actions.Rom empty_outbox s).1
   rom_judged (Some number) free e = some_none number e

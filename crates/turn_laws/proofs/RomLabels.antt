@@ -1,14 +1,16 @@
 -- The reads of a ROM that an initiator has under way: none where no `rom` operation is, and one under one label while one is. So it is behind each of its calls, and a call that goes on with a
 -- ROM, or begins one, sends the request of the label alone.
-use Rattle.std.proofs.Common.{◌≡◌, ◌∙◌, inl, inr, ◌⊎◌, refl, sym, ap, subst, ℕ, ◌+◌, ◌^◌, ◌<◌, is_some, Bool, true, false, List, [], ◌∷◌, Option, Some, None}
+use Rattle.std.proofs.Common.{arith, ◌≡◌, ◌∙◌, inl, inr, ◌⊎◌, refl, sym, ap, subst, ℕ, ◌+◌, ◌^◌, ◌<◌, is_some, Bool, true, false, List, [], ◌∷◌, length, Option, Some, None, Result, Ok, Err}
 use Rattle.async_packet.specs.Labels.{LabelParts}
-use Rattle.async_packet.specs.Packet.{Packet, header_in}
+use Rattle.async_packet.specs.Packet.{Packet, header_in, lock, lock_response, read_block, read_block_response, read_quadlet, read_quadlet_response, write_block, write_quadlet, write_response}
+use Rattle.async_packet.specs.Reading.{reading}
+use Rattle.async_packet.specs.declared.fault.PacketFault.{PacketFault}
 use Rattle.async_packet.specs.Canon.{canon}
 use Rattle.bus_transactions.specs.Fitting.{FitsRequest, IsLayer}
 use Rattle.bus_transactions.proofs.FitSteps.{goes, judges_same}
 use Rattle.bus_transactions.proofs.Fits.{request_fits}
-use Rattle.label_table.specs.Bodies.{Body, response_to}
-use Rattle.label_table.specs.History.{ended, over}
+use Rattle.label_table.specs.Bodies.{Body, quadlet_read, response_to}
+use Rattle.label_table.specs.History.{ended}
 use Rattle.label_table.specs.History as wire
 use Rattle.label_table.specs.Layer.{Finding, Layer, answering_step, asking_step, judging_step, of_again, of_generation, of_grammar, of_label, of_request, of_response}
 use Rattle.label_table.specs.declared.judgement.Asked.{Asked}
@@ -26,13 +28,17 @@ use Rattle.sbp_initiator.proofs.Histories.Effects.{Fits}
 use Rattle.sbp_initiator.proofs.Histories.Over.{sound}
 use Rattle.sbp_initiator.proofs.Histories.Purposes.{IfFor}
 use Rattle.sbp_initiator.proofs.Histories.Requests.{HasOrb, ignored_again, request_answers}
+use Rattle.sbp_journal.specs.Addresses.{Access, access_of}
 use Rattle.sbp_journal.specs.Outgoings.{empty_outbox}
+use Rattle.sbp_journal.specs.Transactions.{Kind, part_by, part_in, part_of, reading_quadlet, request}
 use Rattle.sbp_journal.specs.declared.cause.Cause.TheVariants as causes
 use Rattle.sbp_journal.specs.declared.operation.Operation.TheVariants as operations
 use Rattle.sbp_journal.specs.declared.outbox.Outgoing.{Outgoing}
+use Rattle.sbp_laws.specs.Packets.{access_in, access_in_bytes, spelled_by as read_by}
 use Rattle.sbp_world.specs.Hosts.Calling.{IsCalled}
 use Rattle.sbp_world.proofs.Common.{none_is, untrue}
 use Rattle.sbp_world.proofs.Hosts.Aimed.{Aims}
+use Rattle.sbp_world.proofs.Hosts.Answering.{asks_block, asks_quadlet, locks, writes_block}
 use Rattle.sbp_world.proofs.Hosts.Asked.{IfRequest, IsRequest, is_request}
 use Rattle.sbp_world.proofs.Hosts.Hosted.{hears_fit}
 use Rattle.sbp_world.proofs.Hosts.KnowHears.{IfFits}
@@ -43,8 +49,9 @@ use Rattle.sbp_world.proofs.Lists.ManageHears.{hears_left}
 use Rattle.sbp_world.proofs.Lists.ManageLeaves as leaves
 use Rattle.sbp_world.proofs.Wire.Deliver.{judging_stays}
 use Rattle.sbp_world.proofs.Pointers.Finds.{closed_over, closes_at}
+use Rattle.sbp_world.proofs.Pointers.Spelled.{spelled_by}
 use Rattle.turn_laws.proofs.ReadsUnderWay.{ClosedFor, judge_goes}
-use Rattle.turn_laws.proofs.RomEnds.{IsApart, RomGoes, ended_leaves, ends, goes_on, is_plain, rom_goes}
+use Rattle.turn_laws.proofs.RomEnds.{IsApart, RomGoes, ended_leaves, ends, goes_on, is_plain, read_on, rom_goes}
 use Rattle.turn_laws.proofs.RomStays.{request_stays}
 use Rattle.turn_laws.proofs.RomTerms.{IsReply, response_replies}
 
@@ -83,7 +90,35 @@ pub data IsQuiet (t : Turn) : Type 0 where
 -- It leaves the labels; or its one packet asks for a quadlet, under the one label of a ROM.
 pub data CallRom (s : InitiatorState) (t : Turn) : Type 0 where
   stays : ((n a : ℕ) → RomAt t.1.layer t.1.target n a → RomAt s.layer s.target n a) → t.1.layer.generation ≡ s.layer.generation → IfRom t.1 (λ r. s.operation ≡ Some r) → IfRom s (λ r. IsQuiet t) → OneRom t.1 → CallRom s t
-  reads : (asked : Asked) (a : ℕ) → t.0.packets ≡ outgoing s.target asked ∷ [] → IsRequest asked.label.number asked.bytes → RomAt t.1.layer t.1.target asked.label.number a → ((n b : ℕ) → RomAt t.1.layer t.1.target n b → n ≡ asked.label.number) → OneRom t.1 → CallRom s t
+  reads : (asked : Asked) (a : ℕ) → t.0.packets ≡ outgoing s.target asked ∷ [] → part_of asked.bytes ≡ request asked.label.number reading_quadlet → RomAt t.1.layer t.1.target asked.label.number a → ((n b : ℕ) → RomAt t.1.layer t.1.target n b → n ≡ asked.label.number) → OneRom t.1 → CallRom s t
+
+-- a request that asks for a quadlet is a read of one
+abbrev flag : (Access → Bool) → Option Access → Bool
+flag f None = true
+flag f (Some access) = f access
+
+-- what is no such access has another flag
+differs : {A : Type 0} (f : Access → Bool) (a : Option Access) (offset : ℕ) → flag f a ≡ true → f (asks_quadlet false offset) ≡ false → a ≡ Some (asks_quadlet false offset) → A
+differs f a offset x y e = untrue (sym y ∙ sym (ap (flag f) e) ∙ x)
+
+read_kind : (p : Packet) (number : ℕ) (kind : Kind) (offset : ℕ) → part_in p ≡ request number kind → access_of p ≡ Some (asks_quadlet false offset) → kind ≡ reading_quadlet
+read_kind (read_quadlet header o) number kind offset e f = (let same : request header.label reading_quadlet ≡ request number kind = e in cc)
+read_kind (write_quadlet header o value) number kind offset e f = differs (λ (a : Access). a.is_write) (Some (asks_quadlet true o)) offset refl refl f
+read_kind (write_block header o payload) number kind offset e f = differs (λ (a : Access). a.is_write) (Some (writes_block o payload)) offset refl refl f
+read_kind (read_block header o asked) number kind offset e f = differs (λ (a : Access). a.is_block) (Some (asks_block o asked)) offset refl refl f
+read_kind (lock header o extended payload) number kind offset e f = differs (λ (a : Access). a.is_lock) (Some (locks o (length payload))) offset refl refl f
+read_kind (write_response header code) number kind offset e f = differs (λ (a : Access). a.is_lock) None offset refl refl f
+read_kind (read_quadlet_response header code value) number kind offset e f = differs (λ (a : Access). a.is_lock) None offset refl refl f
+read_kind (read_block_response header code payload) number kind offset e f = differs (λ (a : Access). a.is_lock) None offset refl refl f
+read_kind (lock_response header code extended payload) number kind offset e f = differs (λ (a : Access). a.is_lock) None offset refl refl f
+
+quadlet_kind : (bytes : List ℕ) (number : ℕ) (kind : Kind) (offset : ℕ) → part_of bytes ≡ request number kind → access_in_bytes bytes ≡ Some (asks_quadlet false offset) → kind ≡ reading_quadlet
+unfolding part_of
+quadlet_kind bytes number kind offset = by (reading bytes)
+  where
+    by : (r : Result Packet PacketFault) → part_by r ≡ request number kind → access_in (read_by r) ≡ Some (asks_quadlet false offset) → kind ≡ reading_quadlet
+    by (Ok p) e f = read_kind p number kind offset e f
+    by (Err fault) e f = differs (λ (a : Access). a.is_lock) None offset refl refl f
 
 same_purpose : (a b : ℕ) → Some (purposes.Rom a) ≡ Some (purposes.Rom b) → a ≡ b
 same_purpose a b e = cc
@@ -93,10 +128,10 @@ bare_by : (managed : Option ℕ) → (is_some managed ≡ true → false ≡ tru
 bare_by None f = refl
 bare_by (Some n) f = untrue (f refl)
 
-bare : (r : Running) → HasOrb (Some r) → r.operation ≡ operations.Rom → r.managed ≡ None
+pub bare : (r : Running) → HasOrb (Some r) → r.operation ≡ operations.Rom → r.managed ≡ None
 bare r h e = bare_by r.managed (λ some. sym (ap is_managed e) ∙ h.managed r refl some)
 
-apart_fits : (r : Running) (purpose : Purpose) → r.operation ≡ operations.Rom → Fits purpose (Some r) → IsApart r purpose
+pub apart_fits : (r : Running) (purpose : Purpose) → r.operation ≡ operations.Rom → Fits purpose (Some r) → IsApart r purpose
 apart_fits r (purposes.AgentReset act) e f = λ same. (let x : operations.Rom ≡ operations.AgentReset = sym e ∙ f.same r refl same in cc)
 apart_fits r (purposes.Enable act) e f = λ same. (let x : operations.Rom ≡ operations.Enable = sym e ∙ f.same r refl same in cc)
 apart_fits r (purposes.Management act) e f = λ same. (let x : false ≡ true = sym (ap is_managed e) ∙ f.managed r refl same in cc)
@@ -130,8 +165,8 @@ module _ (s : InitiatorState) (h : OneRom s) (t : Turn) (target_is : t.1.target 
 
   -- where one is asked for behind that
   module _ (small : s.target < 2 ^ 16) (l : Layer Purpose) (valid : IsLayer l) (c : Called l) (none : (n a : ℕ) → RomAt l s.target n a → ⊥) where
-    pub next_call : (body : Body) (asked : Asked) (r : Running) → FitsRequest body → t.1.operation ≡ Some r → r.operation ≡ operations.Rom → asking_step l s.target body (purposes.Rom r.act) ≡ (Some asked, t.1.layer) → t.0.packets ≡ outgoing s.target asked ∷ [] → CallRom s t
-    next_call body asked r fits is kind step sent = reads asked r.act sent asks begins only (record {
+    pub next_call : (offset : ℕ) (asked : Asked) (r : Running) → FitsRequest (quadlet_read offset) → t.1.operation ≡ Some r → r.operation ≡ operations.Rom → asking_step l s.target (quadlet_read offset) (purposes.Rom r.act) ≡ (Some asked, t.1.layer) → t.0.packets ≡ outgoing s.target asked ∷ [] → CallRom s t
+    next_call offset asked r fits is kind step sent = reads asked r.act sent asks begins only (record {
       runs = λ n a x. record { running = r; is = is; kind = kind; act = sym (rom_is n a x) };
       one = λ n a m b x y. only n a x ∙ sym (only m b y);
       has = λ q e k. record { number = asked.label.number; at = subst (λ (y : Running). RomAt t.1.layer t.1.target asked.label.number y.act) (same_some r q (sym is ∙ e)) begins };
@@ -140,8 +175,17 @@ module _ (s : InitiatorState) (h : OneRom s) (t : Turn) (target_is : t.1.target 
         same_some : (x y : Running) → Some x ≡ Some y → x ≡ y
         same_some x y e = cc
 
-        asks : IsRequest asked.label.number asked.bytes
-        asks = subst IfRequest (ap (λ (x : Option Asked × Layer Purpose). x.0) step) (is_request l s.target body (purposes.Rom r.act) valid (request_fits l.node s.target body valid.small small fits))
+        body : Body
+        body = quadlet_read offset
+
+        spelled : access_in_bytes asked.bytes ≡ Some (asks_quadlet false offset)
+        spelled = spelled_by l s.target body (purposes.Rom r.act) valid (request_fits l.node s.target body valid.small small fits) asked (ap (λ (x : Option Asked × Layer Purpose). x.0) step)
+
+        is_asked : IsRequest asked.label.number asked.bytes
+        is_asked = subst IfRequest (ap (λ (x : Option Asked × Layer Purpose). x.0) step) (is_request l s.target body (purposes.Rom r.act) valid (request_fits l.node s.target body valid.small small fits))
+
+        asks : part_of asked.bytes ≡ request asked.label.number reading_quadlet
+        asks = is_asked.part ∙ ap (request asked.label.number) (quadlet_kind asked.bytes asked.label.number is_asked.kind offset is_asked.part spelled)
 
         begins : RomAt t.1.layer t.1.target asked.label.number r.act
         begins = subst (λ p. RomAt t.1.layer p asked.label.number r.act) (sym target_is) (ask_begins l s.target body (purposes.Rom r.act) asked t.1.layer c step)
@@ -214,7 +258,7 @@ module _ (ready : Bool) (i : ℕ) (s : InitiatorState) (own : IsCalled ready i s
 
         -- a read of the ROM
         rom_call : (a : ℕ) → IsGone J a → t ≡ By (purposes.Rom a) → CallRom s t
-        rom_call a g is = by (subst (λ x. RomGoes empty_outbox (called here) k.running.act x) (sym (is ∙ ap (λ b. By (purposes.Rom b)) (sym k.act))) (rom_goes k.running empty_outbox (called here) k.is ending))
+        rom_call a g is = by (subst (RomGoes empty_outbox (called here) k.running.act (read_on ending s.quads)) (sym (is ∙ ap (λ b. By (purposes.Rom b)) (sym k.act))) (rom_goes k.running k.kind empty_outbox (called here) k.is ending))
           where
             k : IsRom a s.operation
             k = h.runs g.number a g.at
@@ -222,10 +266,10 @@ module _ (ready : Bool) (i : ℕ) (s : InitiatorState) (own : IsCalled ready i s
             none_left : (n b : ℕ) → RomAt J s.target n b → ⊥
             none_left n b x = g.none b (subst (λ m. RomAt J s.target m b) (h.one n b g.number a (back n b x) g.at) x)
 
-            by : RomGoes empty_outbox (called here) k.running.act t → CallRom s t
-            by (ends ended_is sent layer) =
-                over_call s h t target_is (λ n b x. none_left n b (subst (λ (l : Layer Purpose). RomAt l s.target n b) layer x)) (ap (λ (l : Layer Purpose). l.generation) layer ∙ generation_is) ended_is sent
-            by (goes_on body asked fits step sent same) = next_call s h t target_is small J valid_J called_J none_left body asked k.running fits (same ∙ k.is) k.kind step sent
+            by : RomGoes empty_outbox (called here) k.running.act (read_on ending s.quads) t → CallRom s t
+            by (ends word x) =
+                over_call s h t target_is (λ n b y. none_left n b (subst (λ (l : Layer Purpose). RomAt l s.target n b) x.layer y)) (ap (λ (l : Layer Purpose). l.generation) x.layer ∙ generation_is) x.operation x.packets
+            by (goes_on x) = next_call s h t target_is small J valid_J called_J none_left _ x.asked k.running (omega arith) (x.operation ∙ k.is) k.kind x.step x.packets
 
         -- one for something else
         other_call : (purpose : Purpose) → is_plain purpose ≡ true → Fits purpose s.operation → Within s.layer J s.target → t ≡ By purpose → CallRom s t

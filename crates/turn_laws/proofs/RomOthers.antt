@@ -20,6 +20,7 @@ use Rattle.sbp_world.specs.Worlds.{WorldState}
 use Rattle.sbp_world.proofs.Common.{none_is, untrue}
 use Rattle.sbp_world.proofs.Formed.{AreOwn}
 use Rattle.sbp_world.proofs.Hosts.Cores.{wire_is}
+use Rattle.sbp_world.proofs.Hosts.Held.{sent_apart}
 use Rattle.turn_laws.proofs.Handed.{handed, note_of, notes_sent, notes_told, packet_note}
 use Rattle.turn_laws.proofs.RomTerms.{Keeps, NoneMine, none_both, sent_current}
 use Rattle.turn_laws.proofs.RomTies.{told_none}
@@ -82,6 +83,7 @@ masked false b old x e = refl
 pub keeps_injected : (i serial generation from to : ℕ) (bytes : List ℕ) (past : List Moment) → (terms past).injected serial ≡ true → Keeps i past (said (notes.Sent serial generation from to bytes) ∷ past)
 keeps_injected i serial generation from to bytes past injected = record {
   current = λ g n. sent_current serial packet (terms past) (transaction g (suc i) 0 n) (λ w e. none_is w (sym none ∙ e));
+  waited = λ g n k s w. sym (sent_apart serial packet (terms past) (transaction g (suc i) 0 n) (λ v e. none_is v (sym none ∙ e))) ∙ w;
   operation =
       inl (ap (λ (h : Host). h.operation)
       (masked (nat_eq from (suc i)) ((known_host past i).wire.injected serial) (host_at past i) (sent_as (part_of bytes) (event_of past) i (present_list past i) serial (host_at past i))

@@ -58,7 +58,7 @@ use Rattle.turn_laws.proofs.AnswerNotes.{SameBus}
 use Rattle.turn_laws.proofs.Calls.{IsCalling, calls_nodes}
 use Rattle.turn_laws.proofs.Handed.{handed, notes_told, onto}
 use Rattle.turn_laws.proofs.Places.{HasPairs, Place}
-use Rattle.turn_laws.proofs.RomCalls.{ActRom, late_call, other_act, rom_act, seen_rom}
+use Rattle.turn_laws.proofs.RomCalls.{ActRom, act_other, act_quiet, late_call, other_act, rom_act, seen_rom}
 use Rattle.turn_laws.proofs.RomEnds.{is_plain}
 use Rattle.turn_laws.proofs.RomLabels.{CallRom, heard_call}
 use Rattle.turn_laws.proofs.RomTerms.{Keeps, keeps_note}
@@ -78,19 +78,19 @@ note_injected (notes.Stuck i) t n = refl
 note_injected (notes.Told i) t n = refl
 note_injected _ t n = absurd n
 
-told_injected : (weight : ℕ) (later : List Side) (old : List Note) (v : WorldState) (past : List Moment) → AreOwn later → (terms (map said (onto (notes_told weight later v) old) ++ past)).injected ≡ (terms (map said old ++ past)).injected
+pub told_injected : (weight : ℕ) (later : List Side) (old : List Note) (v : WorldState) (past : List Moment) → AreOwn later → (terms (map said (onto (notes_told weight later v) old) ++ past)).injected ≡ (terms (map said old ++ past)).injected
 told_injected weight [] old v past h = refl
 told_injected weight (sides.Own note ∷ later) old v past h =
     told_injected weight later (note ∷ old) (told weight (sides.Own note) v) past h.1 ∙ note_injected note (terms (map said old ++ past)) h.0.1
 told_injected weight (side ∷ later) old v past h = absurd h.0
 
 -- ---- a line that calls nodes is no action
-call_acts_not : (i : ℕ) (event : Event) → calls_nodes event ≡ true → IsNoAct i (Some event)
+pub call_acts_not : (i : ℕ) (event : Event) → calls_nodes event ≡ true → IsNoAct i (Some event)
 call_acts_not i (events.Act j action) e = untrue e
 call_acts_not i event e = tt
 
 -- ---- an action other than `rom` reads none, and begins no such operation
-abbrev is_rom_action : Action → Bool
+abbrev pub is_rom_action : Action → Bool
 is_rom_action actions.Rom = true
 is_rom_action action = false
 
@@ -119,7 +119,7 @@ operation_else : (action : Action) → is_rom_action action ≡ false → begins
 operation_else actions.Rom e = untrue (sym e)
 operation_else action e = refl
 
-action_is : (action : Action) → is_rom_action action ≡ true → action ≡ actions.Rom
+pub action_is : (action : Action) → is_rom_action action ≡ true → action ≡ actions.Rom
 action_is actions.Rom e = refl
 action_is action e = untrue e
 
@@ -155,6 +155,34 @@ module _ (units ready : ℕ) (start : List Disk) (past : List Moment) (s : Scene
 
   pub late_roms : (label : LabelParts) → CallRom old (expire_step label empty_outbox old).1
   late_roms label = late_call pairs.ready i old aimed.own.called aimed.aims valid small h.one label
+
+  -- ---- an action that is done
+  module _ (action : Action) (t : Turn) (turn_is : act_step action empty_outbox old ≡ (None, t)) where
+    done_is : (act_step action empty_outbox old).0 ≡ None
+    done_is = ap (λ (x : Option ℕ × Turn). x.0) turn_is
+
+    its_turn : (act_step action empty_outbox old).1 ≡ t
+    its_turn = ap (λ (x : Option ℕ × Turn). x.1) turn_is
+
+    sends : AreRequests old.target (act_step action empty_outbox old).1.0.packets
+    sends = act_sends action old (λ d e. own_request s.world i inside here.short here.holds.sound action d e)
+
+    plain : is_rom_action action ≡ false → (d : Demand) (a : ℕ) → demand_of action old ≡ Some d → d.purpose ≡ purposes.Rom a → ⊥
+    plain other d a f g = untrue (sym (ap is_plain g) ∙ sym (ap asks_else f) ∙ demand_else action old other)
+
+    apart : is_rom_action action ≡ false → (operation : Operation) → refusals.operation_of action ≡ Some operation → operation ≡ operations.Rom → ⊥
+    apart other operation f g = untrue (sym (ap (λ o. begins_else (Some o)) g) ∙ sym (ap begins_else f) ∙ operation_else action other)
+
+    other_call : is_rom_action action ≡ false → ActRom old t
+    other_call e = subst (ActRom old) its_turn (other_act pairs.ready i old aimed.own.called aimed.aims valid small h.one action (plain e) (apart e) done_is sends)
+
+    -- a ROM that is under way behind another one was so before
+    pub act_was : is_rom_action action ≡ false → (r : Running) → t.1.operation ≡ Some r → r.operation ≡ operations.Rom → old.operation ≡ Some r
+    act_was e r f g = by (other_call e)
+      where
+        by : ActRom old t → old.operation ≡ Some r
+        by (act_quiet l x) = l.was r f g
+        by (act_other l asked p x y z) = l.was r f g
 
   -- a call that leaves this much of the bus: `v` is the world behind its first note, or as its line begins
   module _ (then : List Moment) (t : Turn) (weight : ℕ) (v : WorldState) (own : AreOwn t.0.sides) (bus : SameBus s.world v) (same : v.initiators ≡ (with_initiator i t.1 s.world).initiators) (keeps : Keeps i ms (hist then v)) (injected : (terms (hist then v)).injected ≡ (terms ms).injected) where
@@ -205,43 +233,27 @@ module _ (units ready : ℕ) (start : List Disk) (past : List Moment) (s : Scene
           no_act : IsNoAct i (event_of mid)
           no_act = subst (IsNoAct i) (sym (line_stays told_notes then ∙ line.is)) (call_acts_not i line.event line.calls)
 
-      -- ---- an action that is done
       module _ (action : Action) (line : event_of then ≡ Some (events.Act i action)) (turn_is : act_step action empty_outbox old ≡ (None, t)) where
-        done_is : (act_step action empty_outbox old).0 ≡ None
-        done_is = ap (λ (x : Option ℕ × Turn). x.0) turn_is
-
-        its_turn : (act_step action empty_outbox old).1 ≡ t
-        its_turn = ap (λ (x : Option ℕ × Turn). x.1) turn_is
-
         act_line : event_of mid ≡ Some (events.Act i action)
         act_line = line_stays told_notes then ∙ line
 
-        sends : AreRequests old.target (act_step action empty_outbox old).1.0.packets
-        sends = act_sends action old (λ d e. own_request s.world i inside here.short here.holds.sound action d e)
-
         free : (r : Running) → old.operation ≡ Some r → operation_of action ≡ None
-        free r e = by (refusals.operation_of action) refl (act_allowed action old done_is).free
+        free r e = by (refusals.operation_of action) refl (act_allowed action old (done_is action t turn_is)).free
           where
             by : (o : Option Operation) → refusals.operation_of action ≡ o → IsFree o old → operation_of action ≡ None
             by None f g = same_operation action ∙ f
             by (Some operation) f g = none_is r (sym g ∙ e)
 
-        plain : is_rom_action action ≡ false → (d : Demand) (a : ℕ) → demand_of action old ≡ Some d → d.purpose ≡ purposes.Rom a → ⊥
-        plain other d a f g = untrue (sym (ap is_plain g) ∙ sym (ap asks_else f) ∙ demand_else action old other)
-
-        apart : is_rom_action action ≡ false → (operation : Operation) → refusals.operation_of action ≡ Some operation → operation ≡ operations.Rom → ⊥
-        apart other operation f g = untrue (sym (ap (λ o. begins_else (Some o)) g) ∙ sym (ap begins_else f) ∙ operation_else action other)
-
         by_action : (b : Bool) → is_rom_action action ≡ b → RomOf now i t.1
         by_action true e =
             let is = action_is action e in
-            let rom_done : (act_step actions.Rom empty_outbox old).0 ≡ None = ap (λ a. (act_step a empty_outbox old).0) (sym is) ∙ done_is in
+            let rom_done : (act_step actions.Rom empty_outbox old).0 ≡ None = ap (λ a. (act_step a empty_outbox old).0) (sym is) ∙ done_is action t turn_is in
             rom_ties then i old t weight v own there honest generation_is kept action act_line is
-            (subst (CallRom old) (ap (λ a. (act_step a empty_outbox old).1) (sym is) ∙ its_turn) (rom_act pairs.ready i old aimed.own.called aimed.aims valid small h.one rom_done))
+            (subst (CallRom old) (ap (λ a. (act_step a empty_outbox old).1) (sym is) ∙ its_turn action t turn_is) (rom_act pairs.ready i old aimed.own.called aimed.aims valid small h.one rom_done))
             (λ r f. none_is r (sym (act_allowed actions.Rom old rom_done).free ∙ f))
         by_action false e =
-            act_ties then i old t weight v own there honest generation_is kept action act_line free (subst (λ (x : Turn). AreRequests old.target x.0.packets) its_turn sends)
-            (subst (ActRom old) its_turn (other_act pairs.ready i old aimed.own.called aimed.aims valid small h.one action (plain e) (apart e) done_is sends))
+            act_ties then i old t weight v own there honest generation_is kept action act_line free (subst (λ (x : Turn). AreRequests old.target x.0.packets) (its_turn action t turn_is) (sends action t turn_is))
+            (other_call action t turn_is e)
 
         pub act_roms : RomOf now i t.1
         act_roms = by_action (is_rom_action action) refl
@@ -261,6 +273,7 @@ module _ (units ready : ℕ) (start : List Disk) (past : List Moment) (s : Scene
           let flag = may_see s.world here.holds.sound.stands i (omega (arith, inside)) in
           record {
             one = seen_rom pairs.ready g.generation (id_of g (suc i)) (id_of g 0) ms i old flag aimed e;
+            kind = λ n a y. absurd (none_seen pairs.ready g.generation (id_of g (suc i)) (id_of g 0) ms i old flag aimed e _ n (Some (purposes.Rom a)) y);
             tie = λ n a y u f. absurd (none_seen pairs.ready g.generation (id_of g (suc i)) (id_of g 0) ms i old flag aimed e _ n (Some (purposes.Rom a)) y);
           }
       by false e = subst IsSeen (sym (see_old g.generation (id_of g (suc i)) (id_of g 0) old e)) (rom_keeps ms (said (notes.Seen (suc i) g.generation) ∷ ms) i old (keeps_note i (notes.Seen (suc i) g.generation) ms refl) h)

@@ -161,7 +161,7 @@ judged_mine serial (judgements.Ignored cause) j = refl
 abbrev Law : List Disk → List Moment → Type 0
 Law start ms = RomsWait ms
 
-abbrev Carried : List Disk → List Moment → Scene → Type 0
+abbrev pub Carried : List Disk → List Moment → Scene → Type 0
 Carried start ms s = RomsOf ms s.world
 
 module _ (units ready : ℕ) (start : List Disk) where
@@ -181,7 +181,7 @@ module _ (units ready : ℕ) (start : List Disk) where
   settled_roms past s true k = note_turn (hist past s.world) s.world k notes.Settled (with_note notes.Settled s.world) refl (λ j. refl)
   settled_roms past s false k = note_turn (hist past s.world) s.world k notes.Stopped (with_note notes.Stopped s.world) refl (λ j. refl)
 
-  rom_cases : CarriedCases units ready start (Carried start) (λ t. RomsWait (end_of t))
+  pub rom_cases : CarriedCases units ready start (Carried start) (λ t. RomsWait (end_of t))
   rom_cases = record {
     heard = λ past s serial again run one found zero_to may others here behind told k.
         let x = received run one.generation one.bytes (whole_of s.world.target s.media) in
@@ -282,9 +282,10 @@ first_rom past i ready = record {
     has = λ r e f. none_is r (sym (first_none i ready) ∙ e);
   };
   tie = λ n a x u e. absurd (first_unread i n a ready x);
+  kind = λ n a x. absurd (first_unread i n a ready x);
 }
 
-first_roms : Begins Carried
+pub first_roms : Begins Carried
 unfolding new_world
 first_roms line run has there = record {
   count = sym (initiators_size run.initiators run.ready);

@@ -7,11 +7,13 @@ use Rattle.async_packet.specs.Fields.{rcode_of, tcode_of}
 use Rattle.async_packet.specs.Packet.{Packet, lock, lock_response, read_block, read_block_response, read_quadlet, read_quadlet_response, write_block, write_quadlet, write_response}
 use Rattle.async_packet.specs.Reading.{packet_in, reading, unless_fault}
 use Rattle.async_packet.specs.declared.fault.PacketFault.{PacketFault}
+use Rattle.bus_transactions.specs.Rows.{awaits, kind_as, shape_of}
 use Rattle.bus_transactions.specs.Wire.{transaction}
 use Rattle.bus_transactions.proofs.Facts.{none_begun}
 use Rattle.bus_transactions.proofs.PacketParts.{same_is}
 use Rattle.byteorder.specs.Endian.{big_bytes}
 use Rattle.label_table.specs.Bodies.{response_to}
+use Rattle.label_table.specs.declared.reply.ReplyKind.{ReplyKind}
 use Rattle.sbp_journal.specs.Run.{Moment, asked, said}
 use Rattle.sbp_journal.specs.Transactions.{Kind, Part, Sending, Transaction, asked_as, asked_by, begun_by, between, is_same, is_same_kind, no_packet, part_by, part_in, part_of, request, response}
 use Rattle.sbp_journal.specs.Wire.{Held, Owed, Terms, arrives, asked_in, begins, closes, closes_if, free, gets, gets_as, gives, ignores, ignores_that, is_news, is_served, judges, judges_if, noted, opened, pays, puts, rests, sends, terms, times_out, waits}
@@ -31,6 +33,7 @@ use Rattle.sbp_laws.specs.Turns.{event_of}
 use Rattle.sbp_world.proofs.Common.{none_is, same_number, untrue}
 use Rattle.sbp_world.proofs.Hosts.Carries.{IsNoAct}
 use Rattle.sbp_world.proofs.Hosts.Cores.{turned, wire_is}
+use Rattle.sbp_world.proofs.Hosts.Held.{got_waits, ignored_quiet, sent_apart, timed_waits}
 use Rattle.sbp_world.proofs.Hosts.Mild.{quad_tcode}
 use Rattle.sbp_world.proofs.Lists.BegunBy.{transaction_of}
 use Rattle.sbp_world.proofs.Lists.FedHeld.{same_self}
@@ -190,6 +193,22 @@ note_current (notes.Ignored s cause) t g i n e = ap (λ (c : Transaction → ℕ
 note_current (notes.TimedOut s) t g i n e = ap (λ (c : Transaction → ℕ). c (mine_of g i n)) (late_current _ t)
 note_current note t g i n e = refl
 
+-- what waits then under a label of the initiator waited before
+abbrev pub Waited : Terms → Terms → (g i n : ℕ) → Type 0
+Waited old new g i n = (kind : Kind) (serial : ℕ) → new.held (mine_of g i n) ≡ waits kind serial → old.held (mine_of g i n) ≡ waits kind serial
+
+awaits_still : (old new : Held) (kind : Kind) (serial : ℕ) → ((k : ReplyKind) → shape_of new ≡ awaits k → new ≡ old) → new ≡ waits kind serial → old ≡ waits kind serial
+awaits_still old new kind serial f e = sym (f (kind_as kind) (ap shape_of e)) ∙ e
+
+note_waits : (note : Note) (t : Terms) (g i n : ℕ) → is_mine i note ≡ false → Waited t (noted note t) g i n
+note_waits (notes.Sent serial generation from to bytes) t g i n e kind s w =
+    let packet : Sending = record { generation = generation; from = from; to = to; bytes = bytes; injected = t.injected serial } in
+    sym (sent_apart serial packet t (mine_of g i n) (apart_requester g i n packet e)) ∙ w
+note_waits (notes.Got s) t g i n e kind serial w = awaits_still _ _ kind serial (got_waits (t.sent s) s t (mine_of g i n)) w
+note_waits (notes.Ignored s cause) t g i n e kind serial w = ap (λ (h : Transaction → Held). h (mine_of g i n)) (sym (ignored_quiet (t.sent s) cause s t).held) ∙ w
+note_waits (notes.TimedOut s) t g i n e kind serial w = awaits_still _ _ kind serial (timed_waits (t.sent s) t (mine_of g i n)) w
+note_waits note t g i n e kind serial w = w
+
 -- ---- the operation under way
 abbrev pub Stays : Host → Host → Type 0
 Stays old new = (new.operation ≡ old.operation) ⊎ (new.operation ≡ None)
@@ -248,10 +267,11 @@ note_stays _ past i e = inl refl
 -- ---- both, over notes
 pub record Keeps (i : ℕ) (past now : List Moment) : Type 0 where
   pub current : (g n : ℕ) → (terms now).current (transaction g (suc i) 0 n) ≡ (terms past).current (transaction g (suc i) 0 n)
+  pub waited : (g n : ℕ) → Waited (terms past) (terms now) g i n
   pub operation : Stays (host_at past i) (host_at now i)
 
 pub keeps_self : (i : ℕ) (past : List Moment) → Keeps i past past
-keeps_self i past = record { current = λ g n. refl; operation = inl refl }
+keeps_self i past = record { current = λ g n. refl; waited = λ g n k s w. w; operation = inl refl }
 
 stays_then : (a b c : Host) → Stays a b → Stays b c → Stays a c
 stays_then a b c (inl e) (inl f) = inl (f ∙ e)
@@ -259,14 +279,19 @@ stays_then a b c (inr e) (inl f) = inr (f ∙ e)
 stays_then a b c x (inr f) = inr f
 
 pub keeps_then : (i : ℕ) (a b c : List Moment) → Keeps i a b → Keeps i b c → Keeps i a c
-keeps_then i a b c x y = record { current = λ g n. y.current g n ∙ x.current g n; operation = stays_then (host_at a i) (host_at b i) (host_at c i) x.operation y.operation }
+keeps_then i a b c x y = record { current = λ g n. y.current g n ∙ x.current g n; waited = λ g n k s w. x.waited g n k s (y.waited g n k s w); operation = stays_then (host_at a i) (host_at b i) (host_at c i) x.operation y.operation }
 
 pub keeps_note : (i : ℕ) (note : Note) (past : List Moment) → is_mine i note ≡ false → Keeps i past (said note ∷ past)
-keeps_note i note past e = record { current = λ g n. note_current note (terms past) g i n e; operation = note_stays note past i e }
+keeps_note i note past e = record { current = λ g n. note_current note (terms past) g i n e; waited = λ g n. note_waits note (terms past) g i n e; operation = note_stays note past i e }
 
 pub keeps_line : (i line : ℕ) (event : Event) (past : List Moment) → Keeps i past (asked line event ∷ past)
-keeps_line i line event past = record { current = λ g n. ap (λ (c : Transaction → ℕ). c (mine_of g i n)) (by event); operation = inl refl }
+keeps_line i line event past = record { current = λ g n. ap (λ (c : Transaction → ℕ). c (mine_of g i n)) (by event); waited = λ g n k s w. ap (λ (h : Transaction → Held). h (mine_of g i n)) (sym (held event)) ∙ w; operation = inl refl }
   where
+    held : (event : Event) → (opened event (terms past)).held ≡ (terms past).held
+    held (events.Reset physical) = refl
+    held (events.Repeat s) = refl
+    held event = refl
+
     by : (event : Event) → (opened event (terms past)).current ≡ (terms past).current
     by (events.Reset physical) = refl
     by (events.Repeat s) = refl
@@ -299,6 +324,7 @@ reply_asked q e = asked_none (part_of q.bytes) e q
 pub keeps_reply : (i serial generation to : ℕ) (bytes : List ℕ) (past : List Moment) → IsReply bytes → Keeps i past (said (notes.Sent serial generation (suc i) to bytes) ∷ past)
 keeps_reply i serial generation to bytes past reply = record {
   current = λ g n. sent_current serial packet (terms past) (mine_of g i n) (λ w e. none_is w (sym none ∙ e));
+  waited = λ g n k s w. sym (sent_apart serial packet (terms past) (mine_of g i n) (λ v e. none_is v (sym none ∙ e))) ∙ w;
   operation = picks ((nat_eq (suc i) (suc i)) && not ((known_host past i).wire.injected serial)) (host_at past i) _ (inl (by (part_of bytes) reply));
 }
   where

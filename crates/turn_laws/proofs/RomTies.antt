@@ -10,8 +10,8 @@ use Rattle.sbp_initiator.specs.Histories.Moves.{outgoing}
 use Rattle.sbp_initiator.specs.declared.purpose.Running.{Running}
 use Rattle.sbp_initiator.specs.declared.state.InitiatorState.{InitiatorState}
 use Rattle.sbp_journal.specs.Run.{Moment, said}
-use Rattle.sbp_journal.specs.Transactions.{Kind, Sending, Transaction, begun_by, between, is_same, part_of, request}
-use Rattle.sbp_journal.specs.Wire.{Terms, terms}
+use Rattle.sbp_journal.specs.Transactions.{Kind, Sending, Transaction, begun_by, between, is_same, part_of, reading_quadlet, request}
+use Rattle.sbp_journal.specs.Wire.{Terms, kind_in, terms, waits}
 use Rattle.sbp_journal.specs.declared.event.Action.{Action}
 use Rattle.sbp_journal.specs.declared.event.Action.TheVariants as actions
 use Rattle.sbp_journal.specs.declared.event.Event.TheVariants as events
@@ -28,9 +28,10 @@ use Rattle.sbp_world.specs.Telling.{told, told_all}
 use Rattle.sbp_world.specs.Worlds.{WorldState}
 use Rattle.sbp_world.proofs.Common.{none_is, same_number}
 use Rattle.sbp_world.proofs.Formed.{AreOwn, IsNoRun}
-use Rattle.sbp_world.proofs.Hosts.Asked.{IsRequest, number_in}
+use Rattle.sbp_world.proofs.Hosts.Asked.{number_in}
 use Rattle.sbp_world.proofs.Hosts.Carries.{IsNoAct}
 use Rattle.sbp_world.proofs.Hosts.Cores.{wire_is}
+use Rattle.sbp_world.proofs.Hosts.Held.{sent_apart, sent_begun}
 use Rattle.sbp_world.proofs.Hosts.Requested.{AreRequests}
 use Rattle.turn_laws.proofs.Handed.{handed, notes_sent, notes_told, onto, onto_both, packet_note}
 use Rattle.turn_laws.proofs.RomCalls.{ActRom, LeavesRom, act_other, act_quiet}
@@ -38,12 +39,21 @@ use Rattle.turn_laws.proofs.RomLabels.{CallRom, IsQuiet, OneRom, RomAt, reads, s
 use Rattle.turn_laws.proofs.RomTerms.{Keeps, NoneMine, Stays, asked_latest, begun_current, is_mine, keeps_reply, keeps_rest, keeps_then, sent_current}
 use Rattle.sbp_world.proofs.Lists.ManageFirsts.{so_if}
 
+abbrev pub IsQuad : Terms → Transaction → Type 0
+IsQuad t u = (kind : Kind) (serial : ℕ) → t.held u ≡ waits kind serial → kind ≡ reading_quadlet
+
 pub record RomOf (past : List Moment) (i : ℕ) (s : InitiatorState) : Type 0 where
   pub one : OneRom s
   pub tie : (n a : ℕ) → RomAt s.layer s.target n a → (u : Underway) → (host_at past i).operation ≡ Some u → (terms past).current (transaction s.layer.generation (suc i) 0 n) ≡ u.latest
+  -- it waits for a quadlet
+  pub kind : (n a : ℕ) → RomAt s.layer s.target n a → IsQuad (terms past) (transaction s.layer.generation (suc i) 0 n)
 
 pub rom_keeps : (past now : List Moment) (i : ℕ) (s : InitiatorState) → Keeps i past now → RomOf past i s → RomOf now i s
-rom_keeps past now i s k h = record { one = h.one; tie = λ n a x u e. by n a x u e k.operation }
+rom_keeps past now i s k h = record {
+  one = h.one;
+  tie = λ n a x u e. by n a x u e k.operation;
+  kind = λ n a x kind serial w. h.kind n a x kind serial (k.waited s.layer.generation n kind serial w);
+}
   where
     by : (n a : ℕ) → RomAt s.layer s.target n a → (u : Underway) → (host_at now i).operation ≡ Some u → Stays (host_at past i) (host_at now i) → (terms now).current (transaction s.layer.generation (suc i) 0 n) ≡ u.latest
     by n a x u e (inl f) = k.current s.layer.generation n ∙ h.tie n a x u (sym f ∙ e)
@@ -53,6 +63,11 @@ rom_keeps past now i s k h = record { one = h.one; tie = λ n a x u e. by n a x 
 rom_stays : (past now : List Moment) (i : ℕ) (s u : InitiatorState) → Keeps i past now → ((n a : ℕ) → RomAt u.layer u.target n a → RomAt s.layer s.target n a) → u.layer.generation ≡ s.layer.generation → RomOf past i s
     → (n a : ℕ) → RomAt u.layer u.target n a → (v : Underway) → (host_at now i).operation ≡ Some v → (terms now).current (transaction u.layer.generation (suc i) 0 n) ≡ v.latest
 rom_stays past now i s u k back g h n a x v e = ap (λ m. (terms now).current (transaction m (suc i) 0 n)) g ∙ (rom_keeps past now i s k h).tie n a (back n a x) v e
+
+kind_stays : (past now : List Moment) (i : ℕ) (s u : InitiatorState) → Keeps i past now → ((n a : ℕ) → RomAt u.layer u.target n a → RomAt s.layer s.target n a) → u.layer.generation ≡ s.layer.generation → RomOf past i s
+    → (n a : ℕ) → RomAt u.layer u.target n a → IsQuad (terms now) (transaction u.layer.generation (suc i) 0 n)
+kind_stays past now i s u k back g h n a x kind serial w =
+    h.kind n a (back n a x) kind serial (k.waited s.layer.generation n kind serial (ap (λ m. (terms now).held (transaction m (suc i) 0 n)) (sym g) ∙ w))
 
 -- ---- what an initiator tells holds no packet
 own_mine : (i : ℕ) (note : Note) → IsNoRun note → is_mine i note ≡ false
@@ -171,7 +186,7 @@ module _ (past : List Moment) (i : ℕ) (s : InitiatorState) (t : Turn) (weight 
     abbrev own_of : ℕ → Transaction
     own_of n = transaction t.1.layer.generation (suc i) 0 n
 
-    module _ (p : Outgoing) (sent : t.0.packets ≡ p ∷ []) (to_is : p.to ≡ s.target) (q : IsRequest (number_in p.label) p.bytes) where
+    module _ (p : Outgoing) (sent : t.0.packets ≡ p ∷ []) (to_is : p.to ≡ s.target) (kind : Kind) (part : part_of p.bytes ≡ request (number_in p.label) kind) where
       abbrev packet : Sending
       packet = record { generation = generation; from = suc i; to = 0; bytes = p.bytes; injected = (terms mid).injected serial }
 
@@ -186,7 +201,7 @@ module _ (past : List Moment) (i : ℕ) (s : InitiatorState) (t : Turn) (weight 
 
       begins : begun_by packet ≡ Some (own_of label)
       begins =
-          asked_begun packet (between packet packet.from packet.to label) honest (request_asked packet label q.kind q.part)
+          asked_begun packet (between packet packet.from packet.to label) honest (request_asked packet label kind part)
           ∙ ap (λ g. Some (transaction g (suc i) 0 label)) generation_is
 
       apart_label : (n : ℕ) → (n ≡ label → ⊥) → (w : Transaction) → begun_by packet ≡ Some w → is_same (own_of n) w ≡ false
@@ -207,6 +222,18 @@ module _ (past : List Moment) (i : ℕ) (s : InitiatorState) (t : Turn) (weight 
           ∙ begun_current serial packet (terms mid) (own_of label) begins
           ∙ sym (latest u (ap (λ ms. (host_at ms i).operation) (sym is) ∙ f))
 
+      latest_kind : kind ≡ reading_quadlet → (n : ℕ) → n ≡ label → IsQuad (terms now) (own_of n)
+      latest_kind quad n e other m w =
+          kind_of_waits (sym w ∙ ap (λ l. (terms now).held (own_of l)) e ∙ ap (λ ms. (terms ms).held (own_of label)) is ∙ sent_begun serial packet (terms mid) (own_of label) begins ∙ ap (λ x. waits (kind_in x) serial) part) ∙ quad
+        where
+          kind_of_waits : waits other m ≡ waits kind serial → other ≡ kind
+          kind_of_waits f = cc
+
+      other_kind : LeavesRom s t → (n a : ℕ) → RomAt t.1.layer t.1.target n a → (n ≡ label → ⊥) → IsQuad (terms now) (own_of n)
+      other_kind l n a x other kind m w =
+          kind_stays base mid i s t.1 keeps_mid l.back l.generation h n a x kind m
+          (sym (sent_apart serial packet (terms mid) (own_of n) (apart_label n other)) ∙ ap (λ ms. (terms ms).held (own_of n)) (sym is) ∙ w)
+
       -- it is under another label, and its action begins no operation
       other_tie : LeavesRom s t → (host_at behind_it i).operation ≡ (host_at mid i).operation → (n a : ℕ) → RomAt t.1.layer t.1.target n a → (n ≡ label → ⊥) → (u : Underway) → (host_at now i).operation ≡ Some u → (terms now).current (own_of n) ≡ u.latest
       other_tie l stay n a x other u f =
@@ -219,32 +246,40 @@ module _ (past : List Moment) (i : ℕ) (s : InitiatorState) (t : Turn) (weight 
     own_ties line (stays back g was quiet one) = record {
       one = one;
       tie = λ n a x u e. (let k = one.runs n a x in rom_stays base now i s t.1 (quiet_keeps (quiet k.running (was k.running k.is k.kind) k.kind)) back g h n a x u e);
+      kind = λ n a x. (let k = one.runs n a x in kind_stays base now i s t.1 (quiet_keeps (quiet k.running (was k.running k.is k.kind) k.kind)) back g h n a x);
     }
-    own_ties line (reads asked a sent k at only one) =
+    own_ties line (reads asked a sent part at only one) =
         let p = outgoing s.target asked in
         record {
           one = one;
-          tie = λ n b x u e. latest_tie p sent refl k (asked_latest i serial generation 0 asked.label.number k.kind asked.bytes mid k.part honest line) n (only n b x) u e;
+          tie = λ n b x u e. latest_tie p sent refl reading_quadlet part (asked_latest i serial generation 0 asked.label.number reading_quadlet asked.bytes mid part honest line) n (only n b x) u e;
+          kind = λ n b x. latest_kind p sent refl reading_quadlet part refl n (only n b x);
         }
 
     module _ (action : Action) (line : event_of mid ≡ Some (events.Act i action)) where
       -- in one that begins no ROM
       pub act_ties : ((r : Running) → s.operation ≡ Some r → operation_of action ≡ None) → AreRequests s.target t.0.packets → ActRom s t → RomOf now i t.1
-      act_ties free asks (act_quiet l e) = record { one = l.one; tie = rom_stays base now i s t.1 (quiet_keeps (sends_none e)) l.back l.generation h }
+      act_ties free asks (act_quiet l e) = record { one = l.one; tie = rom_stays base now i s t.1 (quiet_keeps (sends_none e)) l.back l.generation h; kind = kind_stays base now i s t.1 (quiet_keeps (sends_none e)) l.back l.generation h }
       act_ties free asks (act_other l asked p e label_is other) =
           let r : AreRequests s.target (p ∷ []) = subst (AreRequests s.target) e asks in
           let k = r.1 in
           record {
             one = l.one;
-            tie = λ n a x u f. (let c = l.one.runs n a x in other_tie p e r.0 k l (act_stays action mid i serial generation 0 (number_in p.label) k.kind p.bytes k.part line (free c.running (l.was c.running c.is c.kind))) n a x (λ z. other n a x (z ∙ ap number_in label_is)) u f);
+            tie = λ n a x u f. (let c = l.one.runs n a x in other_tie p e r.0 k.kind k.part l (act_stays action mid i serial generation 0 (number_in p.label) k.kind p.bytes k.part line (free c.running (l.was c.running c.is c.kind))) n a x (λ z. other n a x (z ∙ ap number_in label_is)) u f);
+            kind = λ n a x. other_kind p e r.0 k.kind k.part l n a x (λ z. other n a x (z ∙ ap number_in label_is));
           }
 
       -- and in one that does
       pub rom_ties : action ≡ actions.Rom → CallRom s t → ((r : Running) → s.operation ≡ Some r → ⊥) → RomOf now i t.1
-      rom_ties rom (stays back g was quiet one) none = record { one = one; tie = λ n a x u e. (let k = one.runs n a x in absurd (none k.running (was k.running k.is k.kind))) }
-      rom_ties rom (reads asked a sent k at only one) none =
+      rom_ties rom (stays back g was quiet one) none = record {
+        one = one;
+        tie = λ n a x u e. (let k = one.runs n a x in absurd (none k.running (was k.running k.is k.kind)));
+        kind = λ n a x. (let k = one.runs n a x in absurd (none k.running (was k.running k.is k.kind)));
+      }
+      rom_ties rom (reads asked a sent part at only one) none =
           let p = outgoing s.target asked in
           record {
             one = one;
-            tie = λ n b x u e. latest_tie p sent refl k (act_latest action mid i serial generation 0 asked.label.number k.kind asked.bytes k.part line rom honest) n (only n b x) u e;
+            tie = λ n b x u e. latest_tie p sent refl reading_quadlet part (act_latest action mid i serial generation 0 asked.label.number reading_quadlet asked.bytes part line rom honest) n (only n b x) u e;
+            kind = λ n b x. latest_kind p sent refl reading_quadlet part refl n (only n b x);
           }

@@ -135,11 +135,12 @@ module _ (L : Turn → Type 0) where
   each_then (said notes.Stopped ∷ past) rest t e = (e.0 t.1, each_then past [] t.1 e.1)
   each_then (said note ∷ past) rest t e = each_then past (note ∷ rest) t.1 e
 
+pub untimed : (L : List Disk → Turn → Type 0) → OfEveryRun (λ start past. EachTurn (Timely (L start)) past) → OfEveryRun (λ start past. EachTurn (L start) past)
+untimed L law = record {
+  after_lines = λ line run r has small size. each_then (L run.start.disks) _ [] (timely_law.after_lines line run r has small size) (law.after_lines line run r has small size);
+  between = λ line run r has small size next most told may. each_then (L run.start.disks) _ [] (timely_law.between line run r has small size next most told may)
+      (law.between line run r has small size next most told may);
+}
+
 pub of_timely_turns : (L : List Disk → Turn → Type 0) → ((units ready : ℕ) (start : List Disk) → 0 < units → Cases units ready start (Timely (L start))) → OfEveryRun (λ start past. EachTurn (L start) past)
-of_timely_turns L cases =
-    let law = of_every_run (λ start. Timely (L start)) cases in
-    record {
-      after_lines = λ line run r has small size. each_then (L run.start.disks) _ [] (timely_law.after_lines line run r has small size) (law.after_lines line run r has small size);
-      between = λ line run r has small size next most told may. each_then (L run.start.disks) _ [] (timely_law.between line run r has small size next most told may)
-          (law.between line run r has small size next most told may);
-    }
+of_timely_turns L cases = untimed L (of_every_run (λ start. Timely (L start)) cases)

@@ -1,42 +1,15 @@
--- Which requests an action sends, in each turn that begins with an action of an initiator: where it is done exactly its own, to the target, with its address, its length and its value, under the lowest
--- label that serves it; of an action with a management ORB the address that it writes to is not said. Where it neither prepares an ORB nor rings, nor has a management ORB, it is done exactly where no row
--- refuses it.
-use Rattle.std.specs.Prelude.{◌≡◌, ◌⊎◌, ◌%◌, not, ℕ, suc, List, Option, Some}
-use Rattle.bus_memory.specs.Windows.{start as address_at}
-use Rattle.bus_memory.specs.declared.window.Window.TheVariants as windows
-use Rattle.label_table.specs.Bodies.{Body, block_write}
+-- Which requests an action sends, in each turn that begins with an action of an initiator: where no row refuses it exactly its own, to the target, with its address, its length and its value, under the
+-- lowest label that serves it; and none where a row does.
+use Rattle.std.specs.Prelude.{List}
 use Rattle.rbc_disk.specs.Disk.{Disk}
 use Rattle.sbp_journal.specs.Run.{Moment, asked}
-use Rattle.sbp_journal.specs.declared.event.Action.{Action}
 use Rattle.sbp_journal.specs.declared.event.Event.TheVariants as events
-use Rattle.sbp_laws.specs.Actions.{action_body, address_bytes}
-use Rattle.sbp_laws.specs.Agents.{requests_to}
-use Rattle.sbp_laws.specs.Hosts.{host_at, operation_of}
-use Rattle.sbp_laws.specs.LineLaw.{refused}
-use Rattle.sbp_laws.specs.SentRequests.{ArePackets, RequestsLaw, before_requests, behind_answer}
-use Rattle.sbp_laws.specs.Turns.{EachTurn, Turn, Where}
-use Rattle.sbp_world.specs.Pointers.Moments.{manages}
-use Rattle.turn_laws.specs.Actions.{asks_more}
+use Rattle.sbp_laws.specs.SentRequests.{RequestsLaw}
+use Rattle.sbp_laws.specs.Turns.{EachTurn, Turn}
 use Rattle.turn_laws.specs.Runs.{OfEveryRun}
 
--- a refusal alone, or this request, if there is one
-abbrev pub AsksFor : List Disk → (line i : ℕ) → Turn → Option Body → Type 0
-AsksFor start line i t body = ((number : ℕ) × (t.rest ≡ refused line number)) ⊎ ArePackets (before_requests start t) (suc i) (behind_answer start t) (requests_to 0 body)
-
-abbrev pub AsksOr : List Disk → (line i : ℕ) → Action → Turn → Type 0
-AsksOr start line i action t = AsksFor start line i t (action_body action t.past i (host_at t.past i))
-
--- the address of the ORB in the next place of management, written somewhere
-abbrev pub managed_body : ℕ → List Moment → ℕ → Body
-managed_body offset past i = block_write offset (address_bytes (address_at (windows.Management ((host_at past i).writes % 2))))
-
-abbrev pub AsksManaged : List Disk → (line i : ℕ) → Turn → Type 0
-AsksManaged start line i t = (offset : ℕ) × AsksFor start line i t (Some (managed_body offset t.past i))
-
 abbrev pub AsksIn : List Disk → Moment → Turn → Type 0
-AsksIn start (asked line (events.Act i action)) t =
-    Where (not (manages (operation_of action))) (AsksOr start line i action t)
-    × (Where (manages (operation_of action)) (AsksManaged start line i t) × Where (not (asks_more action)) (RequestsLaw start t))
+AsksIn start (asked line (events.Act i action)) t = RequestsLaw start t
 AsksIn start moment t = Unit {0}
 
 abbrev pub ActsByRequests : List Disk → Turn → Type 0

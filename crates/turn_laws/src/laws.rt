@@ -1,6 +1,6 @@
 //! The laws of turns, each of every run of the machine of up to four initiators with one to four units.
 ghost use Rattle.turn_laws.specs.Aborts.{AbortsLaw};
-ghost use Rattle.turn_laws.specs.ActEntries.{ActEntriesLaw};
+ghost use Rattle.turn_laws.specs.ActEntries.{ActionRunLaw};
 ghost use Rattle.turn_laws.specs.ActRequests.{ActRequestsLaw};
 ghost use Rattle.turn_laws.specs.Actions.{ActionsLaw};
 ghost use Rattle.turn_laws.specs.AgentRequests.{AgentRequestsLaw};
@@ -266,30 +266,29 @@ pub fn commands_end_as_read()
 
 /// In each turn of every run that begins with an action of an initiator, whatever anybody injected, the action is
 /// refused and nothing else, or brings its notes, and behind them what it sends. It is refused exactly where a row
-/// holds, with the least number of those that hold. The rows are those of the run terms, but for whether a ROM was
-/// read, of a login and a query, and whether a label serves, of what has a management ORB: so much of `brings` of the
-/// action law.
+/// holds, with the least number of those that hold.
 #[tactic(auto, using(crate::proofs::Actions::actions_law))]
 pub fn actions_are_done_or_refused()
     ensures { ActionsLaw }
 {}
 
 /// In each turn of every run that begins with an action of an initiator, whatever anybody injected, exactly the
-/// request is sent that the action asks for, if it is done and asks for one: a read of the ROM or of AGENT_STATE, a
-/// write of AGENT_RESET, of UNSOLICITED_STATUS_ENABLE, of ORB_POINTER with the address of the first ORB of the list,
-/// of DOORBELL with the running number, or of the address of its management ORB, with the lowest label that serves
-/// it. Where this last one goes is not said. So much of `requests` of the sent law.
+/// request is sent that the action asks for, if no row refuses it and it asks for one: a read of the ROM or of
+/// AGENT_STATE, a write of AGENT_RESET, of UNSOLICITED_STATUS_ENABLE, of ORB_POINTER with the address of the first ORB
+/// of the list, of DOORBELL with the running number, or to MANAGEMENT_AGENT of the address of its management ORB, with
+/// the lowest label that serves it. So much of `requests` of the sent law.
 #[tactic(auto, using(crate::proofs::ActRequests::act_requests_law))]
 pub fn actions_send_their_requests()
     ensures { ActRequestsLaw }
 {}
 
-/// In the journal of every run each line that is an action of an initiator brings what its turn does, and no more:
-/// it is refused and nothing else, or has its notes, and behind them what it sends. `brings` of the action law, as far
-/// as `actions_are_done_or_refused` says it.
-#[tactic(auto, using(crate::proofs::ActEntries::act_entries_law))]
-pub fn lines_of_actions_bring_their_notes()
-    ensures { ActEntriesLaw }
+/// The action law holds of the journal of every run, whatever anybody injected: each line brings what the law says of it,
+/// behind what stood before it, an action the refusal with the least number that holds, and nothing else, or its notes and
+/// its request, a line of the bus its deliveries, its end or its refusal; and in each turn the effects stand in one order,
+/// and the packets behind them.
+#[tactic(auto, using(crate::proofs::ActEntries::action_run_law))]
+pub fn actions_are_lawful()
+    ensures { ActionRunLaw }
 {}
 
 /// In each turn of every run, whatever anybody injected, the packets behind the response begin with the requests that
