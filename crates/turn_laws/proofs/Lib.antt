@@ -203,3 +203,5 @@ pub mod AgentRequests
 pub mod RequestPackets
 pub mod ManagerRequests
 pub mod PushRequests
+pub mod Told
+pub mod ToldNotes

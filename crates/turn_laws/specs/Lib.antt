@@ -34,3 +34,4 @@ pub mod RunsEnd
 pub mod AgentRequests
 pub mod PushRequests
 pub mod ManagerRequests
+pub mod Told
