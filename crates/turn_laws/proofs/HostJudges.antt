@@ -107,17 +107,20 @@ module _ (units ready : ℕ) (start : List Disk) (past : List Moment) (s : Scene
   left_acts p a telling e left = e
   left_acts p a serving e left = e
 
-  request_acts : (p : Packet) → Asks t q p by_request → (judging_step old.layer one.generation one.bytes).0 ≡ of_request p → At (of_request p) heard
-  request_acts p a e =
+  -- a request is judged by the initiator as by the terms
+  pub judged_same : (p : Packet) (a : Asks t q p by_request) → judging_for p old ≡ judging_of (request_facts start ms target t one.from one.to (access_there p a.none).access)
+  judged_same p a =
       let asks = access_there p a.none in
-      let own : judging_for p old ≡ judging_of (request_facts start ms target t one.from one.to asks.access) =
       ap (λ x. judging_by x (header_in p).source old) asks.is
       ∙ (sym (judging_same ms i old (here.hosts i inside).rows (here.cores i inside) (here.logins i inside) asks.access one.from (header_in p).source (one_kind p asks.access asks.is) (of_target p a.read a.current))
-      ∙ ap (λ n. judging_of (request_facts start ms target t one.from n asks.access)) (sym to_is)) in
+      ∙ ap (λ n. judging_of (request_facts start ms target t one.from n asks.access)) (sym to_is))
+
+  request_acts : (p : Packet) → Asks t q p by_request → (judging_step old.layer one.generation one.bytes).0 ≡ of_request p → At (of_request p) heard
+  request_acts p a e =
       record {
-        asks = asks;
+        asks = access_there p a.none;
         acts =
-            subst (λ j. ActsBy start ms serial q j p heard.0 (handed (suc i) 0 heard.1.0 v)) own
+            subst (λ j. ActsBy start ms serial q j p heard.0 (handed (suc i) 0 heard.1.0 v)) (judged_same p a)
             (left_acts p a (judging_for p old) (noted old one.generation one.bytes p e) (judging_law.left one.generation one.bytes empty_outbox old p e));
       }
 

@@ -214,3 +214,5 @@ pub mod OtherRequests
 pub mod TurnCounts
 pub mod ManagerRequests
 pub mod PushRequests
+pub mod Told
+pub mod ToldNotes

@@ -36,3 +36,4 @@ pub mod PushRequests
 pub mod ManagerRequests
 pub mod TargetRequests
 pub mod OtherRequests
+pub mod Told

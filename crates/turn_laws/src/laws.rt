@@ -31,6 +31,7 @@ ghost use Rattle.turn_laws.specs.Pushes.{PushesLaw};
 ghost use Rattle.turn_laws.specs.Silent.{SilentLaw};
 ghost use Rattle.turn_laws.specs.Statuses.{StatusesLaw};
 ghost use Rattle.turn_laws.specs.TargetRequests.{TargetRequestsLaw};
+ghost use Rattle.turn_laws.specs.Told.{ToldLaw};
 ghost use Rattle.turn_laws.specs.UnderWay.{AfterLaw, RomsWaitLaw, TargetWaitsLaw};
 ghost use Rattle.turn_laws.specs.Unserved.{UnservedLaw};
 
@@ -337,4 +338,13 @@ pub fn targets_send_their_requests()
 #[tactic(auto, using(crate::proofs::OtherRequests::other_requests_law))]
 pub fn other_turns_send_nothing()
     ensures { OtherRequestsLaw }
+{}
+
+/// In each turn of every run, whatever anybody injected, `told` stands exactly where an initiator got a packet whose row
+/// says so: a write of the unsolicited status block by the target to the FIFO of its latest login, while its session is
+/// not out. So it stands in no other turn, and none is missing. That this packet was sent as an unsolicited status is
+/// not said here.
+#[tactic(auto, using(crate::proofs::Told::told_law))]
+pub fn initiators_are_told_by_the_row()
+    ensures { ToldLaw }
 {}
