@@ -180,7 +180,7 @@ module _ (units ready : ℕ) (start : List Disk) where
 
       packets_for : (found : Option Body) → found ≡ body_in (demand_of action old) → ArePackets (before_requests start asking) (suc i) (behind_answer start asking) (requests_to 0 found)
       packets_for found bodies =
-          let sides = sides_are units ready start past s here k timely i inside action outbox state e in
+          let sides = sides_are units ready start past s here i inside action outbox state e in
           let rest = handed (i + 1) weight outbox v in
           let now = once_told asks (effects_of rest ++ []) in
           let before : terms now ≡ terms asks =

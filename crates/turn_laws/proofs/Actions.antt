@@ -41,6 +41,17 @@ by_notes None past line i action told e h = h
 by_notes (Some number) past line i action told e h = absurd (let no : Some number ≡ None = e in cc)
 
 module _ (units ready : ℕ) (start : List Disk) where
+  -- an action that is done tells the notes of its line
+  module _ (past : List Moment) (s : Scene) (here : Place units ready start past s) (i : ℕ) (inside : i < length s.world.initiators) (action : Action) where
+    pub sides_are : (outbox : OutboxState) (state : InitiatorState) → act_step action empty_outbox (initiator_at s.world i) ≡ (None, (outbox, state)) → outbox.sides ≡ own (action_notes action (hist past s.world) i)
+    sides_are outbox state e =
+        let ms = hist past s.world in
+        let old = initiator_at s.world i in
+        let h = here.hosts i inside in
+        ap (λ (x : Option ℕ × Called). x.1.0.sides) (sym e)
+        ∙ subst (λ j. (act_step action empty_outbox old).1.0.sides ≡ own (action_notes action ms j)) h.number
+        (action_law.notes ms old action empty_outbox (subst (λ j. AreRows ms j old.lists.slots) (sym h.number) h.rows) (ap (λ (x : Option ℕ × Called). x.0) e))
+
   module _ (past : List Moment) (s : Scene) (here : Place units ready start past s) (k : Known start (hist past s.world) s) (timely : AreTimely (hist past s.world)) (i : ℕ) (inside : i < length s.world.initiators) (action : Action) where
     abbrev ms : List Moment
     ms = hist past s.world
@@ -51,18 +62,9 @@ module _ (units ready : ℕ) (start : List Disk) where
     pub number_is : refusal_at ms i action ≡ (act_step action empty_outbox old).0
     number_is = refused_by_rows units ready start past s here i inside (k.1.each i inside) action empty_outbox timely
 
-    notes_here : (act_step action empty_outbox old).0 ≡ None → (act_step action empty_outbox old).1.0.sides ≡ own (action_notes action ms i)
-    notes_here e =
-        let h = here.hosts i inside in
-        subst (λ j. (act_step action empty_outbox old).1.0.sides ≡ own (action_notes action ms j)) h.number
-        (action_law.notes ms old action empty_outbox (subst (λ j. AreRows ms j old.lists.slots) (sym h.number) h.rows) e)
-
-    pub sides_are : (outbox : OutboxState) (state : InitiatorState) → act_step action empty_outbox old ≡ (None, (outbox, state)) → outbox.sides ≡ own (action_notes action ms i)
-    sides_are outbox state e = ap (λ (x : Option ℕ × Called). x.1.0.sides) (sym e) ∙ notes_here (ap (λ (x : Option ℕ × Called). x.0) e)
-
     pub does_so : (line weight : ℕ) (outbox : OutboxState) (state : InitiatorState) (w : WorldState) → act_step action empty_outbox old ≡ (None, (outbox, state)) → ActsByRows (turn ms (asked line (events.Act i action)) (handed (i + 1) weight outbox w))
     does_so line weight outbox state w e =
-        by_notes (refusal_at ms i action) ms line i action (handed (i + 1) weight outbox w) (number_is ∙ ap (λ (x : Option ℕ × Called). x.0) e) (acts_as_told ms i (i + 1) weight action outbox w (sides_are outbox state e))
+        by_notes (refusal_at ms i action) ms line i action (handed (i + 1) weight outbox w) (number_is ∙ ap (λ (x : Option ℕ × Called). x.0) e) (acts_as_told ms i (i + 1) weight action outbox w (sides_are past s here i inside action outbox state e))
 
     pub refuses_so : (line number : ℕ) → (act_step action empty_outbox old).0 ≡ Some number → ActsByRows (turn ms (asked line (events.Act i action)) (refused line number))
     refuses_so line number e = by_refusal (refusal_at ms i action) ms line i action (refused line number) number (number_is ∙ e) refl

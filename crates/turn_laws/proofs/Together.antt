@@ -29,6 +29,7 @@ use Rattle.turn_laws.proofs.SentPackets.{packets_run_law}
 use Rattle.turn_laws.proofs.Silent.{silent_law}
 use Rattle.turn_laws.proofs.Statuses.{statuses_law}
 use Rattle.turn_laws.proofs.TargetRequests.{target_requests_law}
+use Rattle.turn_laws.proofs.Told.{told_law}
 use Rattle.turn_laws.proofs.Unserved.{unserved_law}
 
 pub turns_law : TurnsLaw
@@ -64,6 +65,7 @@ turns_law = record {
     failing = failing_law.after_lines line run is some most size;
     runs_end = runs_end_law.after_lines line run is some most size;
     pushes = pushes_law.after_lines line run is some most size;
+    told = told_law.after_lines line run is some most size;
   };
   between = λ line run is some most size next deliveries told may. record {
     judgement = judgement_run_law.between line run is some most size next deliveries told may;
@@ -96,5 +98,6 @@ turns_law = record {
     failing = failing_law.between line run is some most size next deliveries told may;
     runs_end = runs_end_law.between line run is some most size next deliveries told may;
     pushes = pushes_law.between line run is some most size next deliveries told may;
+    told = told_law.between line run is some most size next deliveries told may;
   };
 }

@@ -1,5 +1,5 @@
 -- `told` stands in each turn of every run exactly where an initiator got a packet whose row tells of a changed medium: what it finds of the packet, and how it judges a request, is by the terms.
-use Rattle.std.proofs.Common.{arith, ◌≡◌, ◌∙◌, ◌⊎◌, inl, inr, refl, sym, ap, subst, ℕ, suc, if◌then◌else◌, ◌+◌, ◌<◌, ◌≤◌, ◌&&◌, ◌||◌, not, Bool, true, false, List, [], ◌∷◌, length, Option, Some, None, Result, Ok, Err}
+use Rattle.std.proofs.Common.{arith, ◌≡◌, ◌∙◌, ◌⊎◌, inl, inr, refl, sym, ap, ℕ, suc, if◌then◌else◌, ◌+◌, ◌<◌, ◌≤◌, ◌&&◌, ◌||◌, not, Bool, true, false, List, [], ◌∷◌, length, Option, Some, None, Result, Ok, Err}
 use Rattle.async_packet.specs.Packet.{Packet, header_in}
 use Rattle.bus_transactions.specs.Wire.{as_sending}
 use Rattle.label_table.specs.Judging.{Row, by_again, by_generation, by_grammar, by_label, by_request, by_response, row_of}
@@ -16,9 +16,8 @@ use Rattle.sbp_initiator.specs.Histories.Taking.{block_notes, brought, brought_b
 use Rattle.sbp_initiator.specs.Receiving.{receive_step}
 use Rattle.sbp_initiator.specs.declared.purpose.Purpose.{Purpose}
 use Rattle.sbp_initiator.specs.declared.state.InitiatorState.{InitiatorState}
-use Rattle.sbp_initiator.specs.Acting.{act_step}
 use Rattle.sbp_journal.specs.Addresses.{Access, access_of}
-use Rattle.sbp_journal.specs.Outgoings.{OutboxState, empty_outbox}
+use Rattle.sbp_journal.specs.Outgoings.{empty_outbox}
 use Rattle.sbp_journal.specs.Rows.{Judging, RequestFacts, first_or, ignored_as, judging_of, serving, telling}
 use Rattle.sbp_journal.specs.Run.{Moment, asked, said}
 use Rattle.sbp_journal.specs.Transactions.{Sending}
@@ -26,12 +25,10 @@ use Rattle.sbp_journal.specs.Wire.{Terms, terms}
 use Rattle.sbp_journal.specs.declared.cause.Cause.TheVariants as causes
 use Rattle.sbp_journal.specs.declared.cause.Judged.{Judged}
 use Rattle.sbp_journal.specs.declared.cause.Judged.TheVariants as judgements
-use Rattle.sbp_journal.specs.declared.event.Action.{Action}
 use Rattle.sbp_journal.specs.declared.event.Event.{Event}
 use Rattle.sbp_journal.specs.declared.note.Note.{Note}
 use Rattle.sbp_journal.specs.declared.note.Note.TheVariants as notes
 use Rattle.sbp_bus.specs.Generations.{id_of}
-use Rattle.sbp_initiator.specs.Histories.Ends.{own as own_notes}
 use Rattle.sbp_laws.specs.Actions.{action_notes}
 use Rattle.sbp_laws.specs.JudgementLaw.{facts_at, facts_of, request_facts}
 use Rattle.sbp_laws.specs.Packets.{access_in, packet_in, spelled_by}
@@ -41,13 +38,12 @@ use Rattle.sbp_initiator.specs.States.{status_in}
 use Rattle.sbp_world.proofs.Agents.CrewFirsts.{AccessIs, access_there}
 use Rattle.sbp_world.proofs.Agents.Management.Holding.{was_sent}
 use Rattle.sbp_world.proofs.Agents.Management.Still.{hist}
-use Rattle.sbp_world.specs.Hosts.Fits.{AreRows}
-use Rattle.sbp_world.proofs.Hosts.Telling.{action_law}
 use Rattle.sbp_world.specs.Lines.{weight_in}
 use Rattle.sbp_world.specs.Worlds.{Scene, WorldState, initiator_at, with_initiator, with_note}
 use Rattle.sbp_world.specs.Delivering.{marked}
 use Rattle.sbp_world.specs.Wire.Wires.{layers_of}
 use Rattle.turn_laws.specs.Told.{TellsByRow, ToldLaw, is_telling, row_tells, tells_by, packet_tells, told_by, told_of, told_to}
+use Rattle.turn_laws.proofs.Actions.{sides_are}
 use Rattle.turn_laws.proofs.AnswerNotes.{SameBus, judged_bus}
 use Rattle.turn_laws.proofs.Calls.{Brings, Cases, calls, injects, loses, refuses, refuses_action, resets, sets_key}
 use Rattle.turn_laws.proofs.FoundRows.{Asks, RowFor}
@@ -194,17 +190,6 @@ to_target start past serial q sent zero_to judgements.Got =
 to_target start past serial q sent zero_to (judgements.Ignored cause) = refl
 
 module _ (units ready : ℕ) (start : List Disk) where
-  -- an action that is done tells the notes of its line
-  sides_are : (past : List Moment) (s : Scene) → Place units ready start past s → (i : ℕ) → i < length s.world.initiators → (action : Action) (outbox : OutboxState) (state : InitiatorState) → act_step action empty_outbox (initiator_at s.world i) ≡ (None, (outbox, state))
-      → outbox.sides ≡ own_notes (action_notes action (hist past s.world) i)
-  sides_are past s here i inside action outbox state e =
-      let ms = hist past s.world in
-      let old = initiator_at s.world i in
-      let h = here.hosts i inside in
-      ap (λ (x : Option ℕ × Called). x.1.0.sides) (sym e)
-      ∙ subst (λ j. (act_step action empty_outbox old).1.0.sides ≡ own_notes (action_notes action ms j)) h.number
-      (action_law.notes ms old action empty_outbox (subst (λ j. AreRows ms j old.lists.slots) (sym h.number) h.rows) (ap (λ (x : Option ℕ × Called). x.0) e))
-
   told_cases : Cases units ready start (TellsByRow start)
   told_cases = record {
     heard = λ past s serial again run one found zero_to may others here behind noted.
@@ -227,7 +212,7 @@ module _ (units ready : ℕ) (start : List Disk) where
     ticks = λ past s others here behind noted. target_none 0 _ _ others;
     ends = λ past s done here behind. end_tells start (hist past s.world) done;
     acts = λ past s line i action outbox state inside e own here behind.
-        own_are (i + 1) (weight_in action) outbox _ (action_notes action (hist past s.world) i) (sides_are past s here i inside action outbox state e) ∙ action_none action (hist past s.world) i;
+        own_are (i + 1) (weight_in action) outbox _ (action_notes action (hist past s.world) i) (sides_are units ready start past s here i inside action outbox state e) ∙ action_none action (hist past s.world) i;
     lines = λ past s line event rest behind brings fresh here there. line_tells start line s (hist past s.world) event rest brings;
     begins = λ line initiators is_ready. refl;
   }

@@ -32,6 +32,7 @@ use Rattle.turn_laws.specs.Pushes.{PushesWhereDue}
 use Rattle.turn_laws.specs.Runs.{OfEveryRun}
 use Rattle.turn_laws.specs.Silent.{EndsHeard}
 use Rattle.turn_laws.specs.TargetRequests.{TargetAsks}
+use Rattle.turn_laws.specs.Told.{TellsByRow}
 use Rattle.turn_laws.specs.Unserved.{UnservedWhereTold}
 
 pub record LawfulInTurns (start : List Disk) (past : List Moment) : Type 0 where
@@ -65,6 +66,7 @@ pub record LawfulInTurns (start : List Disk) (past : List Moment) : Type 0 where
   pub failing : EachTurn (FailsByRows start) past
   pub runs_end : EachTurn (EndsAsRead start) past
   pub pushes : EachTurn (PushesWhereDue start) past
+  pub told : EachTurn (TellsByRow start) past
 
 abbrev pub TurnsLaw : Type 0
 TurnsLaw = OfEveryRun LawfulInTurns
