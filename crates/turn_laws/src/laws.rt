@@ -332,9 +332,10 @@ pub fn targets_send_their_requests()
     ensures { TargetRequestsLaw }
 {}
 
-/// In each turn of every run that no delivery, no time-out and no action begins, whatever anybody injected, no node sends
-/// anything: a reset that a node sees, a second, the end of a settle, and a line that is no action. An injected packet is
-/// no node's. Of `requests` of the sent law these turns, in which it has none.
+/// In each turn of every run in which nobody is to ask, whatever anybody injected, no node sends anything behind its
+/// response: with a reset that a node sees, a second, the time-out of an initiator's transaction, the end of a settle, and
+/// a line that is no action. An injected packet is no node's. Of `requests` of the sent law these turns, in which it has
+/// none; each packet that a node gets is somebody's.
 #[tactic(auto, using(crate::proofs::OtherRequests::other_requests_law))]
 pub fn other_turns_send_nothing()
     ensures { OtherRequestsLaw }
