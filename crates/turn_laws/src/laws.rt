@@ -17,6 +17,7 @@ ghost use Rattle.turn_laws.specs.Ends.{EndsLaw};
 ghost use Rattle.turn_laws.specs.Failing.{FailingLaw};
 ghost use Rattle.turn_laws.specs.Failures.{FailuresLaw};
 ghost use Rattle.turn_laws.specs.Faults.{FaultsLaw};
+ghost use Rattle.turn_laws.specs.HostRequests.{HostRequestsLaw};
 ghost use Rattle.turn_laws.specs.Judgement.{JudgementRunLaw};
 ghost use Rattle.turn_laws.specs.Login.{LoginRunLaw};
 ghost use Rattle.turn_laws.specs.ManagerRequests.{ManagerRequestsLaw};
@@ -332,9 +333,10 @@ pub fn targets_send_their_requests()
     ensures { TargetRequestsLaw }
 {}
 
-/// In each turn of every run that no delivery, no time-out and no action begins, whatever anybody injected, no node sends
-/// anything: a reset that a node sees, a second, the end of a settle, and a line that is no action. An injected packet is
-/// no node's. Of `requests` of the sent law these turns, in which it has none.
+/// In each turn of every run in which nobody is to ask, whatever anybody injected, no node sends anything behind its
+/// response: with a reset that a node sees, a second, the time-out of an initiator's transaction, the end of a settle, and
+/// a line that is no action. An injected packet is no node's. Of `requests` of the sent law these turns, in which it has
+/// none; each packet that a node gets is somebody's.
 #[tactic(auto, using(crate::proofs::OtherRequests::other_requests_law))]
 pub fn other_turns_send_nothing()
     ensures { OtherRequestsLaw }
@@ -347,4 +349,13 @@ pub fn other_turns_send_nothing()
 #[tactic(auto, using(crate::proofs::Told::told_law))]
 pub fn initiators_are_told_by_the_row()
     ensures { ToldLaw }
+{}
+
+/// In each turn of every run in which an initiator gets a packet, whatever anybody injected, it sends exactly its next
+/// read of a ROM: behind the answer with a quadlet to the latest read of a `rom` operation, where fewer than 256 were
+/// read, the read of the quadlet behind it, with the lowest label that serves it; and else nothing but its response to
+/// a request. It is `requests` of the sent law, of the turns that begin so.
+#[tactic(auto, using(crate::proofs::HostRequests::host_requests_law))]
+pub fn initiators_read_roms_on()
+    ensures { HostRequestsLaw }
 {}
