@@ -36,7 +36,7 @@ use Rattle.sbp_world.proofs.Hosts.Lives.{At, Called}
 use Rattle.sbp_world.proofs.Hosts.PointerNotes.{Fit, pointer}
 use Rattle.sbp_world.proofs.Hosts.Pointing.{called_of, pointing_of, under_way_now}
 use Rattle.sbp_world.proofs.Hosts.Shown.{IsHeard, IsShown}
-use Rattle.sbp_world.proofs.Lists.BegunBy.{begun_of, held_by, transaction_of}
+use Rattle.sbp_world.proofs.Lists.BegunBy.{IsHeld, begun_of, held_by, transaction_of}
 use Rattle.sbp_world.proofs.Pointers.Ages.{serial_is}
 use Rattle.sbp_world.proofs.Pointers.Ending.{read_in}
 use Rattle.sbp_world.proofs.Pointers.Finds.{closed_over, closes_at}
@@ -49,7 +49,7 @@ use Rattle.turn_laws.proofs.HostReads.{Reads, is_gone}
 use Rattle.turn_laws.proofs.OwnAnswers.{IsEndOf, IsRead, gives, lapses, of_write, packet_ends, quad_read, read_small, refuses, write_answer}
 use Rattle.turn_laws.proofs.OwnCalls.{lives_of}
 use Rattle.turn_laws.proofs.ReadPairs.{AreZipped, zipped_map}
-use Rattle.turn_laws.proofs.ReadsUnderWay.{ClosedFor, IsPair, WaitsAt, ended_by, got_off, got_on, judge_goes, one_transaction, waits_now}
+use Rattle.turn_laws.proofs.ReadsUnderWay.{ClosedFor, IsPair, Waiting, WaitsAt, ended_by, got_off, got_on, judge_goes, one_transaction, waits_now}
 use Rattle.turn_laws.proofs.RequestKinds.{Kinds, kind_for}
 use Rattle.turn_laws.proofs.RomEnds.{is_plain}
 
@@ -244,39 +244,65 @@ module _ (ready : Bool) (serial generation : ℕ) (bytes : List ℕ) (past : Lis
     part : part_in p ≡ response label answer
     alike : is_same_kind kind answer ≡ true
 
-  closing : (p : Packet) (label : LabelParts) (purpose : Option Purpose) → finding ≡ of_response p label purpose → IsClosed p label.number purpose
-  closing p label purpose f =
-      let n = label.number in
-      let c = closes_at s.layer generation bytes p label purpose called f in
-      let peer = h.aimed.aims (header_in p).source n purpose c in
-      let a = subst (λ x. At s.layer x n purpose) peer c in
-      let w = waits_now (T.held (v n)) a.kind (sym (shown.states n) ∙ ap shape a.state) in
-      let over : (k : Kind) (m : ℕ) → WaitsAt now i s.layer n k m → ⊥ = λ k m e.
-      closed_over s.layer generation bytes p label purpose called f (purpose_for l.peers s.target n)
-      (subst (λ x. At l x n (purpose_for l.peers s.target n)) (sym peer) (left_there n k m e)) in
-      let gone : (b : Bool) → is_gone (answered_at T serial) w.serial ≡ b → is_gone (answered_at T serial) w.serial ≡ true = gone_by (λ g. over w.kind w.serial (got_on past fit.serials serial heard.packet heard.sent (v n) w.kind w.serial w.is g)) in
-      let answered = gone_some (answered_at T serial) w.serial (gone (is_gone (answered_at T serial) w.serial) refl) in
-      let x = answered_part T serial heard.packet heard.sent w.serial answered in
-      let y = held_by (T.held (between heard.packet heard.packet.to heard.packet.from x.number)) x.kind w.serial x.closes in
-      let same = one_transaction past fit.serials (between heard.packet heard.packet.to heard.packet.from x.number) (v n) y.kind w.kind w.serial y.is w.is in
-      let read = ap reading heard.bytes_are ∙ read_in s.layer generation bytes p label purpose f in
-      record {
-        at = a;
-        kind = w.kind;
-        own = w.serial;
-        held = w.is;
-        answered = answered;
-        packet = ap packet_in heard.sent ∙ ap spelled_by read;
-        read = read;
-        label = x.number;
-        answer = x.kind;
-        part = sym (part_read heard.packet.bytes p read) ∙ x.part;
-        alike = closes_alike w.kind w.serial x.kind w.serial (ap (λ z. closed_by z x.kind) (sym w.is) ∙ ap (λ u. closed_by (T.held u) x.kind) (sym same) ∙ x.closes);
-      }
-    where
-      gone_by : {b : Bool} → (b ≡ false → ⊥) → (c : Bool) → b ≡ c → b ≡ true
-      gone_by f true e = e
-      gone_by f false e = absurd (f e)
+  module _ (p : Packet) (label : LabelParts) (purpose : Option Purpose) (f : finding ≡ of_response p label purpose) where
+    from_source : At s.layer (header_in p).source label.number purpose
+    from_source = closes_at s.layer generation bytes p label purpose called f
+
+    of_target : (header_in p).source ≡ s.target
+    of_target = h.aimed.aims (header_in p).source label.number purpose from_source
+
+    was_there : At s.layer s.target label.number purpose
+    was_there = subst (λ x. At s.layer x label.number purpose) of_target from_source
+
+    waited : Waiting (T.held (v label.number))
+    waited = waits_now (T.held (v label.number)) was_there.kind (sym (shown.states label.number) ∙ ap shape was_there.state)
+
+    none_left : (k : Kind) (m : ℕ) → WaitsAt now i s.layer label.number k m → ⊥
+    none_left k m e =
+        closed_over s.layer generation bytes p label purpose called f (purpose_for l.peers s.target label.number)
+        (subst (λ x. At l x label.number (purpose_for l.peers s.target label.number)) (sym of_target) (left_there label.number k m e))
+
+    answered_is : answered_at T serial ≡ Some waited.serial
+    answered_is = gone_some (answered_at T serial) waited.serial (by (is_gone (answered_at T serial) waited.serial) refl)
+      where
+        by : (b : Bool) → is_gone (answered_at T serial) waited.serial ≡ b → is_gone (answered_at T serial) waited.serial ≡ true
+        by true e = e
+        by false e = absurd (none_left waited.kind waited.serial (got_on past fit.serials serial heard.packet heard.sent (v label.number) waited.kind waited.serial waited.is e))
+
+    response_is : Answered T heard.packet waited.serial
+    response_is = answered_part T serial heard.packet heard.sent waited.serial answered_is
+
+    abbrev its : Transaction
+    its = between heard.packet heard.packet.to heard.packet.from response_is.number
+
+    its_held : IsHeld (T.held its) waited.serial
+    its_held = held_by (T.held its) response_is.kind waited.serial response_is.closes
+
+    its_is : its ≡ v label.number
+    its_is = one_transaction past fit.serials its (v label.number) its_held.kind waited.kind waited.serial its_held.is waited.is
+
+    read_is : reading heard.packet.bytes ≡ Ok p
+    read_is = ap reading heard.bytes_are ∙ read_in s.layer generation bytes p label purpose f
+
+    alike_is : is_same_kind waited.kind response_is.kind ≡ true
+    alike_is =
+        closes_alike waited.kind waited.serial response_is.kind waited.serial
+        (ap (λ z. closed_by z response_is.kind) (sym waited.is) ∙ ap (λ u. closed_by (T.held u) response_is.kind) (sym its_is) ∙ response_is.closes)
+
+    closing : IsClosed p label.number purpose
+    closing = record {
+      at = was_there;
+      kind = waited.kind;
+      own = waited.serial;
+      held = waited.is;
+      answered = answered_is;
+      packet = ap packet_in heard.sent ∙ ap spelled_by read_is;
+      read = read_is;
+      label = response_is.number;
+      answer = response_is.kind;
+      part = sym (part_read heard.packet.bytes p read_is) ∙ response_is.part;
+      alike = alike_is;
+    }
 
   -- its kind is that of what it was for
   kind_is : (p : Packet) (number : ℕ) (purpose : Purpose) → is_plain purpose ≡ true → (c : IsClosed p number (Some purpose)) → c.kind ≡ kind_for purpose
