@@ -37,3 +37,4 @@ pub mod PushRequests
 pub mod ManagerRequests
 pub mod TargetRequests
 pub mod OtherRequests
+pub mod Requests
