@@ -213,6 +213,7 @@ pub mod RequestPackets
 pub mod AgentRequests
 pub mod TargetRequests
 pub mod OtherRequests
+pub mod Requests
 pub mod TurnCounts
 pub mod ManagerRequests
 pub mod PushRequests

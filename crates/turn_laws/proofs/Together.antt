@@ -1,7 +1,5 @@
 -- The laws of turns of every run, together.
 use Rattle.turn_laws.specs.Together.{TurnsLaw}
-use Rattle.turn_laws.proofs.ActRequests.{act_requests_law}
-use Rattle.turn_laws.proofs.AgentRequests.{agent_requests_law}
 use Rattle.turn_laws.proofs.Actions.{actions_law}
 use Rattle.turn_laws.proofs.Aborts.{aborts_law}
 use Rattle.turn_laws.proofs.AnswerRuns.{answered_law}
@@ -15,21 +13,17 @@ use Rattle.turn_laws.proofs.FailingRuns.{failing_law}
 use Rattle.turn_laws.proofs.FailureNotes.{failures_law}
 use Rattle.turn_laws.proofs.Ends.{ends_law}
 use Rattle.turn_laws.proofs.Faults.{faults_law}
-use Rattle.turn_laws.proofs.HostRequests.{host_requests_law}
 use Rattle.turn_laws.proofs.Judgements.{judgement_run_law}
 use Rattle.turn_laws.proofs.LoginRuns.{login_run_law}
-use Rattle.turn_laws.proofs.ManagerRequests.{manager_requests_law}
-use Rattle.turn_laws.proofs.PushRequests.{push_requests_law}
 use Rattle.turn_laws.proofs.Pushes.{pushes_law}
 use Rattle.turn_laws.proofs.Once.{once_law}
-use Rattle.turn_laws.proofs.OtherRequests.{other_requests_law}
 use Rattle.turn_laws.proofs.OrderRuns.{ordered_law}
+use Rattle.turn_laws.proofs.Requests.{requests_run_law}
 use Rattle.turn_laws.proofs.RomRuns.{after_law}
 use Rattle.turn_laws.proofs.RunEnds.{runs_end_law}
 use Rattle.turn_laws.proofs.SentPackets.{packets_run_law}
 use Rattle.turn_laws.proofs.Silent.{silent_law}
 use Rattle.turn_laws.proofs.Statuses.{statuses_law}
-use Rattle.turn_laws.proofs.TargetRequests.{target_requests_law}
 use Rattle.turn_laws.proofs.Told.{told_law}
 use Rattle.turn_laws.proofs.Unserved.{unserved_law}
 
@@ -39,13 +33,7 @@ turns_law = record {
     judgement = judgement_run_law.after_lines line run is some most size;
     login = login_run_law.after_lines line run is some most size;
     actions = actions_law.after_lines line run is some most size;
-    act_requests = act_requests_law.after_lines line run is some most size;
-    agent_requests = agent_requests_law.after_lines line run is some most size;
-    manager_requests = manager_requests_law.after_lines line run is some most size;
-    push_requests = push_requests_law.after_lines line run is some most size;
-    target_requests = target_requests_law.after_lines line run is some most size;
-    other_requests = other_requests_law.after_lines line run is some most size;
-    host_requests = host_requests_law.after_lines line run is some most size;
+    requests = requests_run_law.after_lines line run is some most size;
     ordered = ordered_law.after_lines line run is some most size;
     cuts = cuts_law.after_lines line run is some most size;
     cleared = cleared_law.after_lines line run is some most size;
@@ -73,13 +61,7 @@ turns_law = record {
     judgement = judgement_run_law.between line run is some most size next deliveries told may;
     login = login_run_law.between line run is some most size next deliveries told may;
     actions = actions_law.between line run is some most size next deliveries told may;
-    act_requests = act_requests_law.between line run is some most size next deliveries told may;
-    agent_requests = agent_requests_law.between line run is some most size next deliveries told may;
-    manager_requests = manager_requests_law.between line run is some most size next deliveries told may;
-    push_requests = push_requests_law.between line run is some most size next deliveries told may;
-    target_requests = target_requests_law.between line run is some most size next deliveries told may;
-    other_requests = other_requests_law.between line run is some most size next deliveries told may;
-    host_requests = host_requests_law.between line run is some most size next deliveries told may;
+    requests = requests_run_law.between line run is some most size next deliveries told may;
     ordered = ordered_law.between line run is some most size next deliveries told may;
     cuts = cuts_law.between line run is some most size next deliveries told may;
     cleared = cleared_law.between line run is some most size next deliveries told may;

@@ -38,3 +38,4 @@ pub mod ManagerRequests
 pub mod TargetRequests
 pub mod OtherRequests
 pub mod Told
+pub mod Requests

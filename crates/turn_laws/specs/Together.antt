@@ -11,10 +11,9 @@ use Rattle.sbp_laws.specs.LoginLaw.{LoginLaw}
 use Rattle.sbp_laws.specs.SentAnswers.{AnswersLaw}
 use Rattle.sbp_laws.specs.SentLaw.{AfterTurn}
 use Rattle.sbp_laws.specs.SentPackets.{SentAt}
+use Rattle.sbp_laws.specs.SentRequests.{RequestsLaw}
 use Rattle.sbp_laws.specs.SentWrites.{DecisionsAreSent, StatusesAreSent}
 use Rattle.sbp_laws.specs.Turns.{EachMoment, EachTurn}
-use Rattle.turn_laws.specs.ActRequests.{ActsByRequests}
-use Rattle.turn_laws.specs.AgentRequests.{AgentAsks}
 use Rattle.turn_laws.specs.Actions.{ActsByRows}
 use Rattle.turn_laws.specs.Cleared.{ClearsWhereDue}
 use Rattle.turn_laws.specs.Codes.{EndsWithCodes}
@@ -24,15 +23,10 @@ use Rattle.turn_laws.specs.Failing.{FailsByRows}
 use Rattle.turn_laws.specs.Failures.{FailsWhereDue}
 use Rattle.turn_laws.specs.Ends.{EndsWhereDue}
 use Rattle.turn_laws.specs.Faults.{DiesBeforeFaults}
-use Rattle.turn_laws.specs.HostRequests.{HostAsks}
-use Rattle.turn_laws.specs.ManagerRequests.{ManagerAsks}
 use Rattle.turn_laws.specs.Once.{DiesOnce}
-use Rattle.turn_laws.specs.PushRequests.{PushesAsk}
-use Rattle.turn_laws.specs.OtherRequests.{OtherAsks}
 use Rattle.turn_laws.specs.Pushes.{PushesWhereDue}
 use Rattle.turn_laws.specs.Runs.{OfEveryRun}
 use Rattle.turn_laws.specs.Silent.{EndsHeard}
-use Rattle.turn_laws.specs.TargetRequests.{TargetAsks}
 use Rattle.turn_laws.specs.Told.{TellsByRow}
 use Rattle.turn_laws.specs.Unserved.{UnservedWhereTold}
 
@@ -40,13 +34,7 @@ pub record LawfulInTurns (start : List Disk) (past : List Moment) : Type 0 where
   pub judgement : JudgementLaw start past
   pub login : LoginLaw start past
   pub actions : EachTurn ActsByRows past
-  pub act_requests : EachTurn (ActsByRequests start) past
-  pub agent_requests : EachTurn (AgentAsks start) past
-  pub manager_requests : EachTurn (ManagerAsks start) past
-  pub push_requests : EachTurn (PushesAsk start) past
-  pub target_requests : EachTurn (TargetAsks start) past
-  pub other_requests : EachTurn (OtherAsks start) past
-  pub host_requests : EachTurn (HostAsks start) past
+  pub requests : EachTurn (RequestsLaw start) past
   pub ordered : EachTurn Ordered past
   pub cuts : EachTurn (CutsWhereDue start) past
   pub cleared : EachTurn (ClearsWhereDue start) past

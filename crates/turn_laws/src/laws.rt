@@ -26,6 +26,7 @@ ghost use Rattle.turn_laws.specs.Operations.{NoneEndsLaw};
 ghost use Rattle.turn_laws.specs.Ordered.{OrderedLaw};
 ghost use Rattle.turn_laws.specs.OtherRequests.{OtherRequestsLaw};
 ghost use Rattle.turn_laws.specs.Packets.{PacketsLaw};
+ghost use Rattle.turn_laws.specs.Requests.{RequestsRunLaw};
 ghost use Rattle.turn_laws.specs.RunsEnd.{RunsEndLaw};
 ghost use Rattle.turn_laws.specs.PushRequests.{PushRequestsLaw};
 ghost use Rattle.turn_laws.specs.Pushes.{PushesLaw};
@@ -358,4 +359,13 @@ pub fn initiators_are_told_by_the_row()
 #[tactic(auto, using(crate::proofs::HostRequests::host_requests_law))]
 pub fn initiators_read_roms_on()
     ensures { HostRequestsLaw }
+{}
+
+/// In each turn of every run, whatever anybody injected, behind its response exactly those requests are sent that an
+/// agent, the management operation, a load, an initiator's action or its read of a ROM has in it and finds a label for, in
+/// this order, and no more: each with the next serial, in its sender's generation, to its node, and spelled canonically
+/// under the lowest label that serves it. It is `requests` of the sent law.
+#[tactic(auto, using(crate::proofs::Requests::requests_run_law))]
+pub fn requests_are_sent_where_due()
+    ensures { RequestsRunLaw }
 {}
