@@ -202,6 +202,8 @@ pub mod RomSmall
 pub mod RomKnown
 pub mod KnownCarried
 pub mod KnownRuns
+pub mod RomSends
+pub mod HostRequests
 pub mod SentBodies
 pub mod SentOwn
 pub mod TurnSends

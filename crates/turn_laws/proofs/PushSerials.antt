@@ -39,7 +39,7 @@ gets_as_count (request label kind) s q t = judges_count _ None s q t
 gets_as_count (response label kind) s q t = closes_count _ _ kind _ t
 gets_as_count no_packet s q t = refl
 
-gets_count : (q : Option Sending) (s : ℕ) (t : Terms) → (gets q s t).count ≡ t.count
+pub gets_count : (q : Option Sending) (s : ℕ) (t : Terms) → (gets q s t).count ≡ t.count
 gets_count None s t = refl
 gets_count (Some q) s t = gets_as_count (part_of q.bytes) s q (is_served s (is_news s (arrives s t)))
 

@@ -77,6 +77,7 @@ use Rattle.turn_laws.proofs.FoundRows.{Asks, RowFor}
 use Rattle.turn_laws.proofs.Handed.{handed, notes_sent, notes_told, onto, onto_both, packet_note}
 use Rattle.turn_laws.proofs.HostRoms.{AllOwn, Rom, all_told, beside_rom, got_quads, got_rom, left_rom, note_rom, rom, rom_at, sent_rom, told_rom}
 use Rattle.turn_laws.proofs.OwnAnswers.{IsEndOf, IsRead, gives, lapses, packet_ends, quad_read, read_small, refuses}
+use Rattle.turn_laws.proofs.OwnFacts.{operation_same}
 use Rattle.turn_laws.proofs.Places.{HasCalls, HasPairs, Place}
 use Rattle.turn_laws.proofs.RomEnds.{known_at, left_own, own_rom, read_on}
 use Rattle.turn_laws.proofs.RomLabels.{IfRom, IsRom, RomAt, RomLabel}
@@ -163,11 +164,11 @@ module _ (i : ℕ) (s : InitiatorState) (number : s.number ≡ i) (q : List ℕ)
   now_small L n h = subst (λ (r : Rom). IsSmallDistance r.management) (sym (now_is L n)) (told_small L.told (rom_at (map said v.fresh ++ then) i) h)
 
 -- ---- a quadlet more
-one_longer : (quads : List ℕ) (value : ℕ) → length (quads ++ (value ∷ [])) ≡ suc (length quads)
+pub one_longer : (quads : List ℕ) (value : ℕ) → length (quads ++ (value ∷ [])) ≡ suc (length quads)
 one_longer [] value = refl
 one_longer (quad ∷ quads) value = ap suc (one_longer quads value)
 
-more_quads : (quads : List ℕ) (value : ℕ) → length quads < 256 → with_own quads value ≡ quads ++ (value ∷ [])
+pub more_quads : (quads : List ℕ) (value : ℕ) → length quads < 256 → with_own quads value ≡ quads ++ (value ∷ [])
 more_quads quads value few = (let e : nat_lt (length quads) 256 ≡ true = grind (arith, nat_tests) in ap (λ b. cond b (quads ++ (value ∷ [])) quads) e)
 
 pub read_more : (quads : List ℕ) → length quads < 256 → (ending : Ending) → length (read_on ending quads) ≤ 256
@@ -185,9 +186,6 @@ no_quad (Payload bytes) quads = refl
 no_quad answer quads = refl
 
 -- ---- the operation of the terms, by that of the initiator
-operation_in_work : (u : Underway) (r : Running) → work_of (Some u) ≡ work_in (Some r) → u.operation ≡ r.operation
-operation_in_work u r w = same_Some u.operation r.operation (ap operation_by w)
-
 rom_operation : (u : Underway) (r : Running) → u.operation ≡ r.operation → is_rom (Some u) ≡ true → r.operation ≡ operations.Rom
 rom_operation u r e f = sym e ∙ by u.operation refl f
   where
@@ -196,7 +194,7 @@ rom_operation u r e f = sym e ∙ by u.operation refl f
     by operation g k = untrue k
 
 word_is : (u : Underway) (r : Running) → work_of (Some u) ≡ work_in (Some r) → r.operation ≡ operations.Rom → is_rom (Some u) ≡ true
-word_is u r w k = ap (λ o. is_rom (Some (record u { operation = o }))) (operation_in_work u r w ∙ k)
+word_is u r w k = ap (λ o. is_rom (Some (record u { operation = o }))) (operation_same u r w ∙ k)
 
 no_work : (u : Underway) → work_of (Some u) ≡ work_in None → ⊥
 no_work u w = (let no : Some u.operation ≡ None = ap operation_by w in cc)
@@ -258,7 +256,7 @@ module _ (units ready : ℕ) (start : List Disk) (past : List Moment) (s : Scene
   reads_own u e f = by old.operation refl (ap work_of (sym e) ∙ work_is)
     where
       by : (o : Option Running) → old.operation ≡ o → work_of (Some u) ≡ work_in o → Reading u
-      by (Some r) g w = record { running = r; is = g; kind = rom_operation u r (operation_in_work u r w) f }
+      by (Some r) g w = record { running = r; is = g; kind = rom_operation u r (operation_same u r w) f }
       by None g w = absurd (no_work u w)
 
   -- ---- a packet that it hears
@@ -266,18 +264,18 @@ module _ (units ready : ℕ) (start : List Disk) (past : List Moment) (s : Scene
     abbrev q : Sending
     q = as_sending one
 
-    was_it : wire.sent serial ≡ Some q
+    pub was_it : wire.sent serial ≡ Some q
     was_it = was_sent s.world stands serial one found
 
-    packet_is : (p : Packet) → reading one.bytes ≡ Ok p → packet_at wire serial ≡ Some p
+    pub packet_is : (p : Packet) → reading one.bytes ≡ Ok p → packet_at wire serial ≡ Some p
     packet_is p read = ap packet_in was_it ∙ ap (λ (r : Result Packet PacketFault). spelled_by r) read
 
     -- a response
     module _ (p : Packet) (label : LabelParts) (purpose : Option Purpose) (e : (judging_step old.layer one.generation one.bytes).0 ≡ of_response p label purpose) (judged : AreJudged (said (notes.Got serial) ∷ ms)) where
-      read : reading one.bytes ≡ Ok p
+      pub read : reading one.bytes ≡ Ok p
       read = read_in old.layer one.generation one.bytes p label purpose e
 
-      a : IsAnswer wire serial q p
+      pub a : IsAnswer wire serial q p
       a = answers wire serial q p was_it read (kind_in old.layer one.generation one.bytes p label purpose e) (judged.0 q was_it)
 
       closes : At old.layer (header_in p).source label.number purpose
@@ -286,10 +284,10 @@ module _ (units ready : ℕ) (start : List Disk) (past : List Moment) (s : Scene
       source_is : (header_in p).source ≡ old.target
       source_is = aimed.aims (header_in p).source label.number purpose closes
 
-      generation_now : one.generation ≡ old.layer.generation
+      pub generation_now : one.generation ≡ old.layer.generation
       generation_now = a.current ∙ ap (λ n. wire.generation n) to_is ∙ sym shown.generation
 
-      from_is : one.from ≡ 0
+      pub from_is : one.from ≡ 0
       from_is =
           ids_apart one.generation one.from 0 (sym ((is_of s.world stands serial one found).source p read) ∙ source_is ∙ sym shown.named ∙ ap (λ g. wire.ids g 0) (sym generation_now))
         where
@@ -301,7 +299,7 @@ module _ (units ready : ℕ) (start : List Disk) (past : List Moment) (s : Scene
       there : At old.layer old.target label.number purpose
       there = subst (λ n. At old.layer n label.number purpose) source_is closes
 
-      held_is : wire.held (own_of label.number) ≡ waits a.waited a.own
+      pub held_is : wire.held (own_of label.number) ≡ waits a.waited a.own
       held_is =
           ap (λ n. wire.held (own_of n)) (label_number old.layer one.generation one.bytes p label purpose e)
           ∙ ap (λ g. wire.held (transaction g (suc i) 0 (header_in p).label)) (sym generation_now)
@@ -324,10 +322,10 @@ module _ (units ready : ℕ) (start : List Disk) (past : List Moment) (s : Scene
         runs : IsRom act old.operation
         runs = h.one.runs label.number act at_rom
 
-        is_of_rom : IsRom act old.operation
+        pub is_of_rom : IsRom act old.operation
         is_of_rom = runs
 
-        abbrev RunsRom : Option Underway → Type 0
+        abbrev pub RunsRom : Option Underway → Type 0
         RunsRom u = (is_rom u && is_latest u a.own) ≡ true
 
         latest_by : (u : Option Underway) → host.operation ≡ u → work_of u ≡ work_in (Some runs.running) → RunsRom u
@@ -336,10 +334,10 @@ module _ (units ready : ℕ) (start : List Disk) (past : List Moment) (s : Scene
             ap (λ b. b && (u.latest == a.own)) (word_is u runs.running w runs.kind)
             ∙ ap (λ n. n == a.own) (sym (h.tie label.number act at_rom u f) ∙ sym waits_here.current) ∙ same_number a.own
 
-        latest : RunsRom host.operation
+        pub latest : RunsRom host.operation
         latest = latest_by host.operation refl (work_is ∙ ap work_in runs.is)
 
-        reads : IsRead (ending_of p) (answer_of p)
+        pub reads : IsRead (ending_of p) (answer_of p)
         reads =
             quad_read (ending_of p) (answer_of p)
             (subst (λ k. IsEndOf k (ending_of p) (answer_of p)) (h.kind label.number act at_rom a.waited a.own held_is)
@@ -378,7 +376,7 @@ module _ (units ready : ℕ) (start : List Disk) (past : List Moment) (s : Scene
                 ap (λ (x : Transaction). x.label)
                 (same_Some (own_of l.number) (own_of label.number) (sym waits_there.begun ∙ ap (λ x. begun_by x) packet_same ∙ waits_here.begun))
 
-        not_latest : (u : Option Underway) → host.operation ≡ u → (is_rom u && is_latest u a.own) ≡ false
+        pub not_latest : (u : Option Underway) → host.operation ≡ u → (is_rom u && is_latest u a.own) ≡ false
         not_latest None f = refl
         not_latest (Some u) f = other_by u f (is_rom (Some u)) (u.latest == a.own) refl refl
 
@@ -391,7 +389,7 @@ module _ (units ready : ℕ) (start : List Disk) (past : List Moment) (s : Scene
       got quads e =
           ap known_rom (got_rom serial q ms i was_it to_is) ∙ ap (λ xs. rom xs (known_at host.management)) e ∙ ap (λ m. rom quads m) (ap (λ (r : Rom). r.management) k.is)
 
-      quads_are : host.quads ≡ old.quads
+      pub quads_are : host.quads ≡ old.quads
       quads_are = ap (λ (r : Rom). r.quads) k.is
 
       module _ (p : Packet) (label : LabelParts) (purpose : Option Purpose) (e : (judging_step old.layer one.generation one.bytes).0 ≡ of_response p label purpose) (judged : AreJudged (said (notes.Got serial) ∷ ms)) where
@@ -431,7 +429,7 @@ module _ (units ready : ℕ) (start : List Disk) (past : List Moment) (s : Scene
         response_few (Some (purposes.State other list)) f = inl refl
         response_few None f = inl refl
 
-      unanswered : (p : Packet) → Asks wire q p by_request → PartOf p → answered_at wire serial ≡ None
+      pub unanswered : (p : Packet) → Asks wire q p by_request → PartOf p → answered_at wire serial ≡ None
       unanswered p a (asks l kind part none) = answers_none wire serial q l kind was_it (part_read one.bytes p a.read ∙ part)
       unanswered p a (replies l kind part some) = absurd (let no : Some _ ≡ None = sym some ∙ a.none in cc)
 

@@ -29,6 +29,7 @@ pub mod UnderWay
 pub mod Actions
 pub mod ActRequests
 pub mod ActEntries
+pub mod HostRequests
 pub mod Together
 pub mod RunsEnd
 pub mod AgentRequests

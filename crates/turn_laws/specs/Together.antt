@@ -24,6 +24,7 @@ use Rattle.turn_laws.specs.Failing.{FailsByRows}
 use Rattle.turn_laws.specs.Failures.{FailsWhereDue}
 use Rattle.turn_laws.specs.Ends.{EndsWhereDue}
 use Rattle.turn_laws.specs.Faults.{DiesBeforeFaults}
+use Rattle.turn_laws.specs.HostRequests.{HostAsks}
 use Rattle.turn_laws.specs.ManagerRequests.{ManagerAsks}
 use Rattle.turn_laws.specs.Once.{DiesOnce}
 use Rattle.turn_laws.specs.PushRequests.{PushesAsk}
@@ -45,6 +46,7 @@ pub record LawfulInTurns (start : List Disk) (past : List Moment) : Type 0 where
   pub push_requests : EachTurn (PushesAsk start) past
   pub target_requests : EachTurn (TargetAsks start) past
   pub other_requests : EachTurn (OtherAsks start) past
+  pub host_requests : EachTurn (HostAsks start) past
   pub ordered : EachTurn Ordered past
   pub cuts : EachTurn (CutsWhereDue start) past
   pub cleared : EachTurn (ClearsWhereDue start) past

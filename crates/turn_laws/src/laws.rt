@@ -17,6 +17,7 @@ ghost use Rattle.turn_laws.specs.Ends.{EndsLaw};
 ghost use Rattle.turn_laws.specs.Failing.{FailingLaw};
 ghost use Rattle.turn_laws.specs.Failures.{FailuresLaw};
 ghost use Rattle.turn_laws.specs.Faults.{FaultsLaw};
+ghost use Rattle.turn_laws.specs.HostRequests.{HostRequestsLaw};
 ghost use Rattle.turn_laws.specs.Judgement.{JudgementRunLaw};
 ghost use Rattle.turn_laws.specs.Login.{LoginRunLaw};
 ghost use Rattle.turn_laws.specs.ManagerRequests.{ManagerRequestsLaw};
@@ -347,4 +348,13 @@ pub fn other_turns_send_nothing()
 #[tactic(auto, using(crate::proofs::Told::told_law))]
 pub fn initiators_are_told_by_the_row()
     ensures { ToldLaw }
+{}
+
+/// In each turn of every run in which an initiator gets a packet, whatever anybody injected, it sends exactly its next
+/// read of a ROM: behind the answer with a quadlet to the latest read of a `rom` operation, where fewer than 256 were
+/// read, the read of the quadlet behind it, with the lowest label that serves it; and else nothing but its response to
+/// a request. It is `requests` of the sent law, of the turns that begin so.
+#[tactic(auto, using(crate::proofs::HostRequests::host_requests_law))]
+pub fn initiators_read_roms_on()
+    ensures { HostRequestsLaw }
 {}
