@@ -1,5 +1,5 @@
--- The requests of an initiator that gets a packet: the next read of a ROM behind the answer to the latest one, and no other.
-use Rattle.std.proofs.Common.{arith, ◌≡◌, ◌∙◌, refl, sym, ap, subst, ℕ, zero, suc, ◌+◌, ◌*◌, ◌%◌, ◌^◌, ◌<◌, ◌≤◌, ◌==◌, ◌&&◌, ◌||◌, nat_lt, not, is_some, Bool, true, false, cond, List, [], ◌∷◌, ◌++◌, drop, length, Option, Some, None}
+-- The requests of an initiator that gets a packet: the next read of a ROM behind the answer to the latest one, and no other; and a time-out has none.
+use Rattle.std.proofs.Common.{arith, ◌≡◌, ◌∙◌, refl, sym, ap, subst, ℕ, zero, suc, ◌+◌, ◌*◌, ◌%◌, ◌^◌, ◌<◌, ◌≤◌, ◌==◌, ◌&&◌, ◌||◌, nat_lt, not, is_some, Bool, true, false, cond, List, [], ◌∷◌, ◌++◌, drop, length, Option, Some, None, Result, Ok, Err}
 use Rattle.std.proofs.lemmas.Bool.Decides.{nat_tests}
 use Rattle.async_packet.specs.Canon.{IsValid, canon}
 use Rattle.async_packet.proofs.Headers.{header_spelled}
@@ -17,9 +17,10 @@ use Rattle.bus_transactions.proofs.Follows.{last_is}
 use Rattle.bus_transactions.proofs.PacketParts.{part_case}
 use Rattle.label_table.specs.Bodies.{Body, header_to, quadlet_read, request_with}
 use Rattle.label_table.specs.Judging.{by_request}
-use Rattle.label_table.specs.Layer.{Finding, Layer, answering_step, asking_step, judging_step, of_again, of_generation, of_grammar, of_label, of_request, of_response}
+use Rattle.label_table.specs.Layer.{Finding, Layer, answering_step, asking_step, expiring_step, judging_step, of_again, of_generation, of_grammar, of_label, of_request, of_response}
 use Rattle.label_table.specs.Requests.{is_last, is_write, with_label}
 use Rattle.label_table.specs.declared.judgement.Asked.{Asked}
+use Rattle.label_table.specs.declared.reply.Stale.{Stale}
 use Rattle.orb_layout.specs.Replies.{Answer, Expired, Payload, Refused}
 use Rattle.packet_store.specs.Kept.{found_sent}
 use Rattle.packet_store.specs.Stored.{Stored}
@@ -28,11 +29,13 @@ use Rattle.rbc_disk.specs.Disk.{Disk}
 use Rattle.sbp_base.specs.Update.{upd}
 use Rattle.sbp_bus.specs.Generations.{GenerationsState, node_of, topology_at}
 use Rattle.sbp_bus.specs.Packets.{end_note, judged_note}
+use Rattle.sbp_bus.specs.Requests.{find}
+use Rattle.sbp_bus.specs.declared.requests.Request.{Request as RequestOf}
 use Rattle.sbp_initiator.proofs.Histories.Over.{sound}
 use Rattle.sbp_initiator.proofs.Histories.Requests.{HasOrb, request_answers}
 use Rattle.sbp_initiator.specs.Effects.{Turn as Called, ended_for, next_quad}
 use Rattle.sbp_initiator.specs.Histories.Moves.{outgoing, response as replied}
-use Rattle.sbp_initiator.specs.Receiving.{called, receive_step, received, request_step}
+use Rattle.sbp_initiator.specs.Receiving.{called, expire_step, receive_step, received, request_step}
 use Rattle.sbp_initiator.specs.States.{ending_of}
 use Rattle.sbp_initiator.specs.declared.purpose.Ending.{Ending}
 use Rattle.sbp_initiator.specs.declared.purpose.Ending.TheVariants as endings
@@ -40,7 +43,7 @@ use Rattle.sbp_initiator.specs.declared.purpose.Purpose.{Purpose}
 use Rattle.sbp_initiator.specs.declared.purpose.Purpose.TheVariants as purposes
 use Rattle.sbp_initiator.specs.declared.state.InitiatorState.{InitiatorState}
 use Rattle.sbp_journal.specs.Addresses.{rom_base}
-use Rattle.sbp_journal.specs.Outgoings.{empty_outbox}
+use Rattle.sbp_journal.specs.Outgoings.{OutboxState, empty_outbox}
 use Rattle.sbp_journal.specs.Run.{Moment, asked, said}
 use Rattle.sbp_journal.specs.Transactions.{Kind, Part, Sending, Transaction, asked_by, between, is_same_kind, no_packet, part_of, request, response}
 use Rattle.sbp_journal.specs.Wire.{Held, Terms, arrives, closes, closes_if, free, gets, gets_as, is_news, is_served, judges, rests, terms, waits}
@@ -54,11 +57,12 @@ use Rattle.sbp_laws.specs.Agents.{Request, requests_to}
 use Rattle.sbp_laws.specs.Deliveries.{once_told}
 use Rattle.sbp_laws.specs.Hosts.{host_at, is_latest, is_rom}
 use Rattle.sbp_laws.specs.Operations.{next_read}
-use Rattle.sbp_laws.specs.Packets.{answer_in, answer_of, answered_at, closed_by, finds_label, is_free, label_for, lowest_from, receiver_in, request_bytes, serves}
+use Rattle.sbp_laws.specs.Packets.{answer_in, answer_of, answered_at, closed_by, finds_label, is_free, label_for, lowest_from, receiver_in, request_bytes, sender_in, serves}
 use Rattle.sbp_laws.specs.SentAnswers.{answers_to}
-use Rattle.sbp_laws.specs.SentRequests.{ArePackets, IsRequest, RequestsLaw, asks_at, before_requests, behind_answer, host_requests}
+use Rattle.sbp_laws.specs.SentRequests.{ArePackets, IsRequest, RequestsLaw, asks_at, before_requests, behind_answer, expiring, host_requests}
 use Rattle.sbp_laws.specs.Turns.{Turn, Where, effects_of, sends_of, turn}
 use Rattle.sbp_world.proofs.Agents.CrewFirsts.{access_there}
+use Rattle.sbp_world.proofs.Agents.CrewLapse.{asked as asked_late}
 use Rattle.sbp_world.proofs.Agents.Management.Hearing.{IsAnswer}
 use Rattle.sbp_world.proofs.Agents.Management.Holding.{past_terms, was_sent}
 use Rattle.sbp_world.proofs.Agents.Management.Still.{hist}
@@ -73,14 +77,15 @@ use Rattle.sbp_world.proofs.Wire.Bus.{holds}
 use Rattle.sbp_world.proofs.Wire.Deliver.{judged_marked}
 use Rattle.sbp_world.proofs.Wire.Holding.{target_small, to_target}
 use Rattle.sbp_world.proofs.Wire.Sound.{opens}
-use Rattle.sbp_target.specs.Receiving.{received as heard_target}
+use Rattle.sbp_target.specs.Nodes.{Scene as TargetScene, scene as target_scene}
+use Rattle.sbp_target.specs.Receiving.{expired, expired_in, received as heard_target}
+use Rattle.sbp_target.specs.declared.purpose.Purpose.{Purpose as TargetPurpose}
 use Rattle.sbp_world.specs.Delivering.{marked, whole_of}
 use Rattle.sbp_world.specs.Sending.{sent}
 use Rattle.sbp_world.specs.Telling.{told_all}
 use Rattle.sbp_world.specs.Wire.Wires.{Stands, StandsAt, layers_of}
 use Rattle.sbp_world.specs.Worlds.{Scene, WorldState, initiator_at, with_initiator, with_note, with_target, without_notes}
-use Rattle.turn_laws.specs.HostRequests.{HostAsks, HostRequestsLaw}
-use Rattle.turn_laws.specs.Operations.{of_initiator}
+use Rattle.turn_laws.specs.HostRequests.{HostAsks, HostRequestsLaw, is_away}
 use Rattle.turn_laws.proofs.AnswerNotes.{SameBus, judged_bus}
 use Rattle.turn_laws.proofs.FoundLabels.{SameLabels, gets_same, same_labels}
 use Rattle.turn_laws.proofs.FoundRows.{Asks, RowFor}
@@ -88,13 +93,14 @@ use Rattle.turn_laws.proofs.Handed.{handed, notes_sent, notes_told, packet_note}
 use Rattle.turn_laws.proofs.Judgements.{row_there}
 use Rattle.turn_laws.proofs.KnownRuns.{Known, KnowingCases, of_every_known}
 use Rattle.turn_laws.proofs.OwnAnswers.{IsRead, gives, lapses, refuses}
+use Rattle.turn_laws.proofs.OtherRequests.{no_sends}
 use Rattle.turn_laws.proofs.Places.{HasCalls, Place}
 use Rattle.turn_laws.proofs.PushSerials.{gets_count}
 use Rattle.turn_laws.proofs.RequestLabels.{IsSpelled, finds_at, spelled_at}
 use Rattle.turn_laws.proofs.RomEnds.{read_on}
 use Rattle.turn_laws.proofs.RomKnown.{KnownOf, more_quads, one_longer}
 use Rattle.turn_laws.proofs.RomKnown as known
-use Rattle.turn_laws.proofs.RomSends.{expired_sends, last_sends, next_sends, next_tells, other_sends, refused_sends}
+use Rattle.turn_laws.proofs.RomSends.{expired_sends, last_sends, next_sends, late_sends_none, next_tells, other_sends, refused_sends}
 use Rattle.turn_laws.proofs.RomTies.{RomOf}
 use Rattle.turn_laws.proofs.SentAnswers.{all_own_unsent, none_due, reply_due, sends_behind, told_unsent}
 
@@ -550,14 +556,14 @@ module _ (units ready : ℕ) (start : List Disk) where
       Asks_so r = HostAsks start (turn ms (said (judged_note serial r.0)) (handed (suc i) 0 r.1.0 v))
 
       request_asks : (p : Packet) → Asks wire q p by_request → (l : Layer Purpose) → (let r = request_step p one.bytes empty_outbox (record old { layer = l }) in AreOwn r.1.0.sides → (j : Judged) → HostAsks start (turn ms (said (judged_note serial j)) (handed (suc i) 0 r.1.0 v)))
-      request_asks p a l own judgements.Got = where_all (of_initiator (receiver_in (wire.sent serial))) _ (request_law p a l v own)
+      request_asks p a l own judgements.Got = where_all (is_away (receiver_in (wire.sent serial))) _ (request_law p a l v own)
       request_asks p a l own (judgements.Ignored cause) = tt
 
       found_asks : (x : Finding Purpose × Layer Purpose) → judging_step old.layer one.generation one.bytes ≡ x → RowFor wire q old.layer.node x → (let r = received x one.bytes empty_outbox old in AreJudged (said (judged_note serial r.0) ∷ ms) → AreOwn r.1.0.sides → Asks_so r)
       found_asks (of_generation, l) e row judged own = tt
       found_asks (of_grammar, l) e row judged own = tt
       found_asks (of_label, l) e row judged own = tt
-      found_asks (of_response p label purpose, l) e row judged own = where_all (of_initiator (receiver_in (wire.sent serial))) _ (response_law p label purpose l e judged v bus own purpose refl)
+      found_asks (of_response p label purpose, l) e row judged own = where_all (is_away (receiver_in (wire.sent serial))) _ (response_law p label purpose l e judged v bus own purpose refl)
       found_asks (of_again p rcode, l) e row judged own = tt
       found_asks (of_request p, l) e row judged own = request_asks p row l own (request_step p one.bytes empty_outbox (record old { layer = l })).0
 
@@ -567,15 +573,54 @@ module _ (units ready : ℕ) (start : List Disk) where
 
   -- ---- no other turn begins so
   target_asks : (past : List Moment) (serial : ℕ) (packet : Sending) (judged : Judged) (rest : List Note) → (terms past).sent serial ≡ Some packet → packet.to ≡ 0 → HostAsks start (turn past (said (judged_note serial judged)) rest)
-  target_asks past serial packet judgements.Got rest was zero_to = where_none (of_initiator (receiver_in ((terms past).sent serial))) _ (ap (λ so. of_initiator (receiver_in so)) was ∙ ap (λ n. of_initiator (Some n)) zero_to)
+  target_asks past serial packet judgements.Got rest was zero_to = where_none (is_away (receiver_in ((terms past).sent serial))) _ (ap (λ so. is_away (receiver_in so)) was ∙ ap (λ n. is_away (Some n)) zero_to)
   target_asks past serial packet (judgements.Ignored cause) rest was zero_to = tt
 
   end_asks : (past : List Moment) (done : Bool) → HostAsks start (turn past (said (end_note done)) [])
   end_asks past true = tt
   end_asks past false = tt
 
-  host_cases : KnowingCases units ready start (HostAsks start)
-  host_cases = record {
+  -- a transaction of the target is its own
+  module _ (has : 0 < units) (past : List Moment) (s : Scene) (here : Place units ready start past s) (serial : ℕ) (request : RequestOf) (found : find s.world.requests serial ≡ Some request) (zero_is : request.node ≡ 0) where
+    abbrev Lapses : Result (Option TargetPurpose) Stale × Layer TargetPurpose → Unit {0} → TargetScene → Type 0
+    Lapses r done t = expired_in r request.peer request.label (target_scene s.world.target empty_outbox) ≡ (Ok done, t)
+
+    sender_by : (r : Result (Option TargetPurpose) Stale × Layer TargetPurpose) → expiring_step s.world.target.layer request.peer request.label ≡ r → (done : Unit {0}) (t : TargetScene) → Lapses r done t
+        → sender_in ((terms (hist past s.world)).sent serial) ≡ Some 0
+    sender_by (Ok purpose, layer) e done t f = (let a = asked_late units ready has start s.world here.holds serial request found zero_is purpose layer e in ap sender_in a.sent ∙ ap Some a.from)
+    sender_by (Err stale, layer) e done t f = absurd (let no : Err stale ≡ Ok done = ap (λ (x : Result (Unit {0}) Stale × TargetScene). x.0) f in cc)
+
+    late_asks : (done : Unit {0}) (t : TargetScene) → expired request.peer request.label (target_scene s.world.target empty_outbox) ≡ (Ok done, t) → (rest : List Note)
+        → HostAsks start (turn (hist past s.world) (said (notes.TimedOut serial)) rest)
+    unfolding expired
+    late_asks done t e rest =
+        where_none (is_away (sender_in ((terms (hist past s.world)).sent serial))) _ (ap is_away (sender_by (expiring_step s.world.target.layer request.peer request.label) refl done t e))
+
+  -- one of an initiator sends nothing
+  module _ (ms : List Moment) (serial : ℕ) (rest : List Note) (none : sends_of rest ≡ []) where
+    abbrev late_turn : Turn
+    late_turn = turn ms (said (notes.TimedOut serial)) rest
+
+    abbrev Late : Option ℕ → Type 0
+    Late node = ArePackets (before_requests start late_turn) (expiring start late_turn node).node (behind_answer start late_turn) (expiring start late_turn node).requests
+
+    unsent : (node : Option ℕ) → sender_in ((terms ms).sent serial) ≡ node → (behind_answer start late_turn ≡ [] → Late node) → HostAsks start late_turn
+    unsent node e h = where_all (is_away (sender_in ((terms ms).sent serial))) _ (λ asks. subst Late (sym e) (h none))
+
+    late_by : (node : Option ℕ) → sender_in ((terms ms).sent serial) ≡ node → HostAsks start late_turn
+    late_by (Some zero) e = where_none (is_away (sender_in ((terms ms).sent serial))) _ (ap is_away e)
+    late_by None e = unsent None e (λ f. subst (λ ns. ArePackets (before_requests start late_turn) 0 ns []) (sym f) tt)
+    late_by (Some (suc i)) e = unsent (Some (suc i)) e (λ f. subst (λ ns. ArePackets (before_requests start late_turn) 0 ns []) (sym f) tt)
+
+  late_own_asks : (past : List Moment) (s : Scene) (serial : ℕ) (i : ℕ) (label : LabelParts) (outbox : OutboxState) (state : InitiatorState) (w : WorldState) → expire_step label empty_outbox (initiator_at s.world i) ≡ (true, (outbox, state)) → AreOwn outbox.sides
+      → HostAsks start (turn (hist past s.world) (said (notes.TimedOut serial)) (handed (suc i) 0 outbox w))
+  late_own_asks past s serial i label outbox state w e own =
+      late_by (hist past s.world) serial (handed (suc i) 0 outbox w)
+      (no_sends (suc i) 0 outbox w (all_own_unsent outbox.sides own) (sym (ap (λ (x : Bool × Called). x.1.0.packets) e) ∙ late_sends_none label (initiator_at s.world i)))
+      (sender_in ((terms (hist past s.world)).sent serial)) refl
+
+  host_cases : 0 < units → KnowingCases units ready start (HostAsks start)
+  host_cases has = record {
     heard = λ past s serial again run one found zero_to may others here behind noted k.
         let x = heard_target run one.generation one.bytes (whole_of s.world.target s.media) in
         let rest = handed 0 0 x.1.outbox (with_note (judged_note serial x.0) (marked serial again (with_target x.1.node s.world))) in
@@ -587,8 +632,8 @@ module _ (units ready : ℕ) (start : List Disk) where
         let row = row_there s.world here.holds.sound.stands serial one found there old.layer (ap (layers_of s.world) to_is) in
         let v = with_note (judged_note serial x.0) (marked serial again (with_initiator i x.1.1 s.world)) in
         heard_asks past s here k i inside serial again one found to_is v (judged_bus (judged_note serial x.0) serial again s.world (with_initiator i x.1.1 s.world) (record { last = refl; generations = refl })) row noted.judged own;
-    late = λ past s serial request done t found node_is e others here behind noted k. tt;
-    late_own = λ past s serial request i outbox state found node_is inside e own here behind noted k. tt;
+    late = λ past s serial request done t found node_is e others here behind noted k. late_asks has past s here serial request found node_is done t e (handed 0 0 t.outbox (with_note (notes.TimedOut serial) (with_target t.node s.world)));
+    late_own = λ past s serial request i outbox state found node_is inside e own here behind noted k. late_own_asks past s serial i request.label outbox state (with_note (notes.TimedOut serial) (with_initiator i state s.world)) e own;
     sees = λ past s others here behind noted k. tt;
     sees_own = λ past s i inside own here behind noted k. tt;
     ticks = λ past s others here behind noted k. tt;
@@ -599,4 +644,4 @@ module _ (units ready : ℕ) (start : List Disk) where
   }
 
 pub host_requests_law : HostRequestsLaw
-host_requests_law = of_every_known (λ start. HostAsks start) (λ units ready start has. host_cases units ready start)
+host_requests_law = of_every_known (λ start. HostAsks start) (λ units ready start has. host_cases units ready start has)

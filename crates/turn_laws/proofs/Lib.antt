@@ -204,6 +204,7 @@ pub mod KnownCarried
 pub mod KnownRuns
 pub mod RomSends
 pub mod HostRequests
+pub mod EveryRequest
 pub mod SentBodies
 pub mod SentOwn
 pub mod TurnSends

@@ -5,10 +5,13 @@ use Rattle.config_rom.specs.Unit.{sbp_unit_of}
 use Rattle.config_rom.specs.declared.fault.RomFault.{RomFault}
 use Rattle.config_rom.specs.declared.unit.SbpUnit.{SbpUnit}
 use Rattle.initiator_base.specs.Places.{management_at}
-use Rattle.label_table.specs.Layer.{Layer, asking_step}
+use Rattle.async_packet.specs.Labels.{LabelParts}
+use Rattle.label_table.specs.Layer.{Layer, asking_step, expiring_step}
 use Rattle.label_table.specs.declared.judgement.Asked.{Asked}
+use Rattle.label_table.specs.declared.reply.Stale.{Stale}
 use Rattle.sbp_initiator.specs.Effects.{asked_quad, end_own_for, end_own_step, end_step, ended_for, ended_step, fault_number, finish_rom, is_address, next_quad, with_rom, with_unit}
 use Rattle.sbp_initiator.specs.Histories.Moves.{outgoing}
+use Rattle.sbp_initiator.specs.Receiving.{called, expire_step, expired_as}
 use Rattle.sbp_initiator.specs.declared.purpose.Ending.{Ending}
 use Rattle.sbp_initiator.specs.declared.purpose.Ending.TheVariants as endings
 use Rattle.sbp_initiator.specs.declared.purpose.Purpose.{Purpose}
@@ -102,3 +105,22 @@ other_sends (Some (purposes.AgentReset act)) other ending u = plain_sends (purpo
 other_sends (Some (purposes.Enable act)) other ending u = plain_sends (purposes.Enable act) refl ending u
 other_sends (Some (purposes.Management act)) other ending u = plain_sends (purposes.Management act) refl ending u
 other_sends (Some (purposes.State act list)) other ending u = plain_sends (purposes.State act list) refl ending u
+
+-- ---- a time-out sends nothing
+late_sends : (purpose : Option Purpose) (u : InitiatorState) → (ended_for purpose endings.Expired empty_outbox u).0.packets ≡ []
+late_sends None u = refl
+late_sends (Some (purposes.Rom act)) u = expired_sends act u
+late_sends (Some (purposes.Pointer list)) u = plain_sends (purposes.Pointer list) refl endings.Expired u
+late_sends (Some purposes.Doorbell) u = plain_sends purposes.Doorbell refl endings.Expired u
+late_sends (Some (purposes.AgentReset act)) u = plain_sends (purposes.AgentReset act) refl endings.Expired u
+late_sends (Some (purposes.Enable act)) u = plain_sends (purposes.Enable act) refl endings.Expired u
+late_sends (Some (purposes.Management act)) u = plain_sends (purposes.Management act) refl endings.Expired u
+late_sends (Some (purposes.State act list)) u = plain_sends (purposes.State act list) refl endings.Expired u
+
+late_so : (r : Result (Option Purpose) Stale × Layer Purpose) (s : InitiatorState) → (expired_as r empty_outbox s).1.0.packets ≡ []
+late_so (Err stale, layer) s = refl
+late_so (Ok purpose, layer) s = late_sends purpose (called (record s { layer = layer }))
+
+pub late_sends_none : (label : LabelParts) (s : InitiatorState) → (expire_step label empty_outbox s).1.0.packets ≡ []
+unfolding expire_step
+late_sends_none label s = late_so (expiring_step s.layer s.target label) s

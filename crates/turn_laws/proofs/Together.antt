@@ -15,6 +15,7 @@ use Rattle.turn_laws.proofs.FailingRuns.{failing_law}
 use Rattle.turn_laws.proofs.FailureNotes.{failures_law}
 use Rattle.turn_laws.proofs.Ends.{ends_law}
 use Rattle.turn_laws.proofs.Faults.{faults_law}
+use Rattle.turn_laws.proofs.EveryRequest.{every_request_law}
 use Rattle.turn_laws.proofs.HostRequests.{host_requests_law}
 use Rattle.turn_laws.proofs.Judgements.{judgement_run_law}
 use Rattle.turn_laws.proofs.LoginRuns.{login_run_law}
@@ -46,6 +47,7 @@ turns_law = record {
     target_requests = target_requests_law.after_lines line run is some most size;
     other_requests = other_requests_law.after_lines line run is some most size;
     host_requests = host_requests_law.after_lines line run is some most size;
+    requests = every_request_law.after_lines line run is some most size;
     ordered = ordered_law.after_lines line run is some most size;
     cuts = cuts_law.after_lines line run is some most size;
     cleared = cleared_law.after_lines line run is some most size;
@@ -80,6 +82,7 @@ turns_law = record {
     target_requests = target_requests_law.between line run is some most size next deliveries told may;
     other_requests = other_requests_law.between line run is some most size next deliveries told may;
     host_requests = host_requests_law.between line run is some most size next deliveries told may;
+    requests = every_request_law.between line run is some most size next deliveries told may;
     ordered = ordered_law.between line run is some most size next deliveries told may;
     cuts = cuts_law.between line run is some most size next deliveries told may;
     cleared = cleared_law.between line run is some most size next deliveries told may;

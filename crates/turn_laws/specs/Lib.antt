@@ -30,6 +30,7 @@ pub mod Actions
 pub mod ActRequests
 pub mod ActEntries
 pub mod HostRequests
+pub mod EveryRequest
 pub mod Together
 pub mod RunsEnd
 pub mod AgentRequests

@@ -11,6 +11,7 @@ use Rattle.sbp_laws.specs.LoginLaw.{LoginLaw}
 use Rattle.sbp_laws.specs.SentAnswers.{AnswersLaw}
 use Rattle.sbp_laws.specs.SentLaw.{AfterTurn}
 use Rattle.sbp_laws.specs.SentPackets.{SentAt}
+use Rattle.sbp_laws.specs.SentRequests.{RequestsLaw}
 use Rattle.sbp_laws.specs.SentWrites.{DecisionsAreSent, StatusesAreSent}
 use Rattle.sbp_laws.specs.Turns.{EachMoment, EachTurn}
 use Rattle.turn_laws.specs.ActRequests.{ActsByRequests}
@@ -47,6 +48,7 @@ pub record LawfulInTurns (start : List Disk) (past : List Moment) : Type 0 where
   pub target_requests : EachTurn (TargetAsks start) past
   pub other_requests : EachTurn (OtherAsks start) past
   pub host_requests : EachTurn (HostAsks start) past
+  pub requests : EachTurn (RequestsLaw start) past
   pub ordered : EachTurn Ordered past
   pub cuts : EachTurn (CutsWhereDue start) past
   pub cleared : EachTurn (ClearsWhereDue start) past

@@ -17,6 +17,7 @@ ghost use Rattle.turn_laws.specs.Ends.{EndsLaw};
 ghost use Rattle.turn_laws.specs.Failing.{FailingLaw};
 ghost use Rattle.turn_laws.specs.Failures.{FailuresLaw};
 ghost use Rattle.turn_laws.specs.Faults.{FaultsLaw};
+ghost use Rattle.turn_laws.specs.EveryRequest.{EveryRequestLaw};
 ghost use Rattle.turn_laws.specs.HostRequests.{HostRequestsLaw};
 ghost use Rattle.turn_laws.specs.Judgement.{JudgementRunLaw};
 ghost use Rattle.turn_laws.specs.Login.{LoginRunLaw};
@@ -353,8 +354,17 @@ pub fn initiators_are_told_by_the_row()
 /// In each turn of every run in which an initiator gets a packet, whatever anybody injected, it sends exactly its next
 /// read of a ROM: behind the answer with a quadlet to the latest read of a `rom` operation, where fewer than 256 were
 /// read, the read of the quadlet behind it, with the lowest label that serves it; and else nothing but its response to
-/// a request. It is `requests` of the sent law, of the turns that begin so.
+/// a request. As one of its transactions times out, it sends nothing. It is `requests` of the sent law, of the turns that
+/// begin so.
 #[tactic(auto, using(crate::proofs::HostRequests::host_requests_law))]
 pub fn initiators_read_roms_on()
     ensures { HostRequestsLaw }
+{}
+
+/// `requests` of the sent law holds of every run, whatever anybody injected: in each turn the packets behind the response
+/// are exactly the requests that the node of the turn has in it, in their order, each with the next serial, in its node's
+/// generation, to the node that is asked, and spelled canonically under the lowest label that serves it.
+#[tactic(auto, using(crate::proofs::EveryRequest::every_request_law))]
+pub fn every_turn_sends_its_requests()
+    ensures { EveryRequestLaw }
 {}
