@@ -9,7 +9,9 @@ use Rattle.sbp_world.specs.Worlds.{WorldState}
 use Rattle.rbc_disk.specs.Disk.{Disk}
 use Rattle.rbc_disk.specs.Held.{Held}
 use Rattle.sbp_journal.specs.Run.{Moment}
-use Rattle.sbp_laws.specs.Lawful.{injectors}
+use Rattle.sbp_laws.specs.Lawful.{FormAt, injectors}
+use Rattle.sbp_laws.specs.OnceLaw.{OnceLaw}
+use Rattle.sbp_laws.specs.Turns.{EachMoment}
 use Rattle.sbp_laws.specs.OnTheBus.{LawfulOnTheBus}
 use Rattle.journal_text.proofs.TextsBack.{texts_determine}
 use Rattle.sbp_world.specs.Forms.{AreTyped}
@@ -30,7 +32,9 @@ use Rattle.sbp_world.specs.Hosts.Runs.{IsRun}
 use Rattle.sbp_world.specs.Hosts.Statuses.Finished.{TakesStatuses}
 use Rattle.sbp_world.proofs.Hosts.Statuses.Finished.{finished_law, once_taken_law}
 use Rattle.turn_laws.specs.Together.{LawfulInTurns}
+use Rattle.turn_laws.proofs.ActEntries.{action_run_law}
 use Rattle.turn_laws.proofs.Together.{turns_law}
+use Rattle.sbp_laws.specs.ActionLaw.{ActionLaw}
 use Rattle.script_runner.specs.Events.{events_in, events_of, journal}
 use Rattle.script_runner.specs.Runner.{scene_of}
 use Rattle.sbp_command.specs.Machine.{HasRun}
@@ -94,6 +98,9 @@ module _ (line : ℕ) (run : Run) (few : run.initiators ≤ 4) (count : length r
       run_lists : HasListLaws run.initiators start.disks past
       run_lists = over (λ disks. HasListLaws run.initiators disks past) (list_laws line run is some most size given)
 
+      run_action : ActionLaw start.disks (journal_run line run).entries
+      run_action = over (λ disks. ActionLaw disks (journal_run line run).entries) (action_run_law line run is some most size)
+
       run_states : AreStates start.disks past (after (beginning run) run.entries)
       run_states = over (λ disks. AreStates disks past (after (beginning run) run.entries)) (are_states line run is some most size)
 
@@ -106,6 +113,7 @@ module _ (line : ℕ) (run : Run) (few : run.initiators ≤ 4) (count : length r
 pub has_run : (line : ℕ) (run : Run) (start media : Held) (world : WorldState) (happened : List (ℕ × Event)) → run.start ≡ start → run.units ≡ length start.disks → 0 < run.units → run.units ≤ 4 → run.initiators ≤ 4 → length run.entries ≤ 65535 → events_of line run ≡ happened
     → StandsFor run (scene_of world media) → AreLines run run.entries → AllByRecursion AreTyped run.entries → HasRun start happened (journal run) media
 has_run line run start media world happened same units some most few count events stands lines typed =
+    let on_bus = run_on_bus line run few count stands.lines lines start same units typed in
     let left : media ≡ (after (beginning run) run.entries).media = ap (λ s. s.media) stands.state in
     record {
       line = line;
@@ -119,7 +127,9 @@ has_run line run start media world happened same units some most few count event
       media_fit = run_fits run start media same few stands.lines left;
       leaves = run_leaves line run start media same few stands.lines left;
       of_wire = run_of_wire line run few count stands.lines lines;
-      on_the_bus = run_on_bus line run few count stands.lines lines start same units typed;
+      form = subst (EachMoment FormAt) (bus_law.tie line run) on_bus.form;
+      once = subst (OnceLaw (injectors (history_of line run))) (bus_law.tie line run) on_bus.once;
+      action = run_action line run few count stands.lines lines start same units some most;
       statuses = run_takes line run few count stands.lines lines;
       in_turns = run_in_turns line run few count stands.lines lines start same units some most;
       lists = run_lists line run few count stands.lines lines start same units some most;

@@ -1,6 +1,5 @@
 -- The laws of turns of every run, together.
 use Rattle.turn_laws.specs.Together.{TurnsLaw}
-use Rattle.turn_laws.proofs.Actions.{actions_law}
 use Rattle.turn_laws.proofs.Aborts.{aborts_law}
 use Rattle.turn_laws.proofs.AnswerRuns.{answered_law}
 use Rattle.turn_laws.proofs.Cleared.{cleared_law}
@@ -17,7 +16,6 @@ use Rattle.turn_laws.proofs.Judgements.{judgement_run_law}
 use Rattle.turn_laws.proofs.LoginRuns.{login_run_law}
 use Rattle.turn_laws.proofs.Pushes.{pushes_law}
 use Rattle.turn_laws.proofs.Once.{once_law}
-use Rattle.turn_laws.proofs.OrderRuns.{ordered_law}
 use Rattle.turn_laws.proofs.Requests.{requests_run_law}
 use Rattle.turn_laws.proofs.RomRuns.{after_law}
 use Rattle.turn_laws.proofs.RunEnds.{runs_end_law}
@@ -32,9 +30,7 @@ turns_law = record {
   after_lines = λ line run is some most size. record {
     judgement = judgement_run_law.after_lines line run is some most size;
     login = login_run_law.after_lines line run is some most size;
-    actions = actions_law.after_lines line run is some most size;
     requests = requests_run_law.after_lines line run is some most size;
-    ordered = ordered_law.after_lines line run is some most size;
     cuts = cuts_law.after_lines line run is some most size;
     cleared = cleared_law.after_lines line run is some most size;
     packets = packets_run_law.after_lines line run is some most size;
@@ -60,9 +56,7 @@ turns_law = record {
   between = λ line run is some most size next deliveries told may. record {
     judgement = judgement_run_law.between line run is some most size next deliveries told may;
     login = login_run_law.between line run is some most size next deliveries told may;
-    actions = actions_law.between line run is some most size next deliveries told may;
     requests = requests_run_law.between line run is some most size next deliveries told may;
-    ordered = ordered_law.between line run is some most size next deliveries told may;
     cuts = cuts_law.between line run is some most size next deliveries told may;
     cleared = cleared_law.between line run is some most size next deliveries told may;
     packets = packets_run_law.between line run is some most size next deliveries told may;

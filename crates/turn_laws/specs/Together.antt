@@ -1,9 +1,8 @@
--- What is proved of the turns of every run, together: the judgement law, the login law, of the action, cause, media and sent laws what stands in each turn, and how commands end.
+-- What is proved of the turns of every run, together: the judgement law, the login law, of the cause, media and sent laws what stands in each turn, and how commands end.
 use Rattle.std.specs.Prelude.{List}
 use Rattle.rbc_disk.specs.Disk.{Disk}
 use Rattle.sbp_journal.specs.Run.{Moment}
 use Rattle.sbp_laws.specs.Aborts.{AbortsStand}
-use Rattle.sbp_laws.specs.ActionLaw.{Ordered}
 use Rattle.sbp_laws.specs.CarriedLaw.{EndsAsRead}
 use Rattle.sbp_laws.specs.Decided.{DecisionStands}
 use Rattle.sbp_laws.specs.JudgementLaw.{JudgementLaw}
@@ -14,7 +13,6 @@ use Rattle.sbp_laws.specs.SentPackets.{SentAt}
 use Rattle.sbp_laws.specs.SentRequests.{RequestsLaw}
 use Rattle.sbp_laws.specs.SentWrites.{DecisionsAreSent, StatusesAreSent}
 use Rattle.sbp_laws.specs.Turns.{EachMoment, EachTurn}
-use Rattle.turn_laws.specs.Actions.{ActsByRows}
 use Rattle.turn_laws.specs.Cleared.{ClearsWhereDue}
 use Rattle.turn_laws.specs.Codes.{EndsWithCodes}
 use Rattle.turn_laws.specs.Cuts.{CutsWhereDue}
@@ -33,9 +31,7 @@ use Rattle.turn_laws.specs.Unserved.{UnservedWhereTold}
 pub record LawfulInTurns (start : List Disk) (past : List Moment) : Type 0 where
   pub judgement : JudgementLaw start past
   pub login : LoginLaw start past
-  pub actions : EachTurn ActsByRows past
   pub requests : EachTurn (RequestsLaw start) past
-  pub ordered : EachTurn Ordered past
   pub cuts : EachTurn (CutsWhereDue start) past
   pub cleared : EachTurn (ClearsWhereDue start) past
   pub packets : EachMoment SentAt past
