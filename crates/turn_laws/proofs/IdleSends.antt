@@ -26,7 +26,6 @@ use Rattle.sbp_journal.specs.Outgoings.{OutboxState, empty_outbox}
 use Rattle.sbp_journal.specs.Run.{Moment, said}
 use Rattle.sbp_journal.specs.Wire.{terms}
 use Rattle.sbp_journal.specs.declared.cause.Cause.TheVariants as causes
-use Rattle.sbp_journal.specs.declared.cause.CutCause.{CutCause}
 use Rattle.sbp_journal.specs.declared.cause.CutCause.TheVariants as cuts
 use Rattle.sbp_journal.specs.declared.cause.Judged.{Judged}
 use Rattle.sbp_journal.specs.declared.cause.Judged.TheVariants as judgements
@@ -41,7 +40,7 @@ use Rattle.sbp_laws.specs.Turns.{EachTurn, Turn, turn}
 use Rattle.sbp_target.specs.declared.desk.Desk.{Desk}
 use Rattle.sbp_target.specs.declared.purpose.Purpose.{Purpose}
 use Rattle.sbp_target.specs.declared.purpose.Purpose.TheVariants as purposes
-use Rattle.sbp_target.specs.Agents.{cut, told_cut}
+use Rattle.sbp_target.specs.Agents.{cut}
 use Rattle.sbp_target.specs.Desks.{pointed_desk}
 use Rattle.sbp_target.specs.Histories.Judgements.{asked_at}
 use Rattle.sbp_target.specs.Nodes.{NodeState, Scene as TargetScene, desk_at, scene, with_desk}
@@ -61,6 +60,7 @@ use Rattle.sbp_world.specs.Hosts.Handing.{AreOthers}
 use Rattle.sbp_world.specs.Worlds.{Scene, WorldState, with_note, with_target}
 use Rattle.sbp_world.proofs.Agents.CrewFirsts.{access_there}
 use Rattle.sbp_world.proofs.Agents.CrewLapse.{handed as handed_for}
+use Rattle.sbp_world.proofs.Agents.Management.Managing.{cut_by}
 use Rattle.sbp_world.proofs.Agents.Management.Holding.{was_sent}
 use Rattle.sbp_world.proofs.Agents.Management.Still.{hist}
 use Rattle.sbp_world.proofs.Agents.Steps.{point_alike}
@@ -156,11 +156,6 @@ module _ (size : ℕ) (p : Packet) (access : Access) (small : size ≤ 1024) (is
 
   manage_calls : start_in (Some access) source ≡ no_call → ⊥
   manage_calls = served_calls (start_serves (start_at access.offset) access) refl
-
--- a cut sends nothing
-pub cut_packets : (b : Bool) (cause : CutCause) (place : ℕ) (o : OutboxState) → (told_cut b place cause o).packets ≡ o.packets
-cut_packets true cause place o = refl
-cut_packets false cause place o = refl
 
 -- ---- a time-out
 module _ (units ready : ℕ) (has : 0 < units) (start : List Disk) (past : List Moment) (s : Scene) (here : Place units ready start past s) (serial : ℕ) (request : Request) (found : find s.world.requests serial ≡ Some request) (zero_is : request.node ≡ 0) where
@@ -296,7 +291,7 @@ module _ (units ready : ℕ) (has : 0 < units) (start : List Disk) (past : List 
     access_idle q b accesses.State e is silent = alone_by 0 _ at refl is
     access_idle q b accesses.Pointer e is silent = alone_by 0 _ at refl is
     access_idle q b accesses.Enable e is silent = alone_by 0 [] (enabled q at) refl is
-    access_idle q b accesses.Reset e is silent = alone_by 0 [] (cut cuts.AgentReset q at) (cut_packets (is_reset (state_in (desk_at at.node q).agent.phase)) cuts.AgentReset q empty_outbox) is
+    access_idle q b accesses.Reset e is silent = alone_by 0 [] (cut cuts.AgentReset q at) (cut_by (is_reset (state_in (desk_at at.node q).agent.phase)) q cuts.AgentReset empty_outbox) is
     access_idle q b (accesses.Point pointer) e is silent = points q b pointer e (point_step (desk_at Node q).agent pointer) is refl silent
     access_idle q b accesses.Ring e is silent = absurd (ring_some q (agent_at Of q) (doorbell_step (agent_at Of q).machine) (sym (turn_is (demands.Agent q accesses.Ring) e) ∙ silent))
 

@@ -1,5 +1,5 @@
 -- A turn in which nobody is to ask sends nothing: a sight tells of lists and logins alone, a second of logins, and what an initiator's time-out ends sends no packet.
-use Rattle.std.proofs.Common.{◌≡◌, ◌∙◌, ◌<◌, refl, sym, ap, subst, ℕ, zero, suc, ◌==◌, Bool, true, false, cond, List, [], ◌∷◌, drop, length, Option, Some, None, Result, Ok, Err}
+use Rattle.std.proofs.Common.{◌≡◌, ◌∙◌, ◌<◌, refl, sym, ap, subst, ℕ, zero, suc, Bool, true, false, List, [], ◌∷◌, drop, length, Option, Some, None, Result, Ok, Err}
 use Rattle.std.proofs.Math.Seq.{drop-nil}
 use Rattle.async_packet.specs.Labels.{LabelParts}
 use Rattle.label_table.specs.Layer.{Layer, expiring_step}
@@ -11,13 +11,12 @@ use Rattle.sbp_bus.specs.Generations.{id_of}
 use Rattle.sbp_bus.specs.Packets.{end_note, judged_note}
 use Rattle.sbp_bus.specs.Requests.{find}
 use Rattle.sbp_bus.specs.declared.requests.Request.{Request}
-use Rattle.sbp_initiator.specs.Effects.{Turn as OwnTurn, end_own_for, end_step, ended_for, ended_step}
+use Rattle.sbp_initiator.specs.Effects.{Turn as OwnTurn, ended_for}
 use Rattle.sbp_initiator.specs.Receiving.{called, expire_step, expired_as, receive_step}
 use Rattle.sbp_initiator.specs.Seeing.{see_step}
 use Rattle.sbp_initiator.specs.declared.purpose.Ending.TheVariants as endings
 use Rattle.sbp_initiator.specs.declared.purpose.Purpose.{Purpose as OwnPurpose}
 use Rattle.sbp_initiator.specs.declared.purpose.Purpose.TheVariants as purposes
-use Rattle.sbp_initiator.specs.declared.purpose.Running.{Running}
 use Rattle.sbp_initiator.specs.declared.state.InitiatorState.{InitiatorState}
 use Rattle.sbp_journal.specs.Outgoings.{OutboxState, empty_outbox}
 use Rattle.sbp_journal.specs.Run.{Moment, asked, said}
@@ -28,8 +27,6 @@ use Rattle.sbp_journal.specs.declared.event.Event.{Event}
 use Rattle.sbp_journal.specs.declared.event.Event.TheVariants as events
 use Rattle.sbp_journal.specs.declared.note.Note.{Note}
 use Rattle.sbp_journal.specs.declared.note.Note.TheVariants as notes
-use Rattle.sbp_journal.specs.declared.operation.Operation.TheVariants as operations
-use Rattle.sbp_journal.specs.declared.operation.OpWord.TheVariants as words
 use Rattle.sbp_laws.specs.Packets.{receiver_in, sender_in}
 use Rattle.sbp_laws.specs.SentAnswers.{answer_due}
 use Rattle.sbp_laws.specs.SentRequests.{ArePackets, asks_at, asks_by, before_requests, behind_answer, expiring}
@@ -52,7 +49,7 @@ use Rattle.turn_laws.proofs.Handed.{handed, notes_sent, notes_told}
 use Rattle.turn_laws.proofs.LateEnds.{sender}
 use Rattle.turn_laws.proofs.Pass.{of_every_run}
 use Rattle.turn_laws.proofs.Places.{Place}
-use Rattle.turn_laws.proofs.RomEnds.{ended_leaves, is_plain}
+use Rattle.turn_laws.proofs.RomSends.{expired_sends, plain_sends}
 use Rattle.turn_laws.proofs.SentAnswers.{AreUnsent, all_own_unsent, others_unsent, sends_behind, told_unsent}
 
 -- ---- what is handed out without a packet
@@ -62,30 +59,15 @@ no_sends node weight o w h e =
     sends_behind (notes_told weight o.sides w) (notes_sent node o.packets v) (told_unsent weight o.sides w h) ∙ ap (λ ps. sends_of (notes_sent node ps v)) e
 
 -- ---- a transaction of an initiator that times out
-abbrev any : Running
-any = record { operation = operations.Rom; act = 0; managed = None }
-
-plainly_ended : (purpose : OwnPurpose) → is_plain purpose ≡ true → (u : InitiatorState) → (ended_for (Some purpose) endings.Expired empty_outbox u).0.packets ≡ []
-plainly_ended purpose plain u = (ended_leaves any ⊥ purpose endings.Expired empty_outbox u plain (λ x. absurd x)).packets
-
-rom_ended : (found : Option Running) (act : ℕ) (u : InitiatorState) → (end_own_for found act words.Error empty_outbox u).0.packets ≡ []
-rom_ended None act u = refl
-rom_ended (Some running) act u = by (running.act == act)
-  where
-    by : (b : Bool) → (cond b (end_step running.operation words.Error empty_outbox u) (empty_outbox, u)).0.packets ≡ []
-    by true = refl
-    by false = refl
-
 end_sends : (purpose : Option OwnPurpose) (u : InitiatorState) → (ended_for purpose endings.Expired empty_outbox u).0.packets ≡ []
-unfolding ended_step
 end_sends None u = refl
-end_sends (Some (purposes.Rom act)) u = rom_ended u.operation act u
-end_sends (Some (purposes.Pointer list)) u = plainly_ended (purposes.Pointer list) refl u
-end_sends (Some purposes.Doorbell) u = plainly_ended purposes.Doorbell refl u
-end_sends (Some (purposes.AgentReset act)) u = plainly_ended (purposes.AgentReset act) refl u
-end_sends (Some (purposes.Enable act)) u = plainly_ended (purposes.Enable act) refl u
-end_sends (Some (purposes.Management act)) u = plainly_ended (purposes.Management act) refl u
-end_sends (Some (purposes.State act list)) u = plainly_ended (purposes.State act list) refl u
+end_sends (Some (purposes.Rom act)) u = expired_sends act u
+end_sends (Some (purposes.Pointer list)) u = plain_sends (purposes.Pointer list) refl endings.Expired u
+end_sends (Some purposes.Doorbell) u = plain_sends purposes.Doorbell refl endings.Expired u
+end_sends (Some (purposes.AgentReset act)) u = plain_sends (purposes.AgentReset act) refl endings.Expired u
+end_sends (Some (purposes.Enable act)) u = plain_sends (purposes.Enable act) refl endings.Expired u
+end_sends (Some (purposes.Management act)) u = plain_sends (purposes.Management act) refl endings.Expired u
+end_sends (Some (purposes.State act list)) u = plain_sends (purposes.State act list) refl endings.Expired u
 
 late_as : (r : Result (Option OwnPurpose) Stale × Layer OwnPurpose) (s : InitiatorState) → (expired_as r empty_outbox s).1.0.packets ≡ []
 late_as (Err stale, layer) s = refl

@@ -90,7 +90,7 @@ module _ (act : ℕ) (u : InitiatorState) where
 abbrev any : Running
 any = record { operation = operations.Rom; act = 0; managed = None }
 
-plain_sends : (purpose : Purpose) → is_plain purpose ≡ true → (ending : Ending) (u : InitiatorState) → (ended_for (Some purpose) ending empty_outbox u).0.packets ≡ []
+pub plain_sends : (purpose : Purpose) → is_plain purpose ≡ true → (ending : Ending) (u : InitiatorState) → (ended_for (Some purpose) ending empty_outbox u).0.packets ≡ []
 plain_sends purpose plain ending u = (ended_leaves any ⊥ purpose ending empty_outbox u plain (λ x. absurd x)).packets
 
 pub other_sends : (purpose : Option Purpose) → ((act : ℕ) → purpose ≡ Some (purposes.Rom act) → ⊥) → (ending : Ending) (u : InitiatorState) → (ended_for purpose ending empty_outbox u).0.packets ≡ []
