@@ -20,7 +20,7 @@ use Rattle.label_table.specs.Judging.{by_request}
 use Rattle.label_table.specs.Layer.{Finding, Layer, answering_step, asking_step, judging_step, of_again, of_generation, of_grammar, of_label, of_request, of_response}
 use Rattle.label_table.specs.Requests.{is_last, is_write, with_label}
 use Rattle.label_table.specs.declared.judgement.Asked.{Asked}
-use Rattle.orb_layout.specs.Replies.{Answer, Expired, Payload, Refused}
+use Rattle.orb_layout.specs.Replies.{Answer, Payload}
 use Rattle.packet_store.specs.Kept.{found_sent}
 use Rattle.packet_store.specs.Stored.{Stored}
 use Rattle.packet_store.specs.declared.sent.Sent.{Sent}
@@ -97,6 +97,7 @@ use Rattle.turn_laws.proofs.RomKnown as known
 use Rattle.turn_laws.proofs.RomSends.{expired_sends, last_sends, next_sends, next_tells, other_sends, refused_sends}
 use Rattle.turn_laws.proofs.RomTies.{RomOf}
 use Rattle.turn_laws.proofs.SentAnswers.{all_own_unsent, none_due, reply_due, sends_behind, told_unsent}
+use Rattle.turn_laws.proofs.Unserved.{where_holds}
 
 -- ---- a label that is free serves a read
 lowest_found : (tries label n : ℕ) (test : ℕ → Bool) → label ≤ n → n < label + tries → test n ≡ true → is_some (lowest_from tries test label) ≡ true
@@ -173,10 +174,6 @@ module _ (node peer : ℕ) (body : Body) where
 where_none : (b : Bool) (X : Type 0) → b ≡ false → Where b X
 where_none true X e = untrue (sym e)
 where_none false X e = tt
-
-where_all : (b : Bool) (X : Type 0) → X → Where b X
-where_all true X x = x
-where_all false X x = tt
 
 one_dropped : (to : Option ℕ) (from : ℕ) (packet : Outgoing) (w : WorldState) → drop 1 (sends_of (packet_note to from packet w ++ [])) ≡ []
 one_dropped None from packet w = refl
@@ -550,14 +547,14 @@ module _ (units ready : ℕ) (start : List Disk) where
       Asks_so r = HostAsks start (turn ms (said (judged_note serial r.0)) (handed (suc i) 0 r.1.0 v))
 
       request_asks : (p : Packet) → Asks wire q p by_request → (l : Layer Purpose) → (let r = request_step p one.bytes empty_outbox (record old { layer = l }) in AreOwn r.1.0.sides → (j : Judged) → HostAsks start (turn ms (said (judged_note serial j)) (handed (suc i) 0 r.1.0 v)))
-      request_asks p a l own judgements.Got = where_all (of_initiator (receiver_in (wire.sent serial))) _ (request_law p a l v own)
+      request_asks p a l own judgements.Got = where_holds (of_initiator (receiver_in (wire.sent serial))) _ (request_law p a l v own)
       request_asks p a l own (judgements.Ignored cause) = tt
 
       found_asks : (x : Finding Purpose × Layer Purpose) → judging_step old.layer one.generation one.bytes ≡ x → RowFor wire q old.layer.node x → (let r = received x one.bytes empty_outbox old in AreJudged (said (judged_note serial r.0) ∷ ms) → AreOwn r.1.0.sides → Asks_so r)
       found_asks (of_generation, l) e row judged own = tt
       found_asks (of_grammar, l) e row judged own = tt
       found_asks (of_label, l) e row judged own = tt
-      found_asks (of_response p label purpose, l) e row judged own = where_all (of_initiator (receiver_in (wire.sent serial))) _ (response_law p label purpose l e judged v bus own purpose refl)
+      found_asks (of_response p label purpose, l) e row judged own = where_holds (of_initiator (receiver_in (wire.sent serial))) _ (response_law p label purpose l e judged v bus own purpose refl)
       found_asks (of_again p rcode, l) e row judged own = tt
       found_asks (of_request p, l) e row judged own = request_asks p row l own (request_step p one.bytes empty_outbox (record old { layer = l })).0
 

@@ -24,6 +24,7 @@ use Rattle.sbp_laws.specs.Turns.{event_of}
 use Rattle.sbp_world.proofs.Common.{same_number, untrue}
 use Rattle.sbp_world.proofs.Hosts.Carries.{IsNoAct}
 use Rattle.sbp_world.proofs.Hosts.Cores.{turned, wire_is}
+use Rattle.sbp_world.proofs.Pointers.Sending.{off as and_off}
 use Rattle.turn_laws.proofs.Handed.{onto}
 
 -- the quadlets that were read, and the distance of MANAGEMENT_AGENT
@@ -76,10 +77,6 @@ is_beside i note = true
 not_true : (b : Bool) → not b ≡ true → b ≡ false
 not_true true e = untrue e
 not_true false e = refl
-
-and_off : (b c : Bool) → b ≡ false → (b && c) ≡ false
-and_off true c e = untrue (sym e)
-and_off false c e = refl
 
 begins_rom : (k : ℕ) (host : Host) → rom_in (list_begins k host) ≡ rom_in host
 begins_rom zero host = refl

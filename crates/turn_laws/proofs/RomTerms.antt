@@ -39,6 +39,7 @@ use Rattle.sbp_world.proofs.Lists.BegunBy.{transaction_of}
 use Rattle.sbp_world.proofs.Lists.FedHeld.{same_self}
 use Rattle.turn_laws.proofs.Handed.{onto}
 use Rattle.sbp_world.proofs.Lists.ManageFirsts.{got_operation}
+use Rattle.sbp_world.proofs.Pointers.Sending.{off as and_off}
 
 -- ---- a response is no request, by its tcode
 abbrev pub is_asking : Part → Bool
@@ -238,10 +239,6 @@ ended_stays operations.Enable word host = inr refl
 seen_stays : (b : Bool) (host : Host) → Stays host (reset_seen b host)
 seen_stays true host = inr refl
 seen_stays false host = inl refl
-
-and_off : (b c : Bool) → b ≡ false → (b && c) ≡ false
-and_off true c e = untrue (sym e)
-and_off false c e = refl
 
 off : (b : Bool) (old x : Host) → b ≡ false → Stays old (cond b x old)
 off true old x e = untrue (sym e)

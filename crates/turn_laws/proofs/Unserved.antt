@@ -98,7 +98,7 @@ module _ (start : List Disk) (T : Target) (t : Turn) (a : AgentTurn) (step : Age
 resting : (wire : Terms) (node : ℕ) (a : AgentTurn) (step : AgentStep) → UnservedBody wire node (body_of step.ask a.machine step.ended 0) → a.step ≡ step → UnservedBody wire node (body_of a.step.ask a.machine a.step.ended 0)
 resting wire node a step h e = subst (λ (s : AgentStep). UnservedBody wire node (body_of s.ask a.machine s.ended 0)) (sym e) h
 
-where_holds : (b : Bool) (A : Type 0) → A → Where b A
+pub where_holds : (b : Bool) (A : Type 0) → A → Where b A
 where_holds true A h = h
 where_holds false A h = tt
 
