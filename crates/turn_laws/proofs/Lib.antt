@@ -56,6 +56,11 @@ pub mod AskEnds
 pub mod RequestEnds
 pub mod TargetEnds
 pub mod TargetHails
+pub mod PushPlaces
+pub mod PushTurns
+pub mod UnaskedDue
+pub mod UnaskedPushes
+pub mod Asked
 pub mod Ends
 pub mod Once
 pub mod OrderRanks

@@ -51,7 +51,7 @@ use Rattle.turn_laws.proofs.Pass.{of_every_run}
 use Rattle.turn_laws.proofs.SentAnswers.{AreUnsent, all_own_unsent, others_unsent, sends_behind, told_unsent}
 
 -- ---- what is handed out without a packet
-no_sends : (node weight : ℕ) (o : OutboxState) (w : WorldState) → AreUnsent o.sides → o.packets ≡ [] → sends_of (handed node weight o w) ≡ []
+pub no_sends : (node weight : ℕ) (o : OutboxState) (w : WorldState) → AreUnsent o.sides → o.packets ≡ [] → sends_of (handed node weight o w) ≡ []
 no_sends node weight o w h e =
     let v = told_all weight o.sides w in
     sends_behind (notes_told weight o.sides w) (notes_sent node o.packets v) (told_unsent weight o.sides w h) ∙ ap (λ ps. sends_of (notes_sent node ps v)) e
@@ -86,7 +86,7 @@ seen_by (true, layer) s =
     let t = scene (cleared_node layer s.node) s.outbox in
     let u = cut_from 8 0 cuts.Reset None t in held_same 8 0 u.node.logins.places u.outbox ∙ cuts_same 8 0 cuts.Reset None t
 
-seen_same : (generation id : ℕ) (s : TargetScene) → (seen generation id s).1.outbox.packets ≡ s.outbox.packets
+pub seen_same : (generation id : ℕ) (s : TargetScene) → (seen generation id s).1.outbox.packets ≡ s.outbox.packets
 unfolding seen
 seen_same generation id s = seen_by (seeing_step s.node.layer generation id) s
 
@@ -96,7 +96,7 @@ unfolding expired_from
 lapsed_same zero at logins o = refl
 lapsed_same (suc left) at logins o = lapsed_same left (at + 1) logins (with_side o (sides.Expired (slice_index_or logins at 0)))
 
-ticked_same : (s : TargetScene) → (ticked s).outbox.packets ≡ s.outbox.packets
+pub ticked_same : (s : TargetScene) → (ticked s).outbox.packets ≡ s.outbox.packets
 unfolding ticked
 ticked_same s = let t = tick_step s.node.logins in lapsed_same (length t.0) 0 t.0 s.outbox
 

@@ -4,11 +4,13 @@ use Rattle.std.proofs.Math.Nat.{suc-ne-zero}
 use Rattle.std.proofs.lemmas.Bool.Decides.{nat_tests}
 use Rattle.login_table.specs.declared.login.Login.{Login}
 use Rattle.packet_store.specs.Kept.{is_flying}
-use Rattle.packet_store.specs.Store.{deliver_step}
+use Rattle.packet_store.specs.Stored.{deliver_step}
 use Rattle.rbc_disk.specs.Disk.{Disk}
 use Rattle.sbp_bus.specs.Packets.{end_note, judged_note}
 use Rattle.sbp_bus.specs.Places.{or_nobody}
+use Rattle.sbp_bus.specs.Telling.{list_in}
 use Rattle.sbp_bus.specs.declared.places.Holder.{Holder}
+use Rattle.sbp_bus.specs.Generations.{id_of}
 use Rattle.sbp_initiator.specs.Receiving.{receive_step}
 use Rattle.sbp_journal.specs.Outgoings.{OutboxState, empty_outbox}
 use Rattle.sbp_journal.specs.Run.{Moment, asked, said}
@@ -23,13 +25,15 @@ use Rattle.sbp_journal.specs.declared.side.Side.{Side}
 use Rattle.sbp_journal.specs.declared.side.Side.TheVariants as sides
 use Rattle.sbp_laws.specs.Packets.{receiver_in}
 use Rattle.sbp_laws.specs.SentLaw.{end_of}
-use Rattle.sbp_laws.specs.Turns.{EachTurn, Turn, turn}
-use Rattle.sbp_target.specs.Receiving.{received}
+use Rattle.sbp_laws.specs.Turns.{EachTurn, Turn, sends_of, turn}
+use Rattle.sbp_target.specs.Nodes as target
+use Rattle.sbp_target.specs.Receiving.{received, seen, ticked}
 use Rattle.sbp_world.specs.Delivering.{faults_after, marked, whole_of}
 use Rattle.sbp_world.specs.Handing.{handed_out}
 use Rattle.sbp_world.specs.Hosts.Handing.{AreOthers}
 use Rattle.sbp_world.specs.Lines.{weight_in}
-use Rattle.sbp_world.specs.Telling.{holder, list_in, ticket_at, told as told_one, told_all}
+use Rattle.sbp_world.specs.Nodes.{told_seen, with_seen}
+use Rattle.sbp_world.specs.Telling.{holder, ticket_at, told as told_one, told_all}
 use Rattle.sbp_world.specs.Worlds.{Scene, WorldState, initiator_at, with_initiator, with_note, with_target, without_notes}
 use Rattle.sbp_world.proofs.Agents.Management.Calm.{AreQuiet, IsQuiet}
 use Rattle.sbp_world.proofs.Agents.Management.Holding.{past_terms}
@@ -40,7 +44,6 @@ use Rattle.sbp_world.proofs.Lists.Extends.{marked_fresh}
 use Rattle.sbp_world.proofs.Lists.OpenPlaces.{Has as HasPlace, opened_here, opened_there}
 use Rattle.bus_transactions.proofs.Reaches.{goes_on}
 use Rattle.turn_laws.specs.Alone.{PushesAlone}
-use Rattle.turn_laws.specs.OtherRequests.{AsksNobody}
 use Rattle.turn_laws.specs.Runs.{OfEveryRun}
 use Rattle.turn_laws.proofs.Alone.{alone_cases, first_kept_here}
 use Rattle.turn_laws.proofs.Announcing.{got_ids}
@@ -49,6 +52,7 @@ use Rattle.turn_laws.proofs.Calls.{Brings, CarriedCases, Stays, calls, injects, 
 use Rattle.turn_laws.proofs.Handed.{AllInner, handed, handed_inner, note_of, notes_sent, notes_told, onto, others_inner}
 use Rattle.turn_laws.proofs.LaterNotes.{ArePlain, IsPlain, owns_handed}
 use Rattle.turn_laws.proofs.LaterTerms.{Pushes}
+use Rattle.turn_laws.proofs.OtherRequests.{no_sends, seen_same, ticked_same}
 use Rattle.turn_laws.proofs.Pass.{of_every_carried}
 use Rattle.turn_laws.proofs.PendingHeard.{Hails, heard_kept, late_kept}
 use Rattle.turn_laws.proofs.PendingKept.{Id}
@@ -57,6 +61,7 @@ use Rattle.turn_laws.proofs.PendingTerms.{ignored_same}
 use Rattle.turn_laws.proofs.PendingTurns.{Kept}
 use Rattle.turn_laws.proofs.Places.{Place}
 use Rattle.turn_laws.proofs.PushSerials.{Has}
+use Rattle.turn_laws.proofs.SentAnswers.{others_unsent}
 use Rattle.turn_laws.proofs.StatusHeralds.{IsHeard, Tells}
 
 -- ---- a note stands among these
@@ -89,7 +94,6 @@ module _ (place i : ℕ) where
       list = list_in (ticket_at w other orb)
 
       by : (b : Bool) → nat_eq place other ≡ b → Keeps (told_one 0 (sides.Opened other orb) w)
-      unfolding told_one
       by true e =
           let same : place ≡ other = equal_numbers place other e in
           record { holder = record k.holder { list = list }; there = subst (λ p. HasPlace (told_one 0 (sides.Opened p orb) w).places place (record k.holder { list = list_in (ticket_at w p orb) })) same (opened_here w.places place (list_in (ticket_at w place orb)) k.holder k.there); is = k.is }
@@ -139,13 +143,15 @@ AreForeign [] = Unit {0}
 AreForeign (note ∷ rest) = IsForeign note × AreForeign rest
 
 pub record IsCalling (start : List Disk) (t : Turn) : Type 0 where
+  pub first : Note
+  pub begins : t.start ≡ said first
   pub inner : AllInner t.rest
   pub called : AllCalled start (t.start ∷ t.past) t.rest (end_of t)
 
 pub data AsksCalled (start : List Disk) (t : Turn) : Type 0 where
   foreign : AreForeign t.rest → AsksCalled start t
   calling : IsCalling start t → AsksCalled start t
-  silent : AsksNobody t.start → AsksCalled start t
+  silent : sends_of t.rest ≡ [] → AsksCalled start t
 
 one_foreign : (node : ℕ) (note : Note) → (node ≡ 0 → ⊥) → IsPlain (λ to bytes. Unit {0}) node note → IsForeign note
 one_foreign node (notes.Sent serial generation from to bytes) other p = λ e. other (sym p.0 ∙ e)
@@ -236,6 +242,8 @@ module _ (units ready : ℕ) (has : 0 < units) (start : List Disk) where
         let first = said note ∷ hist past s.world in
         let rest = handed 0 0 x.1.outbox v in (
           calling (record {
+            first = note;
+            begins = refl;
             inner = handed_inner 0 0 x.1.outbox v (others_inner x.1.outbox.sides others);
             called = noted_behind (λ start ms. AllCalled start first rest ms) start note 0 x.1.outbox s.world v past (ap (λ ns. note ∷ ns) (marked_fresh serial again u))
                 (λ r h young. called_of past s here serial x.0 x.1.outbox v (marked_places serial again u) (terms (hist past (handed_out 0 0 x.1.outbox v))) r (kept.1 r h young));
@@ -252,6 +260,8 @@ module _ (units ready : ℕ) (has : 0 < units) (start : List Disk) where
         let first = said note ∷ hist past s.world in
         let rest = handed 0 0 t.outbox v in (
           calling (record {
+            first = note;
+            begins = refl;
             inner = handed_inner 0 0 t.outbox v (others_inner t.outbox.sides others);
             called = noted_behind (λ start ms. AllCalled start first rest ms) start note 0 t.outbox s.world v past refl (λ r h young. absurd (kept.1 r h young));
           }),
@@ -259,12 +269,18 @@ module _ (units ready : ℕ) (has : 0 < units) (start : List Disk) where
         );
     late_own = λ past s serial request i outbox state found node_is inside e own here behind noted k.
         (own_foreign (hist past s.world) (said (notes.TimedOut serial)) i 0 outbox _ own, (Carries.late_own past s serial request i outbox state found node_is inside e own here behind noted k).1);
-    sees = λ past s others here behind noted k. (silent tt, (Carries.sees past s others here behind noted k).1);
-    sees_own = λ past s i inside own here behind noted k. (silent tt, (Carries.sees_own past s i inside own here behind noted k).1);
-    ticks = λ past s others here behind noted k. (silent tt, (Carries.ticks past s others here behind noted k).1);
+    sees = λ past s others here behind noted k.
+        let g = s.world.generations.latest in
+        let x = (seen g.generation (id_of g 0) (target.scene s.world.target empty_outbox)).1 in
+        (silent (no_sends 0 0 x.outbox (with_target x.node (with_seen 0 (told_seen 0 s.world))) (others_unsent x.outbox.sides others) (seen_same g.generation (id_of g 0) (target.scene s.world.target empty_outbox))), (Carries.sees past s others here behind noted k).1);
+    sees_own = λ past s i inside own here behind noted k.
+        (own_foreign (hist past s.world) (said (notes.Seen (suc i) s.world.generations.latest.generation)) i 0 _ _ own, (Carries.sees_own past s i inside own here behind noted k).1);
+    ticks = λ past s others here behind noted k.
+        let x = ticked (target.scene s.world.target empty_outbox) in
+        (silent (no_sends 0 0 x.outbox (with_target x.node (with_note notes.Tick s.world)) (others_unsent x.outbox.sides others) (ticked_same (target.scene s.world.target empty_outbox))), (Carries.ticks past s others here behind noted k).1);
     ends = λ past s done here behind k. (foreign tt, (Carries.ends past s done here behind k).1);
     acts = λ past s line i action outbox state inside e own here behind k. (
-      foreign (plain_foreign (i + 1) _ (λ z. absurd (omega (arith, z))) (owns_handed (λ to bytes. Unit {0}) (i + 1) (weight_in action) outbox (with_initiator i state (without_notes s.world)) own (all_leave (i + 1) _ outbox.packets))),
+      foreign (plain_foreign (i + 1) _ (λ z. absurd (omega (arith, z))) (owns_handed (λ to bytes. Unit {0}) (i + 1) (weight_in action) outbox (with_initiator i state (without_notes s.world)) own (all_leave (i + 1) (with_initiator i state (without_notes s.world)).generations outbox.packets))),
       (Carries.acts past s line i action outbox state inside e own here behind k).1,
     );
     lines = λ past s line event rest behind brings fresh here there stays k. (foreign (line_foreign past s here k line event rest behind brings fresh there stays), (Carries.lines past s line event rest behind brings fresh here there stays k).1);

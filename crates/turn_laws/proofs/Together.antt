@@ -5,6 +5,7 @@ use Rattle.turn_laws.proofs.AgentRequests.{agent_requests_law}
 use Rattle.turn_laws.proofs.Actions.{actions_law}
 use Rattle.turn_laws.proofs.Aborts.{aborts_law}
 use Rattle.turn_laws.proofs.AnswerRuns.{answered_law}
+use Rattle.turn_laws.proofs.Asked.{asked_law}
 use Rattle.turn_laws.proofs.Cleared.{cleared_law}
 use Rattle.turn_laws.proofs.Codes.{codes_law}
 use Rattle.turn_laws.proofs.Cuts.{cuts_law}
@@ -47,6 +48,7 @@ turns_law = record {
     cuts = cuts_law.after_lines line run is some most size;
     cleared = cleared_law.after_lines line run is some most size;
     packets = packets_run_law.after_lines line run is some most size;
+    asked = asked_law.after_lines line run is some most size;
     answers = answered_law.after_lines line run is some most size;
     statuses = statuses_law.after_lines line run is some most size;
     after = after_law.after_lines line run is some most size;
@@ -79,6 +81,7 @@ turns_law = record {
     cuts = cuts_law.between line run is some most size next deliveries told may;
     cleared = cleared_law.between line run is some most size next deliveries told may;
     packets = packets_run_law.between line run is some most size next deliveries told may;
+    asked = asked_law.between line run is some most size next deliveries told may;
     answers = answered_law.between line run is some most size next deliveries told may;
     statuses = statuses_law.between line run is some most size next deliveries told may;
     after = after_law.between line run is some most size next deliveries told may;

@@ -13,6 +13,7 @@ use Rattle.sbp_laws.specs.SentLaw.{AfterTurn}
 use Rattle.sbp_laws.specs.SentPackets.{SentAt}
 use Rattle.sbp_laws.specs.SentWrites.{DecisionsAreSent, StatusesAreSent}
 use Rattle.sbp_laws.specs.Turns.{EachMoment, EachTurn}
+use Rattle.sbp_laws.specs.Unasked.{NoneUnasked}
 use Rattle.turn_laws.specs.ActRequests.{ActsByRequests}
 use Rattle.turn_laws.specs.AgentRequests.{AgentAsks}
 use Rattle.turn_laws.specs.Actions.{ActsByRows}
@@ -48,6 +49,7 @@ pub record LawfulInTurns (start : List Disk) (past : List Moment) : Type 0 where
   pub cuts : EachTurn (CutsWhereDue start) past
   pub cleared : EachTurn (ClearsWhereDue start) past
   pub packets : EachMoment SentAt past
+  pub asked : EachMoment (NoneUnasked start) past
   pub answers : EachTurn (AnswersLaw start) past
   pub statuses : EachTurn (StatusesAreSent start) past
   pub after : EachTurn (AfterTurn start) past

@@ -5,6 +5,7 @@ ghost use Rattle.turn_laws.specs.ActRequests.{ActRequestsLaw};
 ghost use Rattle.turn_laws.specs.Actions.{ActionsLaw};
 ghost use Rattle.turn_laws.specs.AgentRequests.{AgentRequestsLaw};
 ghost use Rattle.turn_laws.specs.Alone.{AloneLaw};
+ghost use Rattle.turn_laws.specs.Asked.{AskedLaw};
 ghost use Rattle.turn_laws.specs.Announced.{AnnouncedLaw};
 ghost use Rattle.turn_laws.specs.Answers.{AnsweredLaw};
 ghost use Rattle.turn_laws.specs.Cleared.{ClearedLaw};
@@ -337,4 +338,12 @@ pub fn targets_send_their_requests()
 #[tactic(auto, using(crate::proofs::OtherRequests::other_requests_law))]
 pub fn other_turns_send_nothing()
     ensures { OtherRequestsLaw }
+{}
+
+/// Each request that the target sends in a run, whatever anybody injected, while neither an agent nor the management
+/// operation has one of its kind to send, is the write of an unsolicited status block to an initiator of which
+/// `unsolicited` stands before it in its turn, the first packet there to that initiator: `asked` of the sent law.
+#[tactic(auto, using(crate::proofs::Asked::asked_law))]
+pub fn requests_are_asked_for()
+    ensures { AskedLaw }
 {}
