@@ -513,8 +513,8 @@ module _ (units ready : ℕ) (has : 0 < units) (start : List Disk) (past : List 
           let rows = announced_rows lives node.pending layer h.known x.node (still_announced lives node.pending x.node h.still) in (
             target_kept units ready has start past s here (notes.TimedOut serial) x.outbox lapsed s.media refl there others owned clean refl layer node.pending base ties rows,
             λ r q young.
-            let j = target_joins units ready has start past s here (notes.TimedOut serial) x.outbox lapsed s.media refl there others owned clean refl layer node.pending ties rows r q young in
-            untrue (sym j.not_before ∙ (sym (ap (is_listed (Id (noted (notes.TimedOut serial) t) j.to)) h.still.pending) ∙ j.is_later)),
+                let j = target_joins units ready has start past s here (notes.TimedOut serial) x.outbox lapsed s.media refl there others owned clean refl layer node.pending ties rows r q young in
+                untrue (sym j.not_before ∙ (sym (ap (is_listed (Id (noted (notes.TimedOut serial) t) j.to)) h.still.pending) ∙ j.is_later)),
           )
       by_expiring (Err stale, layer) f h = absurd (stale_not stale done (sym (expired_is stale layer f) ∙ ap (λ (z : Result (Unit {0}) Stale × target.Scene). z.0) e))
         where

@@ -1,5 +1,5 @@
 -- At each place of a run a live login of the terms stands in the place that its initiator is found in on its unit.
-use Rattle.std.proofs.Common.{arith, ◌≡◌, ◌∙◌, refl, sym, ap, subst, ℕ, suc, ◌+◌, ◌<◌, true, List, ◌∷◌, Option, Some, None}
+use Rattle.std.proofs.Common.{arith, ◌≡◌, ◌∙◌, refl, sym, ap, ℕ, suc, ◌+◌, ◌<◌, true, List, ◌∷◌, Option, Some, None}
 use Rattle.login_table.specs.Table.{Table, is_live, place_at}
 use Rattle.login_table.specs.declared.login.Login.{Login}
 use Rattle.rbc_disk.specs.Disk.{Disk}

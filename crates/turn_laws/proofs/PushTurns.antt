@@ -1,5 +1,5 @@
 -- A turn in which `unsolicited` is told: it is the reply to an agent, whose initiator is none of those that are told of the disc; so its packets are the agent's, which go to another initiator, and behind them the unsolicited statuses, one to each.
-use Rattle.std.proofs.Common.{arith, ◌≡◌, ◌∙◌, refl, sym, ap, subst, inl, inr, ◌⊎◌, ℕ, zero, suc, ◌+◌, ◌≤◌, ◌==◌, ◌&&◌, not, nat_eq, Bool, true, false, cond, List, [], ◌∷◌, ◌++◌, Option, Some, None, Result, Ok, Err}
+use Rattle.std.proofs.Common.{arith, ◌≡◌, ◌∙◌, refl, sym, ap, subst, inl, inr, ◌⊎◌, ℕ, suc, ◌+◌, ◌≤◌, ◌==◌, ◌&&◌, not, nat_eq, Bool, true, false, cond, List, [], ◌∷◌, Option, Some, None, Result, Ok, Err}
 use Rattle.std.specs.Prelude.{filter, slice_index_or}
 use Rattle.std.proofs.lemmas.Bool.Decides.{nat_tests}
 use Rattle.login_table.specs.Table.{is_live, place_at}
@@ -17,15 +17,15 @@ use Rattle.orb_layout.specs.declared.ask.Ask.{Ask}
 use Rattle.orb_layout.specs.Pointers.{pointer_at}
 use Rattle.sbp_journal.specs.Addresses.{Access, Start, doorbell, orb_pointer, register, start_at, start_serves}
 use Rattle.sbp_journal.specs.Transactions.{Part, Sending, no_packet, part_of, request, response}
-use Rattle.sbp_laws.specs.Agents.{AgentTurn, Event, agent_turn, by_doorbell, by_pointer, event_by, got_in, nothing, replies, target_before, wire_after, wire_before, write_in, write_of, writes}
+use Rattle.sbp_laws.specs.Agents.{AgentTurn, Event, agent_turn, by_doorbell, by_pointer, event_by, got_in, nothing, replies, target_before, wire_before, write_in, write_of, writes}
 use Rattle.sbp_laws.specs.SentAnswers.{answer_due, answers_to, is_answered, reply_in, reply_packet}
 use Rattle.sbp_laws.specs.CarriedLaw.{Run, RunsWhereDue, run_by, run_of, runs_in}
-use Rattle.sbp_laws.specs.MediaLaw.{Load, is_push_note, is_told, load_if, load_in, logins_for, logins_told, may_push, push_notes, told_logins}
+use Rattle.sbp_laws.specs.MediaLaw.{Load, is_push_note, is_told, load_if, load_in, may_push, push_notes, told_logins}
 use Rattle.sbp_laws.specs.NoteKinds.{of_kind}
 use Rattle.sbp_laws.specs.Packets.{access_at, access_in, answered_as, answered_at, answered_in, id_for, packet_in, receiver_in}
 use Rattle.sbp_laws.specs.Targets.{Agent, Target, agent_at, initiator_at, initiator_with, is_serial, place_on, unit_of}
 use Rattle.sbp_laws.specs.Turns.{Turn}
-use Rattle.sbp_world.proofs.Common.{and_first, equal_numbers, untrue}
+use Rattle.sbp_world.proofs.Common.{equal_numbers, untrue}
 use Rattle.turn_laws.proofs.AgentDue.{turn_in}
 use Rattle.turn_laws.proofs.PushPlaces.{IsCall, IsPlaced, gets_it, times_it}
 use Rattle.turn_laws.proofs.TargetHails.{Stands}

@@ -1,5 +1,5 @@
 -- A disc that came: who comes to be among the nodes that an unsolicited status is under way to has a login of which `unsolicited` is told.
-use Rattle.std.proofs.Common.{◌≡◌, ◌∙◌, refl, sym, ap, subst, inl, inr, ◌⊎◌, ℕ, zero, suc, ◌+◌, ◌&&◌, ◌==◌, not, Bool, true, false, cond, List, [], ◌∷◌, ◌++◌, Option, Some, None}
+use Rattle.std.proofs.Common.{◌≡◌, ◌∙◌, refl, sym, ap, inl, inr, ◌⊎◌, ℕ, zero, suc, ◌+◌, ◌&&◌, ◌==◌, not, Bool, true, false, cond, List, [], ◌∷◌, ◌++◌, Option, Some, None}
 use Rattle.async_packet.specs.Labels.{LabelParts}
 use Rattle.command_agent.specs.Machine.{Machine}
 use Rattle.command_agent.specs.Steps.{reply_step}
@@ -18,7 +18,7 @@ use Rattle.sbp_journal.specs.declared.side.Side.{Side}
 use Rattle.sbp_journal.specs.declared.side.Side.TheVariants as sides
 use Rattle.sbp_target.specs.Agents.{follow}
 use Rattle.sbp_target.specs.Desks.{which_in}
-use Rattle.sbp_target.specs.Nodes.{NodeState, Scene, desk_at, login_at, scene}
+use Rattle.sbp_target.specs.Nodes.{Scene, desk_at, login_at, scene}
 use Rattle.sbp_target.specs.Replies.{Stage, Whole, advance, advanced_with, announced_by, came, changed_by, follow_all, plain_at, replied, replied_by, replied_to, replied_with, scene_of, served_login, stage}
 use Rattle.sbp_target.specs.Sending.{request_step, sent_by, with_side}
 use Rattle.sbp_target.specs.Units.{announce_at, announce_from, announce_in, announce_to, hears, is_pending, unsolicited_by}
@@ -27,7 +27,7 @@ use Rattle.sbp_target.specs.declared.purpose.Purpose.TheVariants as purposes
 use Rattle.sbp_target.proofs.Histories.Seats.{Lives}
 use Rattle.sbp_world.proofs.Agents.AskedLate.{follow_logins}
 use Rattle.sbp_world.proofs.Agents.AskedReplies.{changed_logins}
-use Rattle.sbp_world.proofs.Common.{and_first}
+use Rattle.turn_laws.proofs.Announcing.{second_of}
 use Rattle.turn_laws.proofs.StatusAnnounces.{changed_still, replied_still}
 use Rattle.turn_laws.proofs.StatusOnce.{more_pending}
 use Rattle.turn_laws.proofs.StatusStays.{Still, follows}
@@ -88,18 +88,12 @@ module _ (first : List ℕ) (table : Table) where
         by true = record { logins = h.logins; heard = λ peer e. side_more peer (sides.Unsent place) (h.heard peer e) }
         by false = told_out (asking_step s.node.layer login.node (block_write login.fifo block) purposes.Unsolicited)
 
-  live_of : (a b c : Bool) → (a && (b && c)) ≡ true → b ≡ true
-  live_of true true c e = refl
-  live_of true false c e = e
-  live_of false true c e = refl
-  live_of false false c e = e
-
   announces_in : (unit from place : ℕ) (login : Option Login) (s : Scene) → login_at s.node place ≡ login → Heralds s → Heralds (announce_in unit from place login s)
   announces_in unit from place None s e h = h
   announces_in unit from place (Some login) s e h = by (hears unit from place (desk_at s.node place) login) refl
     where
       by : (b : Bool) → hears unit from place (desk_at s.node place) login ≡ b → Heralds (cond b (announce_to place login s) s)
-      by true f = announces_to place login s e (live_of (login.unit == unit) (is_live login) (not (place == from) && (desk_at s.node place).is_enabled) f) h
+      by true f = announces_to place login s e (second_of (login.unit == unit) (is_live login) (not (place == from) && (desk_at s.node place).is_enabled) f) h
       by false f = h
 
   announces_at : (unit from place : ℕ) (s : Scene) → Heralds s → Heralds (announce_at unit from place s)

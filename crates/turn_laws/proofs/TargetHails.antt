@@ -1,12 +1,11 @@
 -- In each turn of the target a packet that nothing wants as it is sent goes to an initiator of which `unsolicited` is told in the turn; and no other turn has a packet of the target.
-use Rattle.std.proofs.Common.{arith, ◌≡◌, ◌∙◌, refl, sym, ap, subst, inl, inr, ◌⊎◌, ℕ, zero, suc, ◌+◌, ◌<◌, ◌||◌, not, nat_eq, Bool, true, false, cond, List, [], ◌∷◌, ◌++◌, length, map, Option, Some, None}
+use Rattle.std.proofs.Common.{arith, ◌≡◌, ◌∙◌, refl, sym, ap, subst, inl, inr, ◌⊎◌, ℕ, zero, suc, ◌+◌, ◌<◌, ◌||◌, not, nat_eq, Bool, true, false, cond, List, [], ◌∷◌, ◌++◌, length, Option, Some}
 use Rattle.std.proofs.Math.Nat.{suc-ne-zero}
 use Rattle.std.proofs.lemmas.Bool.Decides.{nat_tests}
-use Rattle.login_table.specs.declared.login.Login.{Login}
 use Rattle.packet_store.specs.Kept.{is_flying}
 use Rattle.packet_store.specs.Stored.{deliver_step}
 use Rattle.rbc_disk.specs.Disk.{Disk}
-use Rattle.sbp_bus.specs.Packets.{end_note, judged_note}
+use Rattle.sbp_bus.specs.Packets.{judged_note}
 use Rattle.sbp_bus.specs.Places.{or_nobody}
 use Rattle.sbp_bus.specs.Telling.{list_in}
 use Rattle.sbp_bus.specs.declared.places.Holder.{Holder}
@@ -30,7 +29,6 @@ use Rattle.sbp_target.specs.Nodes as target
 use Rattle.sbp_target.specs.Receiving.{received, seen, ticked}
 use Rattle.sbp_world.specs.Delivering.{faults_after, marked, whole_of}
 use Rattle.sbp_world.specs.Handing.{handed_out}
-use Rattle.sbp_world.specs.Hosts.Handing.{AreOthers}
 use Rattle.sbp_world.specs.Lines.{weight_in}
 use Rattle.sbp_world.specs.Nodes.{told_seen, with_seen}
 use Rattle.sbp_world.specs.Telling.{holder, ticket_at, told as told_one, told_all}

@@ -1,5 +1,5 @@
 -- In a turn of the target each packet to an initiator of which `unsolicited` is told in it is the write of the unsolicited status, the first packet to it there; so is each that nothing wants, which goes to such an initiator.
-use Rattle.std.proofs.Common.{arith, ◌≡◌, ◌∙◌, refl, sym, ap, subst, inl, inr, ◌⊎◌, ℕ, zero, suc, ◌==◌, ◌&&◌, ◌||◌, not, nat_eq, Bool, true, false, cond, List, [], ◌∷◌, ◌++◌, Option, Some, None}
+use Rattle.std.proofs.Common.{arith, ◌≡◌, ◌∙◌, refl, sym, ap, subst, inl, inr, ℕ, zero, suc, ◌==◌, ◌&&◌, ◌||◌, not, nat_eq, Bool, true, false, cond, List, [], ◌∷◌, ◌++◌, Option, Some, None}
 use Rattle.std.proofs.lemmas.Bool.Decides.{nat_tests}
 use Rattle.label_table.specs.Bodies.{Body}
 use Rattle.login_table.specs.declared.login.Login.{Login}
@@ -25,10 +25,10 @@ use Rattle.sbp_laws.specs.Turns.{Turn, effects_of, is_sent, sends_of}
 use Rattle.sbp_laws.specs.Unasked.{is_announced, is_push}
 use Rattle.sbp_world.proofs.Common.{itself, untrue}
 use Rattle.turn_laws.proofs.AgentDue.{HasTurn, TellsFor}
-use Rattle.turn_laws.proofs.AgentSends.{AgentFirst, sends_for}
+use Rattle.turn_laws.proofs.AgentSends.{sends_for}
 use Rattle.turn_laws.proofs.Handed.{AllInner, IsInner}
 use Rattle.turn_laws.proofs.PresentOrbs.{told_one}
-use Rattle.turn_laws.proofs.PushPlaces.{ArePlaced, IsPlaced}
+use Rattle.turn_laws.proofs.PushPlaces.{ArePlaced}
 use Rattle.turn_laws.proofs.PushTurns.{Among, Differ, EachLogin, IsLoad, Named, load_of, kind_stands, named_in, one_of, reply_turn, runner_of, told_apart}
 use Rattle.turn_laws.proofs.RequestLabels.{access_in_body}
 use Rattle.turn_laws.proofs.RequestPackets.{Sound, begins_split}

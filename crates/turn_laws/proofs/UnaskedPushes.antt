@@ -1,5 +1,5 @@
 -- A request of the target that nothing wants as it is sent is among the packets of unsolicited statuses to the end of its turn; so it goes to an initiator of which `unsolicited` is told there.
-use Rattle.std.proofs.Common.{arith, ◌≡◌, ◌∙◌, refl, sym, ap, subst, inl, inr, ◌⊎◌, ℕ, zero, suc, ◌+◌, ◌<◌, ◌≤◌, ◌==◌, ◌&&◌, ◌||◌, not, is_none, nat_eq, Bool, true, false, cond, List, [], ◌∷◌, ◌++◌, position, Option, Some, None, Result, Ok, Err}
+use Rattle.std.proofs.Common.{arith, ◌≡◌, ◌∙◌, refl, sym, ap, subst, inl, inr, ◌⊎◌, ℕ, zero, suc, ◌≤◌, ◌||◌, not, is_none, Bool, true, false, cond, List, [], ◌∷◌, position, Option, Some, None, Result, Ok, Err}
 use Rattle.std.proofs.lemmas.Bool.Decides.{nat_tests}
 use Rattle.async_packet.specs.Packet.{Packet, lock, lock_response, read_block, read_block_response, read_quadlet, read_quadlet_response, write_block, write_quadlet, write_response}
 use Rattle.async_packet.specs.Reading.{reading}
@@ -8,14 +8,14 @@ use Rattle.orb_layout.specs.declared.ask.Ask.TheVariants.{Nothing}
 use Rattle.rbc_disk.specs.Disk.{Disk}
 use Rattle.sbp_journal.specs.Addresses.{Access}
 use Rattle.sbp_journal.specs.Run.{Moment, said}
-use Rattle.sbp_journal.specs.Transactions.{Kind, Part, Sending, part_by, part_in, part_of, request}
+use Rattle.sbp_journal.specs.Transactions.{Kind, Part, part_by, part_in, part_of, request}
 use Rattle.sbp_journal.specs.Wire.{terms}
 use Rattle.sbp_journal.specs.declared.note.Note.{Note}
 use Rattle.sbp_journal.specs.declared.note.Note.TheVariants as notes
 use Rattle.sbp_laws.specs.Deliveries.{once_told}
 use Rattle.sbp_laws.specs.Packets.{access_in, access_in_bytes, receiver_in, spelled_by}
 use Rattle.sbp_laws.specs.SentLaw.{end_of}
-use Rattle.sbp_laws.specs.Targets.{Agent, Target, is_write_access, known_at, sent_as, sent_for, taken_on, target_at, wants, wants_it}
+use Rattle.sbp_laws.specs.Targets.{Target, is_write_access, known_at, sent_as, sent_for, taken_on, target_at, wants, wants_it}
 use Rattle.sbp_laws.specs.Turns.{Turn}
 use Rattle.sbp_laws.specs.Unasked.{is_unasked}
 use Rattle.sbp_world.proofs.Common.{untrue}
