@@ -297,7 +297,7 @@ module _ (units ready : ℕ) (has : 0 < units) (start : List Disk) where
         let x = received run one.generation one.bytes (whole_of s.world.target s.media) in
         let v = with_note (judged_note serial x.0) (marked serial again (with_target x.1.node s.world)) in (
           heard_alone units ready has start past s here k serial run one found v (λ p. marked_holder serial again (with_target x.1.node s.world) p) others,
-          heard_kept units ready has start past s here k serial again run one found zero_to (record { disks = x.1.disks; faults = faults_after run one s.world.target s.media }) behind others behind,
+          (heard_kept units ready has start past s here k serial again run one found zero_to (record { disks = x.1.disks; faults = faults_after run one s.world.target s.media }) behind others behind).0,
         );
     heard_own = λ past s serial again one i found to_is inside own here behind judged k.
         let x = receive_step one.generation one.bytes empty_outbox (initiator_at s.world i) in
@@ -312,7 +312,7 @@ module _ (units ready : ℕ) (has : 0 < units) (start : List Disk) where
     late = λ past s serial request done t found node_is e others here behind judged k. (
       still_alone (hist past s.world) (said (notes.TimedOut serial)) t.outbox _ others
           (subst (λ (x : Result (Unit {0}) Stale × target.Scene). NoPushes x.1.outbox.sides) e (plain_none _ (side_law.expiries request.peer request.label s.world.target))),
-      late_kept units ready has start past s here k serial request done t found node_is e others behind,
+      (late_kept units ready has start past s here k serial request done t found node_is e others behind).0,
     );
     late_own = λ past s serial request i outbox state found node_is inside e own here behind judged k.
         let v = with_note (notes.TimedOut serial) (with_initiator i state s.world) in (

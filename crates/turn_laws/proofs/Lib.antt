@@ -55,6 +55,12 @@ pub mod OnlyAnswers
 pub mod AskEnds
 pub mod RequestEnds
 pub mod TargetEnds
+pub mod TargetHails
+pub mod PushPlaces
+pub mod PushTurns
+pub mod UnaskedDue
+pub mod UnaskedPushes
+pub mod Asked
 pub mod Ends
 pub mod Once
 pub mod OrderRanks
@@ -140,6 +146,7 @@ pub mod PushSerials
 pub mod PendingEnds
 pub mod PendingTerms
 pub mod Announcing
+pub mod StatusHeralds
 pub mod StatusKinds
 pub mod PushOwners
 pub mod OtherLabels

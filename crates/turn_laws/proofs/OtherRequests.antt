@@ -53,7 +53,7 @@ use Rattle.turn_laws.proofs.RomSends.{expired_sends, plain_sends}
 use Rattle.turn_laws.proofs.SentAnswers.{AreUnsent, all_own_unsent, others_unsent, sends_behind, told_unsent}
 
 -- ---- what is handed out without a packet
-no_sends : (node weight : ℕ) (o : OutboxState) (w : WorldState) → AreUnsent o.sides → o.packets ≡ [] → sends_of (handed node weight o w) ≡ []
+pub no_sends : (node weight : ℕ) (o : OutboxState) (w : WorldState) → AreUnsent o.sides → o.packets ≡ [] → sends_of (handed node weight o w) ≡ []
 no_sends node weight o w h e =
     let v = told_all weight o.sides w in
     sends_behind (notes_told weight o.sides w) (notes_sent node o.packets v) (told_unsent weight o.sides w h) ∙ ap (λ ps. sends_of (notes_sent node ps v)) e

@@ -1,5 +1,5 @@
 -- What is carried of the target's unsolicited statuses is kept by each call of the target: each packet that it hands out has its row, and a row that is new is to a node that had none pending.
-use Rattle.std.proofs.Common.{◌≡◌, ◌∙◌, refl, sym, ap, subst, ℕ, ◌<◌, ◌≤◌, List, [], ◌∷◌, length, Some}
+use Rattle.std.proofs.Common.{arith, ◌≡◌, ◌∙◌, refl, sym, ap, subst, inl, inr, ◌⊎◌, ℕ, ◌<◌, ◌≤◌, true, false, List, [], ◌∷◌, length, Some}
 use Rattle.bus_transactions.specs.Rows.{awaits, kind_as, shape, shape_of}
 use Rattle.bus_transactions.specs.Wire.{transaction}
 use Rattle.bus_transactions.proofs.Facts.{AskedBy, asked_is, begun_asked}
@@ -18,10 +18,12 @@ use Rattle.sbp_journal.specs.Transactions.{Kind, Transaction, locking, part_of, 
 use Rattle.sbp_journal.specs.Wire.{Terms, terms, waits}
 use Rattle.sbp_journal.specs.declared.note.Note.{Note}
 use Rattle.sbp_journal.specs.declared.outbox.Outgoing.{Outgoing}
+use Rattle.sbp_laws.specs.Packets.{receiver_in}
 use Rattle.sbp_laws.specs.Targets.{for_agent, for_manager, for_nobody, over, purpose_of, target_at}
 use Rattle.sbp_target.specs.Calls.{Call, alone}
 use Rattle.sbp_target.specs.Histories.Transactions.{IsUnderWay}
 use Rattle.sbp_target.specs.Nodes.{NodeState}
+use Rattle.sbp_target.specs.Units.{is_pending as is_listed}
 use Rattle.sbp_target.specs.declared.purpose.Purpose.{Purpose}
 use Rattle.sbp_target.specs.declared.purpose.Purpose.TheVariants as purposes
 use Rattle.sbp_world.specs.Agents.Serials.{IsHanded}
@@ -40,9 +42,9 @@ use Rattle.sbp_world.proofs.Wire.Nodes.{handed_alike}
 use Rattle.sbp_world.proofs.Wire.Starts.{laws_of}
 use Rattle.turn_laws.proofs.Handed.{handed}
 use Rattle.turn_laws.proofs.LaterNotes.{AllLeave, ArePlain, others_handed}
-use Rattle.turn_laws.proofs.LaterTerms.{Clean, Later, New, Own, Pushes}
+use Rattle.turn_laws.proofs.LaterTerms.{Clean, Later, New, Own, Pushes, free_waits}
 use Rattle.turn_laws.proofs.PendingKept.{AreSent, Id, Pending, Rows, Ties}
-use Rattle.turn_laws.proofs.PendingTurns.{Kept, turn_kept, turn_later}
+use Rattle.turn_laws.proofs.PendingTurns.{Kept, small, turn_kept, turn_later}
 use Rattle.turn_laws.proofs.Places.{Place}
 use Rattle.turn_laws.proofs.PushOwners.{IsWrite, access_writes, nobodys_pushed, turn_before}
 use Rattle.turn_laws.proofs.PushSerials.{Has, pushes_are_nobodys}
@@ -63,6 +65,14 @@ writing_is writing e = refl
 writing_is reading_quadlet e = cc
 writing_is reading_block e = cc
 writing_is locking e = cc
+
+-- a packet goes to a node that comes to be among those that one is pending to
+pub record Joins (t u : Terms) (nodes : ℕ) (before later : List ℕ) (r : ℕ) : Type 0 where
+  pub to : ℕ
+  pub there : receiver_in (u.sent r) ≡ Some to
+  pub inside : to ≤ nodes
+  pub not_before : is_listed (Id t to) before ≡ false
+  pub is_later : is_listed (Id t to) later ≡ true
 
 -- any FIFO
 abbrev pub Any : ℕ → ℕ → Type 0
@@ -198,3 +208,33 @@ module _ (units ready : ℕ) (has : 0 < units) (start : List Disk) (past : List 
         (subst (λ (x : NodeState). Rows layer x.layer pending x.pending) (sym alike.target) rows)
         (λ z r h x. (subst (λ n. x.packet.to ≤ n) count_there (to_there r h x), new_row r h x))
         (all_sent layer)
+
+    -- and goes to a node that comes to be among those that one is pending to
+    module _ (count : length v.initiators ≡ nodes) (layer : Layer Purpose) (pending : List ℕ) (ties : Ties nodes (terms base) layer) (rows : Rows layer v.target.layer pending v.target.pending) (r : ℕ) (h : Has (Pushes start now) r) (young : (terms base).count < r) where
+      more : Later start 0 Q base now
+      more = turn_later units ready has start past (note ∷ w.fresh) 0 0 outbox v media fresh_is there Q plain clean
+
+      abbrev Goes : Type 0
+      Goes = Joins (terms base) (terms now) nodes pending v.target.pending r
+
+      joined : (x : New Q (terms base) (terms now) r) → Goes
+      joined x =
+          let n = x.packet.to in
+          let alike = handed_alike 0 0 outbox v in
+          let id_same : Id (terms now) n ≡ Id (terms base) n = ap (λ g. (terms now).ids g n) (more.generation 0) ∙ more.ids ((terms base).generation 0) n in
+          let own = subst (λ i. Row v.target.layer i x.label) id_same (subst (λ (y : NodeState). Row y.layer (Id (terms now) n) x.label) alike.target (new_row r h x)) in
+          let inside = subst (λ m. n ≤ m) (ap (λ xs. length xs) alike.initiators ∙ count) (to_there r h x) in
+          by x inside (rows.new (Id (terms base) n) x.label own)
+        where
+          by : (x : New Q (terms base) (terms now) r) → x.packet.to ≤ nodes → Row layer (Id (terms base) x.packet.to) x.label ⊎ ((is_listed (Id (terms base) x.packet.to) pending ≡ false) × (is_listed (Id (terms base) x.packet.to) v.target.pending ≡ true)) → Goes
+          by x inside (inl o) =
+              let z = ties.waiting x.packet.to x.label inside o in
+              free_waits ((terms base).held (Own (terms base) x.packet.to x.label)) z.kind z.serial x.none z.is
+          by x inside (inr j) = record { to = x.packet.to; there = ap receiver_in x.sent; inside = inside; not_before = j.0; is_later = j.1 }
+
+      pub target_joins : Goes
+      target_joins = by (more.more r h)
+        where
+          by : Has (Pushes start base) r ⊎ ((◌≡◌ {A = ℕ} 0 0) × New Q (terms base) (terms now) r) → Goes
+          by (inl old) = let low = small units ready has start past (note ∷ w.fresh) 0 0 outbox v media fresh_is there Q plain clean r old in absurd (omega (arith, low, young))
+          by (inr x) = joined x.1

@@ -34,7 +34,7 @@ use Rattle.sbp_journal.specs.declared.cause.Judged.TheVariants as judgements
 use Rattle.sbp_journal.specs.declared.note.Note.{Note}
 use Rattle.sbp_journal.specs.declared.note.Note.TheVariants as notes
 use Rattle.sbp_laws.specs.MediaLaw.{is_pending}
-use Rattle.sbp_laws.specs.Packets.{begun_in}
+use Rattle.sbp_laws.specs.Packets.{begun_in, receiver_in}
 use Rattle.sbp_target.specs.Calls.{lets_expire, receives}
 use Rattle.sbp_target.specs.Nodes.{NodeState}
 use Rattle.sbp_target.specs.Nodes as target
@@ -54,22 +54,24 @@ use Rattle.sbp_world.specs.Worlds.{Scene, WorldState, with_note, with_target, wi
 use Rattle.sbp_world.proofs.Agents.CrewLapse.{asked as lapse_asked}
 use Rattle.sbp_world.proofs.Agents.Management.Holding.{good_of, past_terms, was_sent}
 use Rattle.sbp_world.proofs.Agents.Management.Still.{hist}
+use Rattle.sbp_world.proofs.Agents.Management.Calm.{AreQuiet}
 use Rattle.sbp_world.proofs.Common.{equal_numbers, untrue}
 use Rattle.sbp_world.proofs.Lists.SentOwned.{AllOwned}
 use Rattle.sbp_world.proofs.Wire.Asks.{upd_own}
 use Rattle.turn_laws.proofs.FoundLabels.{SameLabels, gets_same}
 use Rattle.turn_laws.proofs.LaterTerms.{Clean, Own, Pushes, free_waits}
-use Rattle.turn_laws.proofs.PendingCalls.{Any, all_owned, target_kept}
+use Rattle.turn_laws.proofs.PendingCalls.{Any, all_owned, target_joins, target_kept}
 use Rattle.turn_laws.proofs.PendingEnded.{announced_rows, gone, row_back, row_kept, row_stays}
 use Rattle.turn_laws.proofs.PendingFirsts.{late_alike, late_injected, Beside, IsUnder, got_alike, got_frees, got_injected, got_sent, is_under, leaves_same, less_got, less_late, tied_at, tied_beside}
-use Rattle.turn_laws.proofs.PendingKept.{Backs, Keeps, Lists, Needs, AreTied, Id, Less, Pending, Pends, Remain, Rows, WaitsFor, first_kept, row_waits, rows_same, ties_of, under_state}
+use Rattle.turn_laws.proofs.PendingKept.{Backs, Keeps, Lists, Needs, AreTied, Id, Less, Pending, Pends, Remain, Rows, Ties, WaitsFor, first_kept, row_waits, rows_same, ties_of, under_state}
 use Rattle.turn_laws.proofs.PendingTerms.{ignored_same, pending_not}
 use Rattle.turn_laws.proofs.PendingTurns.{Kept, beside_here, beside_kept, from_target, note_clean, note_pushes, tied_here}
 use Rattle.turn_laws.proofs.Places.{Place}
 use Rattle.turn_laws.proofs.PushSerials.{Has}
 use Rattle.turn_laws.proofs.SerialsStay.{IsNoSent}
 use Rattle.turn_laws.proofs.StatusAnnounces.{Announced, still_announced}
-use Rattle.turn_laws.proofs.StatusCalls.{Closed, Got, Hears, hears}
+use Rattle.turn_laws.proofs.StatusCalls.{Closed, Got, Hears, heralds, hears, quiet}
+use Rattle.turn_laws.proofs.StatusHeralds.{IsHeard}
 use Rattle.turn_laws.proofs.StatusLates.{Lapsed, Lapses, lapses}
 use Rattle.turn_laws.proofs.StatusOnce.{Distinct, distinct_out, out_none, out_others}
 use Rattle.turn_laws.proofs.StatusRows.{Row, row_of}
@@ -91,6 +93,13 @@ marked_same serial again v = by (again || not (is_flying serial v.store.kept))
     by : (b : Bool) → ((cond b v (record v { store = deliver_step v.store serial })).target ≡ v.target) × (((cond b v (record v { store = deliver_step v.store serial })).initiators ≡ v.initiators) × ((cond b v (record v { store = deliver_step v.store serial })).fresh ≡ v.fresh))
     by true = (refl, (refl, refl))
     by false = (refl, (refl, refl))
+
+-- a packet goes to a node of which something is so
+pub record Hails (t u : Terms) (nodes : ℕ) (IsHailed : ℕ → Type 0) (r : ℕ) : Type 0 where
+  pub to : ℕ
+  pub there : receiver_in (u.sent r) ≡ Some to
+  pub inside : to ≤ nodes
+  pub heard : IsHailed (Id t to)
 
 -- what is no unsolicited status
 none_not : None ≡ Some purposes.Unsolicited → ⊥
@@ -162,18 +171,57 @@ module _ (units ready : ℕ) (has : 0 < units) (start : List Disk) (past : List 
       abbrev After : Judged → Scene
       After judged = record { world = handed_out 0 0 X.1.outbox (V judged); media = media }
 
-      abbrev Goal : Judged → Type 0
-      Goal judged = Place units ready start past (After judged) → Kept start (hist past (After judged).world) (After judged)
-
-      abbrev First : Judged → List Moment
+      abbrev pub First : Judged → List Moment
       First judged = said (judged_note serial judged) ∷ ms
 
-      behind_it : (judged : Judged) (layer : Layer Purpose) (pending : List ℕ) → Clean (terms (First judged)) → Pending nodes (terms (First judged)) (Pushes start (First judged)) layer pending → AreTied nodes (terms (First judged)) layer → Rows layer X.1.node.layer pending X.1.node.pending → Goal judged
-      behind_it judged layer pending clean base tied_first rows place =
-          let m = marked_same serial again (with_target X.1.node w) in
-          target_kept units ready has start past s here (judged_note serial judged) X.1.outbox (V judged) media (ap (λ ns. judged_note serial judged ∷ ns) m.1.1) place others
-          (subst (λ (n : NodeState). AllOwned Any n.layer X.1.outbox.packets) (sym m.0) (all_owned units ready has start past s here (receives run s.media.disks one.generation one.bytes))) clean
-          (ap (λ xs. length xs) m.1.0) layer pending base (ties_of nodes (terms (First judged)) layer tied_first) (subst (λ (n : NodeState). Rows layer n.layer pending n.pending) (sym m.0) rows)
+      -- of this node `unsolicited` is told, and nothing of logins
+      abbrev pub HeardOf : ℕ → Type 0
+      HeardOf peer = IsHeard node.pending node.logins peer X.1.outbox.sides × AreQuiet X.1.outbox.sides
+
+      -- each packet that nothing wants goes to such a node
+      abbrev pub AllHailed : Judged → Type 0
+      AllHailed judged = (r : ℕ) → Has (Pushes start (hist past (After judged).world)) r → (terms (First judged)).count < r → Hails (terms (First judged)) (terms (hist past (After judged).world)) nodes HeardOf r
+
+      abbrev Goal : Judged → Type 0
+      Goal judged = Place units ready start past (After judged) → Kept start (hist past (After judged).world) (After judged) × AllHailed judged
+
+      -- who comes to be among those that one is pending to is told of
+      abbrev AllTold : List ℕ → Type 0
+      AllTold pending = (peer : ℕ) → is_listed peer pending ≡ false → is_listed peer X.1.node.pending ≡ true → HeardOf peer
+
+      module _ (judged : Judged) (layer : Layer Purpose) (pending : List ℕ) (clean : Clean (terms (First judged))) (base : Pending nodes (terms (First judged)) (Pushes start (First judged)) layer pending) (tied_first : AreTied nodes (terms (First judged)) layer) (rows : Rows layer X.1.node.layer pending X.1.node.pending) (told_of : AllTold pending) (place : Place units ready start past (After judged)) where
+        abbrev marks : ((V judged).target ≡ X.1.node) × (((V judged).initiators ≡ w.initiators) × ((marked serial again (with_target X.1.node w)).fresh ≡ w.fresh))
+        marks = marked_same serial again (with_target X.1.node w)
+
+        packets_owned : AllOwned Any (V judged).target.layer X.1.outbox.packets
+        packets_owned = subst (λ (n : NodeState). AllOwned Any n.layer X.1.outbox.packets) (sym marks.0) (all_owned units ready has start past s here (receives run s.media.disks one.generation one.bytes))
+
+        ties_first : Ties nodes (terms (First judged)) layer
+        ties_first = ties_of nodes (terms (First judged)) layer tied_first
+
+        rows_first : Rows layer (V judged).target.layer pending (V judged).target.pending
+        rows_first = subst (λ (n : NodeState). Rows layer n.layer pending n.pending) (sym marks.0) rows
+
+        fresh_first : (V judged).fresh ≡ judged_note serial judged ∷ w.fresh
+        fresh_first = ap (λ ns. judged_note serial judged ∷ ns) marks.1.1
+
+        count_first : length (V judged).initiators ≡ nodes
+        count_first = ap (λ xs. length xs) marks.1.0
+
+        hailed : AllHailed judged
+        hailed r h young =
+            let j = target_joins units ready has start past s here (judged_note serial judged) X.1.outbox (V judged) media fresh_first place others packets_owned clean count_first layer pending ties_first rows_first r h young in
+            let later = subst (λ (n : NodeState). is_listed (Id (terms (First judged)) j.to) n.pending ≡ true) marks.0 j.is_later in
+            record { to = j.to; there = j.there; inside = j.inside; heard = told_of (Id (terms (First judged)) j.to) j.not_before later }
+
+        behind_it : Kept start (hist past (After judged).world) (After judged) × AllHailed judged
+        behind_it = (
+          target_kept units ready has start past s here (judged_note serial judged) X.1.outbox (V judged) media fresh_first place others packets_owned clean count_first layer pending base ties_first rows_first,
+          hailed,
+        )
+
+      silent_of : Still good.lives node.pending X.1.node → AllTold node.pending
+      silent_of h peer f g = untrue (sym f ∙ (sym (ap (is_listed peer) h.pending) ∙ g))
 
       got_clean : Clean (terms (said (notes.Got serial) ∷ ms))
       got_clean = note_clean units ready has start past s here (notes.Got serial) tt (got_injected serial (as_sending one) t was)
@@ -243,14 +291,14 @@ module _ (units ready : ℕ) (has : 0 < units) (start : List Disk) (past : List 
           let note = notes.Ignored serial cause in
           let same = ignored_same (t.sent serial) cause serial t in
           let b = beside_here units ready has start past s here (noted note t) (leaves_same t (noted note t) same) in
-          behind_it (judgements.Ignored cause) node.layer node.pending (note_clean units ready has start past s here note tt same.1.1.1.1.0) (beside_base note tt b) (tied_beside nodes t (noted note t) (Pushes start ms) node.layer b tied) (still_rows h)
+          behind_it (judgements.Ignored cause) node.layer node.pending (note_clean units ready has start past s here note tt same.1.1.1.1.0) (beside_base note tt b) (tied_beside nodes t (noted note t) (Pushes start ms) node.layer b tied) (still_rows h) (silent_of h)
 
       got_request : (p : Packet) (layer : Layer Purpose) → F ≡ (of_request p, layer) → layer ≡ node.layer → Still good.lives node.pending X.1.node → Goal judgements.Got
       got_request p layer e same h =
           let tied_then = subst (AreTied nodes (terms (said (notes.Got serial) ∷ ms))) same (got_tied (of_request p) layer e (λ l z. tied_at _ z l (own_layer l) nodes)) in
           behind_it judgements.Got node.layer node.pending got_clean
           (ends_base (notes.Got serial) tt node.layer node.pending got_less tied_then (λ n number r. r) (λ n number kind call r f. r) (λ n l why f. f)
-          (λ n l f. remains node.layer tied_then n l (λ number r. r) f) k.once) tied_then (still_rows h)
+          (λ n l f. remains node.layer tied_then n l (λ number r. r) f) k.once) tied_then (still_rows h) (silent_of h)
 
       by_request : (b : Judged) → X.0 ≡ b → (p : Packet) (layer : Layer Purpose) → F ≡ (of_request p, layer) → layer ≡ node.layer → Still good.lives node.pending X.1.node → Goal b
       by_request judgements.Got f p layer e same h = got_request p layer e same h
@@ -291,11 +339,11 @@ module _ (units ready : ℕ) (has : 0 < units) (start : List Disk) (past : List 
         rows_of : Announced lives node.pending X.1.node → Rows layer X.1.node.layer node.pending X.1.node.pending
         rows_of a = announced_rows lives node.pending layer g.known X.1.node a
 
-        announced : (purpose ≡ Some purposes.Unsolicited → ⊥) → Announced lives node.pending X.1.node → Goal judgements.Got
-        announced other a = behind_it judgements.Got layer node.pending got_clean (base other) tied_then (rows_of a)
+        announced : (purpose ≡ Some purposes.Unsolicited → ⊥) → Announced lives node.pending X.1.node → AllTold node.pending → Goal judgements.Got
+        announced other a told_of = behind_it judgements.Got layer node.pending got_clean (base other) tied_then (rows_of a) told_of
 
         unsaid : (purpose ≡ Some purposes.Unsolicited → ⊥) → Still lives node.pending X.1.node → Goal judgements.Got
-        unsaid other h = announced other (still_announced lives node.pending X.1.node h)
+        unsaid other h = announced other (still_announced lives node.pending X.1.node h) (λ peer f e. untrue (sym f ∙ (sym (ap (is_listed peer) h.pending) ∙ e)))
 
       -- the response to an unsolicited status
       module _ (p : Packet) (label : LabelParts) (layer : Layer Purpose) (e : F ≡ (of_response p label (Some purposes.Unsolicited), layer)) (g : Got node good p label (Some purposes.Unsolicited) layer X.1.node) where
@@ -381,13 +429,21 @@ module _ (units ready : ℕ) (has : 0 < units) (start : List Disk) (past : List 
             let base_then = ends_base (notes.Got serial) tt layer others_left got_less tied_left (back p label (Some purposes.Unsolicited) layer e g) (stays p label (Some purposes.Unsolicited) layer e g) left_listed remain_left (distinct_out from_node node.pending k.once) in
             behind_it judgements.Got layer others_left got_clean base_then tied_left
             (subst (λ (n : NodeState). Rows layer n.layer others_left n.pending) (sym g.concludes) (rows_same layer others_left))
+            (λ peer f e. untrue (sym f ∙ (sym (ap (λ (n : NodeState). is_listed peer n.pending) g.concludes) ∙ e)))
 
       -- ---- whatever it is found to be
       by_purpose : (p : Packet) (label : LabelParts) (purpose : Option Purpose) (layer : Layer Purpose) → F ≡ (of_response p label purpose, layer) → Got node good p label purpose layer X.1.node → Goal judgements.Got
       by_purpose p label None layer e g = unsaid p label None layer e g none_not g.concludes
       by_purpose p label (Some purposes.Unsolicited) layer e g = settles p label layer e g
       by_purpose p label (Some purposes.Management) layer e g = unsaid p label (Some purposes.Management) layer e g manager_not g.concludes
-      by_purpose p label (Some (purposes.Agent place)) layer e g = announced p label (Some (purposes.Agent place)) layer e g (agent_not place) g.concludes
+      by_purpose p label (Some (purposes.Agent place)) layer e g = announced p label (Some (purposes.Agent place)) layer e g (agent_not place) g.concludes told_of
+        where
+          told_of : AllTold node.pending
+          told_of peer f later = by ((heralds node good run s.media.disks one.generation one.bytes p label g.kind place layer e g.known).heard peer later)
+            where
+              by : (is_listed peer node.pending ≡ true) ⊎ IsHeard node.pending node.logins peer X.1.outbox.sides → HeardOf peer
+              by (inl x) = untrue (sym f ∙ x)
+              by (inr x) = (x, quiet node good run s.media.disks one.generation one.bytes p label g.kind place layer e g.known)
 
       judged_by : (f : Finding Purpose) (layer : Layer Purpose) → F ≡ (f, layer) → X.0 ≡ (received_as run one.bytes f (with_layer layer (whole_of node s.media))).0
       unfolding received
@@ -410,8 +466,12 @@ module _ (units ready : ℕ) (has : 0 < units) (start : List Disk) (past : List 
     lapsed = with_note (notes.TimedOut serial) (with_target x.node w)
 
     module _ (there : Place units ready start past (record { world = handed_out 0 0 x.outbox lapsed; media = s.media })) where
+      -- nothing is sent that nothing wants
+      abbrev pub NoneSpare : Type 0
+      NoneSpare = (r : ℕ) → Has (Pushes start (hist past (handed_out 0 0 x.outbox lapsed))) r → (terms (said (notes.TimedOut serial) ∷ ms)).count < r → ⊥
+
       abbrev Late_goal : Type 0
-      Late_goal = Kept start (hist past (handed_out 0 0 x.outbox lapsed)) (record { world = handed_out 0 0 x.outbox lapsed; media = s.media })
+      Late_goal = Kept start (hist past (handed_out 0 0 x.outbox lapsed)) (record { world = handed_out 0 0 x.outbox lapsed; media = s.media }) × NoneSpare
 
       module _ (u : Transaction) (kind : Kind) (f : t.held u ≡ waits kind serial) where
         late_begun : begun_in (t.sent serial) ≡ Some u
@@ -447,10 +507,15 @@ module _ (units ready : ℕ) (has : 0 < units) (start : List Disk) (past : List 
           (λ n number r. row_back good.lives lives request.peer request.label (λ q l. refl) node.layer layer good.mid.known h.known (Id t n) number r)
           (λ n number kind call r z. row_kept good.lives lives request.peer request.label (λ q l. refl) node.layer layer good.mid.known h.known (Id t n) number kind call r z) (λ n l why z. z)
           (late_remain _ _ asked.waits_there) k.once in
-          target_kept units ready has start past s here (notes.TimedOut serial) x.outbox lapsed s.media refl there others
-          (subst (λ (y : target.Scene). AllOwned Any y.node.layer y.outbox.packets) (ap (λ (z : Result (Unit {0}) Stale × target.Scene). z.1) e) (all_owned units ready has start past s here (lets_expire request.peer request.label)))
-          (note_clean units ready has start past s here (notes.TimedOut serial) tt (late_injected (begun_in (t.sent serial)) t)) refl layer node.pending base (ties_of nodes (noted (notes.TimedOut serial) t) layer tied_late)
-          (announced_rows lives node.pending layer h.known x.node (still_announced lives node.pending x.node h.still))
+          let owned = subst (λ (y : target.Scene). AllOwned Any y.node.layer y.outbox.packets) (ap (λ (z : Result (Unit {0}) Stale × target.Scene). z.1) e) (all_owned units ready has start past s here (lets_expire request.peer request.label)) in
+          let clean = note_clean units ready has start past s here (notes.TimedOut serial) tt (late_injected (begun_in (t.sent serial)) t) in
+          let ties = ties_of nodes (noted (notes.TimedOut serial) t) layer tied_late in
+          let rows = announced_rows lives node.pending layer h.known x.node (still_announced lives node.pending x.node h.still) in (
+            target_kept units ready has start past s here (notes.TimedOut serial) x.outbox lapsed s.media refl there others owned clean refl layer node.pending base ties rows,
+            λ r q young.
+                let j = target_joins units ready has start past s here (notes.TimedOut serial) x.outbox lapsed s.media refl there others owned clean refl layer node.pending ties rows r q young in
+                untrue (sym j.not_before ∙ (sym (ap (is_listed (Id (noted (notes.TimedOut serial) t) j.to)) h.still.pending) ∙ j.is_later)),
+          )
       by_expiring (Err stale, layer) f h = absurd (stale_not stale done (sym (expired_is stale layer f) ∙ ap (λ (z : Result (Unit {0}) Stale × target.Scene). z.0) e))
         where
           stale_not : (stale : Stale) (done : Unit {0}) → Err stale ≡ Ok done → ⊥

@@ -99,7 +99,7 @@ sends_clean (notes.Sent serial generation from to bytes ∷ ns) past h c =
     subst (λ ms. Clean (terms ms)) (sym (told_both (note ∷ []) ns past)) (sends_clean ns (said note ∷ past) h.1 (sent_clean serial q t c))
 sends_clean (note ∷ ns) past h c = untrue h.0
 
-begins_split : (due sent : List Note) → Begins due sent → sent ≡ due ++ drop (length due) sent
+pub begins_split : (due sent : List Note) → Begins due sent → sent ≡ due ++ drop (length due) sent
 begins_split [] sent h = refl
 begins_split (note ∷ due) [] h = absurd h
 begins_split (note ∷ due) (first ∷ sent) h = ap (λ x. x ∷ sent) h.0 ∙ ap (λ ns. note ∷ ns) (begins_split due sent h.1)

@@ -208,7 +208,7 @@ module _ (old : Lives) (first : List ℕ) where
   announces_by true unit place s h = announces_from 8 0 unit place s (still_announced s.node h)
 
   -- ---- a reply to an agent
-  changed_still : (b : Bool) (unit place : ℕ) (node : NodeState) → Still old first node → Still old first (changed_by b unit place node)
+  pub changed_still : (b : Bool) (unit place : ℕ) (node : NodeState) → Still old first node → Still old first (changed_by b unit place node)
   changed_still false unit place node h = h
   changed_still true unit place node h = record { lines = h.lines; seated = h.seated; pending = h.pending }
 
@@ -222,7 +222,7 @@ module _ (old : Lives) (first : List ℕ) where
   taken_seated Main d s = (λ x e. none_some x e, s.1)
   taken_seated Ahead d s = (s.0, λ x e. none_some x e)
 
-  replied_still : (place unit : ℕ) (which : Which) (r : AgentStep × Machine) (s : Stage) → Still old first s.node → Still old first (replied_with place unit which r s).1.node
+  pub replied_still : (place unit : ℕ) (which : Which) (r : AgentStep × Machine) (s : Stage) → Still old first s.node → Still old first (replied_with place unit which r s).1.node
   replied_still place unit which (step, m) s h =
       let d = taken which (desk_at s.node place) in
       let k = desk_set old first s.node place (record d { agent = m }) (taken_seated which (desk_at s.node place) (h.seated place)) h in

@@ -36,7 +36,7 @@ use Rattle.sbp_target.specs.Agents.{cut}
 use Rattle.sbp_target.specs.Desks.{expired_desk, new_desk, point_desk, pointed_desk, which_in}
 use Rattle.sbp_target.specs.Nodes.{NodeState, Scene, desk_at, login_at, scene, with_desk}
 use Rattle.sbp_target.specs.Receiving.{answer_in, concluded, expire_agent, expired_by, expired_with, judged_scene, received, received_as, removed, timed_out, with_layer}
-use Rattle.sbp_target.specs.Replies.{Whole, whole}
+use Rattle.sbp_target.specs.Replies.{Whole, scene_of, whole}
 use Rattle.sbp_target.specs.Sending.{answer_step, with_side}
 use Rattle.sbp_target.specs.Serving.{accessed_by, answered, asked_in, enabled, is_barred, last_pointer, point, pointed_by, pointer_bytes, rcode_of, request_step, ring, rung_by, serve, served_as, start, started_by, state_number}
 use Rattle.sbp_target.specs.Telling.{orb_of}
@@ -53,7 +53,11 @@ use Rattle.sbp_target.proofs.Histories.Calling.{Good}
 use Rattle.sbp_target.proofs.Histories.Found.{IsFound, found}
 use Rattle.sbp_target.proofs.Histories.Primitives.{Known, closing_known, live_on}
 use Rattle.sbp_target.proofs.Histories.Seats.{Lives}
+use Rattle.sbp_world.proofs.Agents.Management.Calm as calm
+use Rattle.sbp_world.proofs.Agents.Management.Calm.{AreQuiet}
+use Rattle.turn_laws.proofs.ManagedSides.{begins, from_self}
 use Rattle.turn_laws.proofs.StatusAnnounces.{Announced, replies, taken_seated}
+use Rattle.turn_laws.proofs.StatusHeralds.{Heralds, announcing}
 use Rattle.turn_laws.proofs.StatusStays.{IsStatus, Lines, Seated, Still, agent_set, cuts_one, desk_set, follows, layer_set, lines_answer, manage_still, manager_asks, none_some}
 
 module _ (old : Lives) (first : List ℕ) where
@@ -259,3 +263,26 @@ module _ (node : NodeState) (g : Good node) where
     pub hears : (let f = judging_step node.layer generation bytes in Hears f.0 f.1 (received told generation bytes (whole (scene node empty_outbox) disks)).1.node)
     unfolding received
     hears = let f = judging_step node.layer generation bytes in hears_as f.0 f.1 refl (found node.layer generation bytes)
+
+    -- of whom `unsolicited` is told in the response to an agent
+    heralds_for : (p : Packet) (label : LabelParts) (kind : ReplyKind) (place : ℕ) (layer : Layer Purpose) → Known layer (Closed (header_in p).source label kind (Some (purposes.Agent place))) → Heralds node.pending node.logins (scene_of (Given (of_response p label (Some (purposes.Agent place))) layer).1)
+    unfolding concluded
+    heralds_for p label kind place layer k =
+        let lives = Closed (header_in p).source label kind (Some (purposes.Agent place)) in
+        announcing node.pending node.logins lives told place (header_in p).source label (answer_in p) (with_layer layer (whole (scene node empty_outbox) disks))
+        (starts_still lives layer k (λ q l t h. ended_if (is_same (header_in p).source label q l) t (g.lives q l) h)) refl
+
+    pub heralds : (p : Packet) (label : LabelParts) (kind : ReplyKind) (place : ℕ) (layer : Layer Purpose) → judging_step node.layer generation bytes ≡ (of_response p label (Some (purposes.Agent place)), layer) → Known layer (Closed (header_in p).source label kind (Some (purposes.Agent place))) → Heralds node.pending node.logins (scene_of (received told generation bytes (whole (scene node empty_outbox) disks)).1)
+    unfolding received
+    heralds p label kind place layer e k = subst (λ (f : Finding Purpose × Layer Purpose). Heralds node.pending node.logins (scene_of (Given f.0 f.1).1)) (sym e) (heralds_for p label kind place layer k)
+
+    -- which tells nothing of logins
+    quiet_for : (p : Packet) (label : LabelParts) (kind : ReplyKind) (place : ℕ) (layer : Layer Purpose) → Known layer (Closed (header_in p).source label kind (Some (purposes.Agent place))) → AreQuiet (Given (of_response p label (Some (purposes.Agent place))) layer).1.outbox.sides
+    unfolding concluded
+    quiet_for p label kind place layer k =
+        let lives = Closed (header_in p).source label kind (Some (purposes.Agent place)) in
+        (calm.replies lives (record node { layer = layer }) told place (header_in p).source label (answer_in p) (with_layer layer (whole (scene node empty_outbox) disks)) (begins node g layer lives (from_self node g layer lives k))).quiet
+
+    pub quiet : (p : Packet) (label : LabelParts) (kind : ReplyKind) (place : ℕ) (layer : Layer Purpose) → judging_step node.layer generation bytes ≡ (of_response p label (Some (purposes.Agent place)), layer) → Known layer (Closed (header_in p).source label kind (Some (purposes.Agent place))) → AreQuiet (received told generation bytes (whole (scene node empty_outbox) disks)).1.outbox.sides
+    unfolding received
+    quiet p label kind place layer e k = subst (λ (f : Finding Purpose × Layer Purpose). AreQuiet (Given f.0 f.1).1.outbox.sides) (sym e) (quiet_for p label kind place layer k)

@@ -211,7 +211,7 @@ module _ (start : List Disk) (t : Turn) (sent : PushesAreSent start t) (a : Agen
   by_last (sends_some serial e none l) =
       subst (λ ns. AreFor 0 ns due) (sym (same_last first.own first.more l.first l.last (sym first.is ∙ l.is) (told ∙ sym (for_length 0 l.last due l.are)))) l.are
 
-  pushes_behind : AreFor 0 first.more due
+  pub pushes_behind : AreFor 0 first.more due
   pushes_behind = by_last sent.1
 
 -- ---- every turn of the target: what an agent has, what the operation has, and what is told of a disc
@@ -222,7 +222,7 @@ pub record AsksAll (start : List Disk) (t : Turn) : Type 0 where
   pub pushes : PushesAreSent start t
   pub operation : OperationAsks start t
 
-asks_law : OfEveryRun (λ start past. EachTurn (AsksAll start) past)
+pub asks_law : OfEveryRun (λ start past. EachTurn (AsksAll start) past)
 asks_law =
     joined_law (λ start t. (TellsEnds start t × IsIdle start t) × EndsAsRead start t) (λ start t. PushesAreSent start t × OperationAsks start t) AsksAll
     (λ start t x y. record { tells = x.0.0; idle = x.0.1; runs = x.1; pushes = y.0; operation = y.1 })

@@ -2,6 +2,7 @@
 use Rattle.turn_laws.specs.Together.{TurnsLaw}
 use Rattle.turn_laws.proofs.Aborts.{aborts_law}
 use Rattle.turn_laws.proofs.AnswerRuns.{answered_law}
+use Rattle.turn_laws.proofs.Asked.{asked_law}
 use Rattle.turn_laws.proofs.Cleared.{cleared_law}
 use Rattle.turn_laws.proofs.Codes.{codes_law}
 use Rattle.turn_laws.proofs.Cuts.{cuts_law}
@@ -30,14 +31,17 @@ turns_law = record {
   after_lines = λ line run is some most size. record {
     judgement = judgement_run_law.after_lines line run is some most size;
     login = login_run_law.after_lines line run is some most size;
-    requests = requests_run_law.after_lines line run is some most size;
+    sent = record {
+      packets = packets_run_law.after_lines line run is some most size;
+      answers = answered_law.after_lines line run is some most size;
+      requests = requests_run_law.after_lines line run is some most size;
+      after = after_law.after_lines line run is some most size;
+      statuses = statuses_law.after_lines line run is some most size;
+      decisions = decisions_sent_law.after_lines line run is some most size;
+      asked = asked_law.after_lines line run is some most size;
+    };
     cuts = cuts_law.after_lines line run is some most size;
     cleared = cleared_law.after_lines line run is some most size;
-    packets = packets_run_law.after_lines line run is some most size;
-    answers = answered_law.after_lines line run is some most size;
-    statuses = statuses_law.after_lines line run is some most size;
-    after = after_law.after_lines line run is some most size;
-    decisions = decisions_sent_law.after_lines line run is some most size;
     ends = ends_law.after_lines line run is some most size;
     once = once_law.after_lines line run is some most size;
     deaths = deaths_law.after_lines line run is some most size;
@@ -56,14 +60,17 @@ turns_law = record {
   between = λ line run is some most size next deliveries told may. record {
     judgement = judgement_run_law.between line run is some most size next deliveries told may;
     login = login_run_law.between line run is some most size next deliveries told may;
-    requests = requests_run_law.between line run is some most size next deliveries told may;
+    sent = record {
+      packets = packets_run_law.between line run is some most size next deliveries told may;
+      answers = answered_law.between line run is some most size next deliveries told may;
+      requests = requests_run_law.between line run is some most size next deliveries told may;
+      after = after_law.between line run is some most size next deliveries told may;
+      statuses = statuses_law.between line run is some most size next deliveries told may;
+      decisions = decisions_sent_law.between line run is some most size next deliveries told may;
+      asked = asked_law.between line run is some most size next deliveries told may;
+    };
     cuts = cuts_law.between line run is some most size next deliveries told may;
     cleared = cleared_law.between line run is some most size next deliveries told may;
-    packets = packets_run_law.between line run is some most size next deliveries told may;
-    answers = answered_law.between line run is some most size next deliveries told may;
-    statuses = statuses_law.between line run is some most size next deliveries told may;
-    after = after_law.between line run is some most size next deliveries told may;
-    decisions = decisions_sent_law.between line run is some most size next deliveries told may;
     ends = ends_law.between line run is some most size next deliveries told may;
     once = once_law.between line run is some most size next deliveries told may;
     deaths = deaths_law.between line run is some most size next deliveries told may;

@@ -2,6 +2,7 @@ pub mod Runs
 pub mod Cleared
 pub mod Cuts
 pub mod Alone
+pub mod Asked
 pub mod Announced
 pub mod Pushes
 pub mod Faults

@@ -1,4 +1,4 @@
--- What is proved of the turns of every run, together: the judgement law, the login law, of the cause, media and sent laws what stands in each turn, and how commands end.
+-- What is proved of the turns of every run, together: the judgement law, the login law, the sent law, of the cause and media laws what stands in each turn, and how commands end.
 use Rattle.std.specs.Prelude.{List}
 use Rattle.rbc_disk.specs.Disk.{Disk}
 use Rattle.sbp_journal.specs.Run.{Moment}
@@ -7,12 +7,8 @@ use Rattle.sbp_laws.specs.CarriedLaw.{EndsAsRead}
 use Rattle.sbp_laws.specs.Decided.{DecisionStands}
 use Rattle.sbp_laws.specs.JudgementLaw.{JudgementLaw}
 use Rattle.sbp_laws.specs.LoginLaw.{LoginLaw}
-use Rattle.sbp_laws.specs.SentAnswers.{AnswersLaw}
-use Rattle.sbp_laws.specs.SentLaw.{AfterTurn}
-use Rattle.sbp_laws.specs.SentPackets.{SentAt}
-use Rattle.sbp_laws.specs.SentRequests.{RequestsLaw}
-use Rattle.sbp_laws.specs.SentWrites.{DecisionsAreSent, StatusesAreSent}
-use Rattle.sbp_laws.specs.Turns.{EachMoment, EachTurn}
+use Rattle.sbp_laws.specs.SentLaw.{SentLaw}
+use Rattle.sbp_laws.specs.Turns.{EachTurn}
 use Rattle.turn_laws.specs.Cleared.{ClearsWhereDue}
 use Rattle.turn_laws.specs.Codes.{EndsWithCodes}
 use Rattle.turn_laws.specs.Cuts.{CutsWhereDue}
@@ -31,14 +27,9 @@ use Rattle.turn_laws.specs.Unserved.{UnservedWhereTold}
 pub record LawfulInTurns (start : List Disk) (past : List Moment) : Type 0 where
   pub judgement : JudgementLaw start past
   pub login : LoginLaw start past
-  pub requests : EachTurn (RequestsLaw start) past
+  pub sent : SentLaw start past
   pub cuts : EachTurn (CutsWhereDue start) past
   pub cleared : EachTurn (ClearsWhereDue start) past
-  pub packets : EachMoment SentAt past
-  pub answers : EachTurn (AnswersLaw start) past
-  pub statuses : EachTurn (StatusesAreSent start) past
-  pub after : EachTurn (AfterTurn start) past
-  pub decisions : EachTurn (DecisionsAreSent start) past
   pub ends : EachTurn (EndsWhereDue start) past
   pub once : EachTurn (DiesOnce start) past
   pub deaths : EachTurn (DiesByRows start) past

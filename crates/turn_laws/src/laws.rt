@@ -7,6 +7,7 @@ ghost use Rattle.turn_laws.specs.AgentRequests.{AgentRequestsLaw};
 ghost use Rattle.turn_laws.specs.Alone.{AloneLaw};
 ghost use Rattle.turn_laws.specs.Announced.{AnnouncedLaw};
 ghost use Rattle.turn_laws.specs.Answers.{AnsweredLaw};
+ghost use Rattle.turn_laws.specs.Asked.{AskedLaw};
 ghost use Rattle.turn_laws.specs.Cleared.{ClearedLaw};
 ghost use Rattle.turn_laws.specs.Codes.{CodesLaw};
 ghost use Rattle.turn_laws.specs.Cuts.{CutsLaw};
@@ -368,4 +369,12 @@ pub fn initiators_read_roms_on()
 #[tactic(auto, using(crate::proofs::Requests::requests_run_law))]
 pub fn requests_are_sent_where_due()
     ensures { RequestsRunLaw }
+{}
+
+/// Each request that the target sends in a run, whatever anybody injected, while neither an agent nor the management
+/// operation has one of its kind to send, is the write of an unsolicited status block to an initiator of which
+/// `unsolicited` stands before it in its turn, the first packet there to that initiator: `asked` of the sent law.
+#[tactic(auto, using(crate::proofs::Asked::asked_law))]
+pub fn requests_are_asked_for()
+    ensures { AskedLaw }
 {}
