@@ -12,7 +12,7 @@ pub use laws::{
     lists_are_cut_where_due, logins_are_lawful, operations_fail_where_due,
     operations_send_their_requests, orbs_abort_where_due, orbs_end_where_due,
     other_turns_send_nothing, packets_are_lawful, requests_are_answered_by_the_tables,
-    requests_are_sent_where_due, rom_operations_wait_for_a_read,
+    requests_are_asked_for, requests_are_sent_where_due, rom_operations_wait_for_a_read,
     statuses_and_resets_end_operations, statuses_are_sent_where_due, targets_send_their_requests,
     turns_are_in_order, units_are_cleared_where_due, unsolicited_statuses_are_sent_where_due,
     unsolicited_statuses_go_alone, unsolicited_statuses_stand_where_due,
