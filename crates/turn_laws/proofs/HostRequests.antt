@@ -75,7 +75,6 @@ use Rattle.sbp_world.proofs.Wire.Holding.{target_small, to_target}
 use Rattle.sbp_world.proofs.Wire.Sound.{opens}
 use Rattle.sbp_target.specs.Receiving.{received as heard_target}
 use Rattle.sbp_world.specs.Delivering.{marked, whole_of}
-use Rattle.sbp_world.specs.Sending.{sent}
 use Rattle.sbp_world.specs.Telling.{told_all}
 use Rattle.sbp_world.specs.Wire.Wires.{Stands, StandsAt, layers_of}
 use Rattle.sbp_world.specs.Worlds.{Scene, WorldState, initiator_at, with_initiator, with_note, with_target, without_notes}
