@@ -1,4 +1,4 @@
--- A reply that lets the management abort an ORB decides the management ORB that it has: with 00, on the login of its subject, which one place alone has, and on the ORB that it names.
+-- A reply that lets the management abort an ORB decides the management ORB that it has: with 00, on the login of its subject, which one place alone has, of the node that sent it, and on the ORB that it names.
 use Rattle.std.proofs.Common.{◌≡◌, ◌∙◌, refl, sym, ap, subst, ℕ, ◌*◌, ◌+◌, ◌^◌, ◌%◌, ◌==◌, Bool, true, false, cond, List, Option, Some, None, Result, Ok, Err}
 use Rattle.login_table.specs.Sound.{IsTable}
 use Rattle.login_table.specs.Table.{Table, place_at}
@@ -21,8 +21,9 @@ use Rattle.orb_layout.specs.declared.management.ManagementOrb.{ManagementOrb}
 use Rattle.sbp_base.specs.Quadlets.{quad}
 use Rattle.sbp_journal.specs.declared.operation.FunctionWord.{FunctionWord}
 use Rattle.sbp_journal.specs.declared.operation.FunctionWord.TheVariants as words
-use Rattle.sbp_laws.specs.Management.{word_by}
-use Rattle.sbp_laws.specs.Targets.{Decided, bytes_in, decided_by, decided_in, has_id}
+use Rattle.sbp_journal.specs.Wire.{Terms}
+use Rattle.sbp_laws.specs.Management.{operator, word_by}
+use Rattle.sbp_laws.specs.Targets.{Decided, bytes_in, decided_by, decided_in, has_id, initiator_with, node_in}
 use Rattle.sbp_world.proofs.Common.{equal, same_number, untrue}
 use Rattle.turn_laws.proofs.DeathSteps.{read_bytes}
 use Rattle.turn_laws.proofs.DecisionEffects.{Fits, decision_fits, good_by}
@@ -63,11 +64,12 @@ no_fault statuses.NoFault e = refl
 no_fault status e = untrue e
 
 module _ (t : Table) (table : IsTable t) (keys : List (List ℕ)) where
-  record OrbDone (orb : ManagementOrb) (x : Outcome) (place a : ℕ) : Type 0 where
+  record OrbDone (orb : ManagementOrb) (source : ℕ) (x : Outcome) (place a : ℕ) : Type 0 where
     word_is : word_by (function_of orb.function) ≡ words.Abort
     zero_is : (number_of x.status == 0) ≡ true
     a_is : a ≡ orb.first % 2 ^ 48
     id_is : (q : ℕ) → has_id orb.subject (place_at t.places q) ≡ (place == q)
+    node_is : (q : ℕ) → has_id orb.subject (place_at t.places q) ≡ true → node_in (place_at t.places q) ≡ source
 
   one_place : (id place : ℕ) (login : Login) → place_at t.places place ≡ Some login → login.login ≡ id → (q : ℕ) → has_id id (place_at t.places q) ≡ (place == q)
   one_place id place login there own q = by (place == q) refl
@@ -87,7 +89,10 @@ module _ (t : Table) (table : IsTable t) (keys : List (List ℕ)) where
       by true e = ap (has_id id) (ap (place_at t.places) (sym (equal place q e)) ∙ there) ∙ (ap (λ n. n == id) own ∙ same_number id)
       by false e = others e (place_at t.places q) refl
 
-  orb_done : (orb : ManagementOrb) (source eui place a : ℕ) → (decide orb source eui t keys).0.effect ≡ effects.Abort place a → OrbDone orb (decide orb source eui t keys).0 place a
+  one_node : (source place : ℕ) (login : Login) → place_at t.places place ≡ Some login → login.node ≡ source → (q : ℕ) → (place == q) ≡ true → node_in (place_at t.places q) ≡ source
+  one_node source place login there of_node q e = ap node_in (ap (place_at t.places) (sym (equal place q e)) ∙ there) ∙ of_node
+
+  orb_done : (orb : ManagementOrb) (source eui place a : ℕ) → (decide orb source eui t keys).0.effect ≡ effects.Abort place a → OrbDone orb source (decide orb source eui t keys).0 place a
   orb_done orb source eui place a e =
       let x = (decide orb source eui t keys).0 in
       let word = word_by (function_of orb.function) in
@@ -97,11 +102,13 @@ module _ (t : Table) (table : IsTable t) (keys : List (List ℕ)) where
       let does = effects_of_decisions functions.Abort orb source eui t keys table (abort_function (function_of orb.function) good.word_is) fault in
       let same : effects.Abort place a ≡ effects.Abort does.place (orb.first % 2 ^ 48) = sym e ∙ does.does in
       let at : does.place ≡ place = cc in
+      let ids = one_place orb.subject does.place does.stands.login does.stands.stands does.stands.own in
       record {
         word_is = good.word_is;
         zero_is = good.zero_is;
         a_is = cc;
-        id_is = λ q. subst (λ n. has_id orb.subject (place_at t.places q) ≡ (n == q)) at (one_place orb.subject does.place does.stands.login does.stands.stands does.stands.own q);
+        id_is = λ q. subst (λ n. has_id orb.subject (place_at t.places q) ≡ (n == q)) at (ids q);
+        node_is = λ q h. one_node source does.place does.stands.login does.stands.stands does.stands.of_node q (sym (ids q) ∙ h);
       }
 
   -- ---- a reply
@@ -114,6 +121,7 @@ module _ (t : Table) (table : IsTable t) (keys : List (List ℕ)) where
     pub zero_is : (decision.status == 0) ≡ true
     pub a_is : a ≡ decided.orb.first % 2 ^ 48
     pub id_is : (q : ℕ) → has_id decided.orb.subject (place_at t.places q) ≡ (place == q)
+    pub owner : (q : ℕ) → has_id decided.orb.subject (place_at t.places q) ≡ true → (wire : Terms) → initiator_with wire (node_in (place_at t.places q)) ≡ operator wire operation
 
   module _ (m : Machine) (own : Operation) (answer : Answer) (place a : ℕ) where
     abbrev Is : ManagerStep → Type 0
@@ -132,6 +140,7 @@ module _ (t : Table) (table : IsTable t) (keys : List (List ℕ)) where
           zero_is = d.zero_is;
           a_is = d.a_is ∙ ap (λ (x : ManagementOrb). x.first % 2 ^ 48) (sym f);
           id_is = λ q. ap (λ (x : ManagementOrb). has_id x.subject (place_at t.places q)) f ∙ d.id_is q;
+          owner = λ q g wire. ap (initiator_with wire) (d.node_is q (sym (ap (λ (x : ManagementOrb). has_id x.subject (place_at t.places q)) f) ∙ g));
         }
 
     orb_is : (r : Result (List ℕ) FailCause) → payload_of answer 32 ≡ r → own.phase ≡ phases.Orb → Is (orb_got r m own t keys).0

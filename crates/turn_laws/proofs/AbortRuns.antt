@@ -39,7 +39,7 @@ use Rattle.turn_laws.specs.Cleared.{ClearsWhereDue}
 use Rattle.turn_laws.specs.Cuts.{CutsWhereDue}
 use Rattle.turn_laws.proofs.AbortFacts.{Done, reply_is}
 use Rattle.turn_laws.proofs.AbortHistory.{All, AreMarked, Marked, keeps_over, mark_step, replied_keeps, steps}
-use Rattle.turn_laws.proofs.AbortTurns.{IsFirst, IsNoAbort, Manages, all_fit, first, manages, none_fit, others, rest_marked, First}
+use Rattle.turn_laws.proofs.AbortTurns.{AllFit, IsFirst, IsNoAbort, Manages, all_fit, first, manages, none_fit, others, rest_marked, First}
 use Rattle.sbp_world.proofs.Lists.AgentFolds.{SetAgent, at_place, is_it, is_none, is_other, new_there, set_agent}
 use Rattle.turn_laws.proofs.DecisionEffects.{Fits, FitsBy, reply_fits}
 use Rattle.turn_laws.proofs.Handed.{AllInner}
@@ -115,11 +115,11 @@ abort_fits places subject (effects.AbortSet place) f g = absurd (let no : words.
 abort_fits places subject (effects.UnitReset unit) f g = absurd (let no : words.Abort ≡ words.UnitReset = f.0 in cc)
 abort_fits places subject effects.TargetReset f g = absurd (let no : words.Abort ≡ words.TargetReset = f in cc)
 
-data AbortOr (effect : Effect) : Type 0 where
+pub data AbortOr (effect : Effect) : Type 0 where
   is_abort : (place orb : ℕ) → effect ≡ effects.Abort place orb → AbortOr effect
   no_abort : ((place orb : ℕ) → effect ≡ effects.Abort place orb → ⊥) → AbortOr effect
 
-abort_or : (effect : Effect) → AbortOr effect
+pub abort_or : (effect : Effect) → AbortOr effect
 abort_or (effects.Abort place orb) = is_abort place orb refl
 abort_or effects.Nothing = no_abort (λ p o e. cc)
 abort_or (effects.Entered place replaced) = no_abort (λ p o e. cc)
@@ -133,7 +133,7 @@ module _ (start : List Disk) (t : Turn) (f : TurnFacts start t) (h : AreMarked s
   abbrev T : Target
   T = target_before start t
 
-  abbrev s : ManagerStep × (manager.Machine × Table)
+  abbrev pub s : ManagerStep × (manager.Machine × Table)
   s = manager_step T answer
 
   abbrev i : ℕ
@@ -157,21 +157,24 @@ module _ (start : List Disk) (t : Turn) (f : TurnFacts start t) (h : AreMarked s
     now_keeps : All (target_at start t.past) (target_at start (t.start ∷ t.past))
     now_keeps = subst (All (target_at start t.past)) (sym M.now) (replied_keeps (target_at start t.past) for_manager answer (λ e. n))
 
+    pub kept_fit : AllFit t.rest
+    kept_fit = all_fit t.rest i s.0.decided (decided_not s.0.decided (reply_fits T.manager T.table table.sound T.keys answer)) decisions
+
     pub kept_turn : AreMarked start (once_told (t.start ∷ t.past) t.rest)
     kept_turn =
-        rest_marked start t.rest (t.start ∷ t.past) f.inner (all_fit t.rest i s.0.decided (decided_not s.0.decided (reply_fits T.manager T.table table.sound T.keys answer)) decisions)
+        rest_marked start t.rest (t.start ∷ t.past) f.inner kept_fit
         (inl (ap (λ (x : Target). x.reply) M.now ∙ (manages_by s answer T ∙ (keeps_over (target_at start t.past)).none)))
         (λ q address. subst (λ d. Marked d (agent_at (target_at start (t.start ∷ t.past)) q) address) (sym (M.on q address)) (steps start t.past (target_at start (t.start ∷ t.past)) h now_keeps q address))
 
   -- ---- an ORB is aborted
   module _ (place orb : ℕ) (e : s.0.effect ≡ effects.Abort place orb) where
-    d : Done T.table table T.keys T.manager.operation answer s.0 place orb
+    pub d : Done T.table table T.keys T.manager.operation answer s.0 place orb
     d = reply_is T.table table T.keys T.manager answer place orb e
 
-    abbrev word : FunctionWord
+    abbrev pub word : FunctionWord
     word = word_by (function_of d.decision.function)
 
-    abbrev note_as : FunctionWord → Note
+    abbrev pub note_as : FunctionWord → Note
     note_as w = notes.Managed i w d.decision.subject d.decision.status (login_if word d.decision.status d.decision.login)
 
     one : of_kind is_decision_note t.rest ≡ note_as word ∷ []
@@ -217,23 +220,23 @@ module _ (start : List Disk) (t : Turn) (f : TurnFacts start t) (h : AreMarked s
         ∙ (ap (λ x. joined [] [] x (of_kind is_decision_note E)) (not_sent is_login_note (λ serial g from to bytes. refl) t.rest ∙ no_logins)
         ∙ ap (λ x. joined [] [] [] x) (not_sent is_decision_note (λ serial g from to bytes. refl) t.rest ∙ one))))
 
-    abbrev more : List Note
+    abbrev pub more : List Note
     more = behind ++ sends_of t.rest
 
-    rest_is : t.rest ≡ note_as word ∷ more
+    pub rest_is : t.rest ≡ note_as word ∷ more
     rest_is = order.first ∙ ap (λ es. es ++ sends_of t.rest) effects_are
 
     -- the agents then
     abbrev base : Target
     base = record T { manager = s.1.0; manages = None; manager_asks = s.0.ask; decided = keep_decided s.0.decided (decided_by T.manager.operation answer) T.decided }
 
-    abbrev N : Target
+    abbrev pub N : Target
     N = effect_on (effects.Abort place orb) base
 
-    now_is : target_at start (t.start ∷ t.past) ≡ N
+    pub now_is : target_at start (t.start ∷ t.past) ≡ N
     now_is = M.now ∙ ap (λ x. effect_on x base) e
 
-    decided_is : N.decided ≡ Some d.decided
+    pub decided_is : N.decided ≡ Some d.decided
     decided_is = ap (λ x. keep_decided x (decided_by T.manager.operation answer) T.decided) d.told ∙ d.brought
 
     module _ (address : ℕ) where
@@ -289,7 +292,7 @@ module _ (start : List Disk) (t : Turn) (f : TurnFacts start t) (h : AreMarked s
           (ap (λ z. z && aborts N q address N.decided) d.zero_is ∙ (ap (λ x. aborts N q address x) decided_is ∙ ap (λ z. (z && al) && u) (d.id_is q)))
           ∙ agent_marked q
 
-    abbrev now : List Moment
+    abbrev pub now : List Moment
     now = t.start ∷ t.past
 
     none_waits : (target_at start now).reply ≡ None
@@ -303,7 +306,7 @@ module _ (start : List Disk) (t : Turn) (f : TurnFacts start t) (h : AreMarked s
         subst (λ (x : Target). Marked (((d.decision.status == 0) && aborts t1 q address t1.decided) || is_aborted start now q address) (agent_at x q) address)
         (sym (going_still (note_as words.Abort) t1 none_waits)) on
 
-    none_more : of_kind is_decision_note more ≡ []
+    pub none_more : of_kind is_decision_note more ≡ []
     none_more = same_tail (note_as word) (of_kind is_decision_note more) [] (sym (ap (of_kind is_decision_note) rest_is) ∙ one)
 
     pub abort_turn : AreMarked start (once_told now t.rest)
@@ -336,16 +339,16 @@ IsRooted [] = ⊥
 IsRooted (asked line event ∷ []) = Unit {0}
 IsRooted (moment ∷ past) = IsRooted past
 
-abbrev Root : List Moment → List Note → Type 0
+abbrev pub Root : List Moment → List Note → Type 0
 Root [] [] = Unit {0}
 Root [] (note ∷ rest) = ⊥
 Root (moment ∷ past) rest = IsRooted (moment ∷ past)
 
-asked_root : (line : ℕ) (event : Event) (past : List Moment) → IsRooted (asked line event ∷ past) → Root past []
+pub asked_root : (line : ℕ) (event : Event) (past : List Moment) → IsRooted (asked line event ∷ past) → Root past []
 asked_root line event [] r = tt
 asked_root line event (moment ∷ past) r = r
 
-said_root : (note : Note) (past : List Moment) (rest : List Note) → IsRooted (said note ∷ past) → Root past rest
+pub said_root : (note : Note) (past : List Moment) (rest : List Note) → IsRooted (said note ∷ past) → Root past rest
 said_root note [] rest r = absurd r
 said_root note (moment ∷ past) rest r = r
 
@@ -374,7 +377,7 @@ module _ (start : List Disk) where
   each (said note ∷ past) rest r e =
       let b = each past (note ∷ rest) (said_root note past (note ∷ rest) r) e in (subst (AreMarked start) (told_one note rest past) b.0, b.1)
 
-root_of : (past : List Moment) → IsRooted past → Root past []
+pub root_of : (past : List Moment) → IsRooted past → Root past []
 root_of [] r = absurd r
 root_of (moment ∷ past) r = r
 

@@ -9,7 +9,8 @@ use Rattle.mgmt_agent.specs.declared.decision.ManagerStep.{ManagerStep}
 use Rattle.orb_layout.specs.Replies.{Answer, Expired}
 use Rattle.rbc_disk.specs.Disk.{Disk}
 use Rattle.sbp_journal.specs.Run.{Moment, asked, said}
-use Rattle.sbp_journal.specs.Wire.{Terms, terms}
+use Rattle.sbp_journal.specs.Transactions.{Transaction}
+use Rattle.sbp_journal.specs.Wire.{Terms, begun_in, terms, times_out}
 use Rattle.sbp_journal.specs.declared.note.Note.{Note}
 use Rattle.sbp_journal.specs.declared.note.Note.TheVariants as notes
 use Rattle.sbp_journal.specs.declared.operation.FunctionWord.{FunctionWord}
@@ -25,12 +26,14 @@ use Rattle.sbp_laws.specs.LoginLaw.{is_decision_note}
 use Rattle.sbp_laws.specs.Management.{Call, answer_to, answers, call_by, decided_in, decided_note, got_call, logins_due, manager_turn, moved_logins, no_call, sees_reset, source_node, start_in, start_of, started, starts, word_by}
 use Rattle.sbp_laws.specs.NoteKinds.{of_kind}
 use Rattle.sbp_laws.specs.Packets.{access_at, answer_in, answered_at, id_for, packet_at, receiver_in, sender_in}
-use Rattle.sbp_laws.specs.Targets.{Decided, Purpose, Target, agent_at, entered_by, enters_in, for_agent, for_manager, for_nobody, got_by, is_serial, known_at, managed_by, manager_step, over, purpose_of, replied, replied_to, reset_seen, target_at, target_by}
+use Rattle.sbp_laws.specs.Targets.{Decided, Purpose, Target, agent_at, entered_by, enters_in, for_agent, for_manager, for_nobody, got_by, initiator_with, is_serial, known_at, managed_by, manager_step, over, purpose_of, replied, replied_to, reset_seen, target_at, target_by}
+use Rattle.sbp_laws.proofs.Going.{initiators_same}
 use Rattle.sbp_world.proofs.Agents.Management.Firsts.{wire_is}
 use Rattle.sbp_world.proofs.Common.{none_is, untrue}
 use Rattle.sbp_world.proofs.Lists.AgentFolds.{AreStill}
 use Rattle.sbp_world.proofs.Lists.AgentNotes.{pick, sees_kept}
 use Rattle.turn_laws.proofs.AbortHistory.{A, Kept, are_kept, AreMarked, IsAbort, NoManaged, All, asked_marked, got_keeps, keeps_over, late_keeps, note_marked, settled_keeps, steps}
+use Rattle.turn_laws.proofs.Announcing.{got_initiator}
 use Rattle.turn_laws.proofs.Handed.{AllInner, IsInner}
 use Rattle.turn_laws.proofs.PresentOrbs.{note_rests, told_one}
 
@@ -98,6 +101,10 @@ module _ (start : List Disk) where
       later (inr n) = inr n.1
 
 -- ---- the first moment of a turn
+late_ids : (begun : Option Transaction) (t : Terms) (node : ℕ) → id_for (times_out begun t) 0 node ≡ id_for t 0 node
+late_ids None t node = refl
+late_ids (Some transaction) t node = refl
+
 abbrev pub IsFirst : Moment → Type 0
 IsFirst (asked line event) = Unit {0}
 IsFirst (said (notes.Got serial)) = Unit {0}
@@ -129,6 +136,7 @@ module _ (start : List Disk) (past : List Moment) where
     pub sees : sees_reset moment wire ≡ false
     pub moves : (effect : Effect) → logins_due moment wire T effect ≡ moved_logins T effect
     pub now : target_at start (moment ∷ past) ≡ managed_by (manager_step T answer) answer T
+    pub ids : (id : ℕ) → initiator_with (terms (moment ∷ past)) id ≡ initiator_with wire id
     pub on : (q address : ℕ) → is_aborted start (moment ∷ past) q address ≡ (is_aborted start past q address && is_unrun (agent_at (target_at start (moment ∷ past)) q) address)
 
   -- or nothing is decided
@@ -189,6 +197,7 @@ module _ (start : List Disk) (past : List Moment) where
         moves = λ effect. refl;
         call = as_call true (Some o) g h ∙ ap (λ x. answer_to x answer) p;
         now = as_now true (Some o) g h ∙ ap (λ x. replied_to x answer T) p;
+        ids = got_initiator serial past;
         on = λ q address. refl;
       })
       by_purpose o (for_agent place which) p g h =
@@ -232,6 +241,7 @@ module _ (start : List Disk) (past : List Moment) where
         moves = λ effect. refl;
         call = as_call true g ∙ ap (λ x. answer_to x Expired) p;
         now = as_now true g ∙ ap (λ x. replied_to x Expired T) p;
+        ids = λ id. initiators_same wire (terms (said (notes.TimedOut serial) ∷ past)) id (late_ids (begun_in (wire.sent serial)) wire);
         on = λ q address. refl;
       })
       by_purpose (for_agent place which) p g =

@@ -362,7 +362,7 @@ Decided start t = Clearings start t × Orderly start t
 decided_law : OfEveryRun (λ start past. EachTurn (Decided start) past)
 decided_law = joined_law Clearings Orderly Decided (λ start t x y. (x, y)) clearings_law orderly_law
 
-facts_law : OfEveryRun (λ start past. EachTurn (TurnFacts start) past)
+pub facts_law : OfEveryRun (λ start past. EachTurn (TurnFacts start) past)
 facts_law = joined_law Decided Tabled TurnFacts (λ start t x y. record { inner = y.0; logins = x.1.1; cuts = x.0.0; cleared = x.0.1; ordered = x.1.0; table = y.1.0 }) decided_law tabled_law
 
 said_rooted : (ns : List Note) (line : ℕ) (event : Event) (past : List Moment) → IsRooted (asked line event ∷ past) → IsRooted (map said ns ++ asked line event ∷ past)
@@ -377,12 +377,19 @@ behind_rooted : (line : ℕ) (run : Run) (entries : List Entry) → IsRooted (mo
 behind_rooted line run [] = tt
 behind_rooted line run (e ∷ before) = said_rooted e.notes e.line e.event (moments_behind line run before) (asked_rooted e.line e.event (moments_behind line run before) (behind_rooted line run before))
 
-marks_law : OfEveryRun (λ start past. EachTurn (MarkedBefore start) past)
-marks_law = record {
-  after_lines = λ line run is some most size. each_marked run.start.disks (history_of line run) (behind_rooted line run run.entries) (facts_law.after_lines line run is some most size);
+pub rooted_law : OfEveryRun (λ start past. IsRooted past)
+rooted_law = record {
+  after_lines = λ line run is some most size. behind_rooted line run run.entries;
   between = λ line run is some most size next deliveries told may.
-      each_marked run.start.disks (history_between line run next deliveries told)
-      (said_rooted (after_all told (begun (after (beginning run) run.entries))).world.fresh next (more_deliveries deliveries) (history_of line run) (asked_rooted next (more_deliveries deliveries) (history_of line run) (behind_rooted line run run.entries))) (facts_law.between line run is some most size next deliveries told may);
+      said_rooted (after_all told (begun (after (beginning run) run.entries))).world.fresh next (more_deliveries deliveries) (history_of line run) (asked_rooted next (more_deliveries deliveries) (history_of line run) (behind_rooted line run run.entries));
+}
+
+pub marks_law : OfEveryRun (λ start past. EachTurn (MarkedBefore start) past)
+marks_law = record {
+  after_lines = λ line run is some most size.
+      each_marked run.start.disks (history_of line run) (rooted_law.after_lines line run is some most size) (facts_law.after_lines line run is some most size);
+  between = λ line run is some most size next deliveries told may.
+      each_marked run.start.disks (history_between line run next deliveries told) (rooted_law.between line run is some most size next deliveries told may) (facts_law.between line run is some most size next deliveries told may);
 }
 
 abbrev Answered : List Disk → Turn → Type 0

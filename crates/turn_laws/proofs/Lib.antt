@@ -120,6 +120,7 @@ pub mod AbortFacts
 pub mod AbortTurns
 pub mod AbortRuns
 pub mod Aborts
+pub mod AbortOwners
 pub mod DecisionEffects
 pub mod DecisionWords
 pub mod DecisionRuns

@@ -13,6 +13,7 @@ pub mod Codes
 pub mod Silent
 pub mod Statuses
 pub mod Aborts
+pub mod AbortOwners
 pub mod Unserved
 pub mod Ordered
 pub mod Logins

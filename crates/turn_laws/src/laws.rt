@@ -1,4 +1,5 @@
 //! The laws of turns, each of every run of the machine of up to four initiators with one to four units.
+ghost use Rattle.turn_laws.specs.AbortOwners.{AbortOwnersLaw};
 ghost use Rattle.turn_laws.specs.Aborts.{AbortsLaw};
 ghost use Rattle.turn_laws.specs.ActEntries.{ActionRunLaw};
 ghost use Rattle.turn_laws.specs.ActRequests.{ActRequestsLaw};
@@ -117,6 +118,14 @@ pub fn illegal_orbs_have_codes()
 #[tactic(auto, using(crate::proofs::Aborts::aborts_law))]
 pub fn orbs_abort_where_due()
     ensures { AbortsLaw }
+{}
+
+/// In every run, whatever anybody injected, an abort with 00 is of the initiator of each login that its management ORB
+/// names, as the target got that ORB: nobody aborts an ORB of another's login. By it `aborted` of the cause law, which
+/// reads the name of an ORB by the initiator of the abort, and `aborts`, which reads its place, speak of one initiator.
+#[tactic(auto, using(crate::proofs::AbortOwners::abort_owners_law))]
+pub fn aborts_are_of_owners()
+    ensures { AbortOwnersLaw }
 {}
 
 /// In each turn of every run, whatever anybody injected, an end of an ORB has its status write, or a death beside
