@@ -4,12 +4,12 @@
 mod laws;
 
 pub use laws::{
-    actions_are_done_or_refused, actions_are_lawful, actions_send_their_requests, agents_die_once,
-    agents_send_their_requests, commands_end_as_read, deaths_have_rows,
-    decisions_are_sent_where_due, decisions_stand_as_told, discs_are_announced_where_due,
-    ends_are_heard, failures_have_rows, faults_follow_deaths, illegal_orbs_have_codes,
-    initiators_are_told_by_the_row, initiators_read_roms_on, judgements_are_lawful,
-    lists_are_cut_where_due, logins_are_lawful, operations_fail_where_due,
+    aborts_are_of_owners, actions_are_done_or_refused, actions_are_lawful,
+    actions_send_their_requests, agents_die_once, agents_send_their_requests, commands_end_as_read,
+    deaths_have_rows, decisions_are_sent_where_due, decisions_stand_as_told,
+    discs_are_announced_where_due, ends_are_heard, failures_have_rows, faults_follow_deaths,
+    illegal_orbs_have_codes, initiators_are_told_by_the_row, initiators_read_roms_on,
+    judgements_are_lawful, lists_are_cut_where_due, logins_are_lawful, operations_fail_where_due,
     operations_send_their_requests, orbs_abort_where_due, orbs_end_where_due,
     other_turns_send_nothing, packets_are_lawful, requests_are_answered_by_the_tables,
     requests_are_asked_for, requests_are_sent_where_due, rom_operations_wait_for_a_read,
