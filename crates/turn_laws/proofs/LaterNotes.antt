@@ -159,7 +159,7 @@ pub record FromTarget (so : Option Sending) : Type 0 where
   pub is : so ≡ Some packet
   pub from : packet.from ≡ 0
 
-note_sent : (note : Note) (t : Terms) → IsNoSent note → (noted note t).sent ≡ t.sent
+pub note_sent : (note : Note) (t : Terms) → IsNoSent note → (noted note t).sent ≡ t.sent
 note_sent (notes.Sent serial generation from to bytes) t i = absurd i
 note_sent (notes.Got serial) t i = (gets_same (t.sent serial) serial t).sent
 note_sent (notes.Ignored serial cause) t i = (ignores_that_same (t.sent serial) cause serial t).sent

@@ -79,7 +79,7 @@ use Rattle.turn_laws.proofs.StatusStays.{IsStatus, left_if}
 use Rattle.sbp_world.proofs.Hosts.Held.{begun_from}
 
 -- ---- an initiator has no such packets to tell of
-all_leave : (from : ℕ) (g : GenerationsState) (packets : List Outgoing) → AllLeave (λ to bytes. Unit {0}) from g packets
+pub all_leave : (from : ℕ) (g : GenerationsState) (packets : List Outgoing) → AllLeave (λ to bytes. Unit {0}) from g packets
 all_leave from g [] = tt
 all_leave from g (packet ∷ later) = ((λ to e. tt), all_leave from g later)
 
@@ -378,7 +378,7 @@ module _ (units ready : ℕ) (has : 0 < units) (start : List Disk) (past : List 
       next : serial ≡ x.count + 1
       next = count.0
 
-      pushes_same : Pushes start second ≡ Pushes start first
+      pub pushes_same : Pushes start second ≡ Pushes start first
       pushes_same = by (grown start from (λ to bytes. Unit {0}) serial generation to bytes first)
         where
           by : (Pushes start second ≡ Pushes start first) ⊎ Grows start from (λ to bytes. Unit {0}) serial generation to bytes first → Pushes start second ≡ Pushes start first
@@ -435,7 +435,7 @@ module _ (units ready : ℕ) (has : 0 < units) (start : List Disk) (past : List 
     noted_so note i a b c d = noted_kept line event note i (plain_beside L (noted note L) (Pushes start (asked line event ∷ ms)) a b c d)
 
     -- what is known of the history behind it
-    there_laws : (h : List Moment) → map said (onto rest []) ++ asked line event ∷ ms ≡ h → SerialsCount h × ((terms h).injects 0 ≡ false)
+    pub there_laws : (h : List Moment) → map said (onto rest []) ++ asked line event ∷ ms ≡ h → SerialsCount h × ((terms h).injects 0 ≡ false)
     there_laws h e =
         let stands = there.holds.sound.stands in
         let same : hist (asked line event ∷ ms) behind.world ≡ h = ap (λ ns. map said ns ++ asked line event ∷ ms) fresh ∙ e in

@@ -117,7 +117,7 @@ module _ (units ready : ℕ) (has : 0 < units) (start : List Disk) (past : List 
         subst (λ ns. Later start from Q base (map said ns ++ past)) (sym all_is)
         (notes_later start from Q (handed from weight outbox v) old past plain serials (subst (λ ns. AreSent (map said ns ++ past)) all_is (laws_of past behind there.holds.sound.stands).sent) clean)
 
-    small : (s : ℕ) → Has (Pushes start base) s → s ≤ (terms base).count
+    pub small : (s : ℕ) → Has (Pushes start base) s → s ≤ (terms base).count
     small s h = (counted start base (counts_before (handed from weight outbox v) old past serials)).pushes s h
 
     abbrev Done : Type 0
