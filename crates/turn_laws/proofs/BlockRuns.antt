@@ -1,5 +1,5 @@
 -- Each unsolicited status of the terms is a write of the block before each turn of every run: it is carried from place to place, beside whom one is pending to.
-use Rattle.std.proofs.Common.{arith, ◌≡◌, ◌∙◌, refl, sym, ap, subst, inl, inr, ◌⊎◌, ℕ, suc, ◌+◌, ◌<◌, nat_eq, Bool, true, false, List, [], ◌∷◌, ◌++◌, map, Option, Some, None, Result, Ok}
+use Rattle.std.proofs.Common.{arith, ◌≡◌, ◌∙◌, refl, sym, ap, subst, ℕ, suc, ◌+◌, ◌<◌, Bool, true, false, List, [], ◌∷◌, ◌++◌, map, Option, Some, Result, Ok}
 use Rattle.std.proofs.Math.Nat.{suc-ne-zero}
 use Rattle.std.proofs.lemmas.Bool.Decides.{nat_tests}
 use Rattle.bus_transactions.specs.Packets.{SerialsCount}
@@ -11,15 +11,14 @@ use Rattle.rbc_disk.specs.Disk.{Disk}
 use Rattle.rbc_disk.specs.Held.{Held as Media}
 use Rattle.rbc_disk.specs.Runs.{Told}
 use Rattle.sbp_bus.specs.Generations.{id_of}
-use Rattle.sbp_bus.specs.Packets.{end_note, judged_note}
-use Rattle.sbp_bus.specs.Requests.{find}
+use Rattle.sbp_bus.specs.Packets.{judged_note}
 use Rattle.sbp_bus.specs.declared.requests.Request.{Request}
 use Rattle.sbp_initiator.specs.Receiving.{receive_step}
 use Rattle.sbp_initiator.specs.Seeing.{see_step}
 use Rattle.sbp_journal.specs.Outgoings.{OutboxState, empty_outbox}
 use Rattle.sbp_journal.specs.Run.{Moment, asked, said}
 use Rattle.sbp_journal.specs.Transactions.{Sending}
-use Rattle.sbp_journal.specs.Wire.{Terms, noted, terms}
+use Rattle.sbp_journal.specs.Wire.{Terms, terms}
 use Rattle.sbp_journal.specs.declared.cause.Judged.{Judged}
 use Rattle.sbp_journal.specs.declared.cause.Judged.TheVariants as judgements
 use Rattle.sbp_journal.specs.declared.event.Event.{Event}
@@ -52,7 +51,7 @@ use Rattle.turn_laws.proofs.Alone.{alone_cases, first_kept_here}
 use Rattle.turn_laws.proofs.Calls.{Brings, CarriedCases, Stays, calls, injects, loses, refuses, refuses_action, resets, sets_key}
 use Rattle.turn_laws.proofs.Handed.{onto}
 use Rattle.turn_laws.proofs.LaterNotes.{owns_handed}
-use Rattle.turn_laws.proofs.LaterTerms.{Clean, Pushes}
+use Rattle.turn_laws.proofs.LaterTerms.{Clean}
 use Rattle.turn_laws.proofs.Pass.{Begins, of_every_carried}
 use Rattle.turn_laws.proofs.PendingCalls.{Any, all_owned, blocks_kept}
 use Rattle.turn_laws.proofs.PendingFirsts.{got_injected, late_injected}
@@ -61,7 +60,7 @@ use Rattle.turn_laws.proofs.PendingOwn.{all_leave, pushes_same, there_laws}
 use Rattle.turn_laws.proofs.PendingTerms.{ignored_same, upd_other}
 use Rattle.turn_laws.proofs.PendingTurns.{Kept, line_clean, note_clean}
 use Rattle.turn_laws.proofs.Places.{Place}
-use Rattle.turn_laws.proofs.PushBlocks.{AreBlocks, IsBlock, handed_blocks, line_blocks, moved_block, note_blocks}
+use Rattle.turn_laws.proofs.PushBlocks.{AreBlocks, handed_blocks, line_blocks, moved_block, note_blocks}
 use Rattle.turn_laws.proofs.PushSerials.{Has, counted}
 use Rattle.turn_laws.proofs.SerialsStay.{IsNoSent}
 

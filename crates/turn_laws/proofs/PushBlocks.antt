@@ -1,5 +1,5 @@
 -- Each unsolicited status of the terms is a write of the block: what a history makes of this, moment by moment, and what is handed out.
-use Rattle.std.proofs.Common.{◌≡◌, ◌∙◌, refl, sym, ap, subst, inl, inr, ◌⊎◌, ℕ, ◌<◌, List, [], ◌∷◌, ◌++◌, map, Option, Some, None, Result, Ok, Err}
+use Rattle.std.proofs.Common.{◌≡◌, ◌∙◌, refl, ap, subst, inl, inr, ◌⊎◌, ℕ, ◌<◌, List, ◌∷◌, ◌++◌, map, Option, Some, Result, Ok, Err}
 use Rattle.async_packet.specs.Packet.{Packet, lock, lock_response, read_block, read_block_response, read_quadlet, read_quadlet_response, write_block, write_quadlet, write_response}
 use Rattle.async_packet.specs.Reading.{reading}
 use Rattle.async_packet.specs.declared.fault.PacketFault.{PacketFault}
@@ -9,7 +9,7 @@ use Rattle.rbc_disk.specs.Held.{Held as Media}
 use Rattle.sbp_journal.specs.Addresses.{Access, access_of}
 use Rattle.sbp_journal.specs.Outgoings.{OutboxState}
 use Rattle.sbp_journal.specs.Run.{Moment, asked, said}
-use Rattle.sbp_journal.specs.Transactions.{Kind, Part, Sending, no_packet, part_by, part_in, part_of, request, response}
+use Rattle.sbp_journal.specs.Transactions.{Kind, Sending, no_packet, part_by, part_in, part_of, request, response}
 use Rattle.sbp_journal.specs.Wire.{noted, terms}
 use Rattle.sbp_journal.specs.declared.event.Event.{Event}
 use Rattle.sbp_journal.specs.declared.note.Note.{Note}

@@ -1,5 +1,5 @@
 -- In each turn of every run an unsolicited status that an initiator gets at the FIFO of a login is told: it is a write of the block, and where it is not ignored its row tells.
-use Rattle.std.proofs.Common.{◌≡◌, ◌≢◌, ◌∙◌, refl, sym, ap, subst, inl, inr, ◌⊎◌, ℕ, zero, suc, ◌==◌, ◌&&◌, ◌||◌, not, nat_eq, Bool, true, false, cond, List, [], ◌∷◌, length, Option, Some, None, Result, Ok, Err}
+use Rattle.std.proofs.Common.{◌≡◌, ◌∙◌, refl, sym, ap, subst, inl, inr, ◌⊎◌, ℕ, suc, ◌==◌, ◌&&◌, ◌||◌, not, Bool, true, false, List, [], ◌∷◌, length, Some, None, Result, Ok, Err}
 use Rattle.std.specs.List.{list_any}
 use Rattle.std.proofs.lemmas.Option.{same_Some}
 use Rattle.async_packet.specs.Packet.{Packet, lock, lock_response, read_block, read_block_response, read_quadlet, read_quadlet_response, write_block, write_quadlet, write_response}
@@ -10,29 +10,25 @@ use Rattle.label_table.specs.Judging.{Facts, Row, by_again, by_generation, by_gr
 use Rattle.media_bay.specs.Unsolicited.{block, block_head, is_block}
 use Rattle.rbc_disk.specs.Disk.{Disk}
 use Rattle.sbp_journal.specs.Addresses.{Access, access_of}
-use Rattle.sbp_journal.specs.Rows.{RequestFacts, first_or, ignored_as, judging_of, serving, telling}
-use Rattle.sbp_journal.specs.Run.{Moment, said}
+use Rattle.sbp_journal.specs.Rows.{RequestFacts, first_or, ignored_as, serving, telling}
 use Rattle.sbp_journal.specs.Transactions.{Sending, part_by, part_in, part_of}
 use Rattle.sbp_journal.specs.Wire.{Terms, terms}
 use Rattle.sbp_journal.specs.declared.cause.Cause.{Cause}
 use Rattle.sbp_journal.specs.declared.cause.Cause.TheVariants as causes
-use Rattle.sbp_journal.specs.declared.note.Note.{Note}
 use Rattle.sbp_journal.specs.declared.note.Note.TheVariants as notes
-use Rattle.sbp_laws.specs.Hosts.{host_at}
 use Rattle.sbp_laws.specs.Agents.{target_before}
-use Rattle.sbp_laws.specs.JudgementLaw.{JudgesBy, Judges, by_judging, by_row, facts_at, facts_of, host_facts, is_login_fifo, is_response, request_facts, verdict_of, verdict_on}
+use Rattle.sbp_laws.specs.JudgementLaw.{JudgesBy, Judges, by_judging, by_row, facts_at, facts_of, is_login_fifo, is_response, request_facts, verdict_of, verdict_on}
 use Rattle.sbp_laws.specs.MediaLaw.{is_told_note}
 use Rattle.sbp_laws.specs.NoteKinds.{of_kind}
-use Rattle.sbp_laws.specs.Packets.{access_at, access_in, access_in_bytes, packet_in, receiver_in, spelled_by}
-use Rattle.sbp_laws.specs.Targets.{Target, over, target_at}
+use Rattle.sbp_laws.specs.Packets.{access_in, access_in_bytes, packet_in, receiver_in, spelled_by}
+use Rattle.sbp_laws.specs.Targets.{Target, target_at}
 use Rattle.sbp_laws.specs.Turns.{Turn}
 use Rattle.sbp_world.proofs.Common.{equal, untrue}
 use Rattle.turn_laws.specs.PushTold.{GetsPush, PushToldLaw, TellsPushes, is_at_login}
-use Rattle.turn_laws.specs.Told.{TellsByRow, is_telling, packet_tells, row_tells, tells_by, told_by, told_of, told_to}
+use Rattle.turn_laws.specs.Told.{TellsByRow, is_telling, packet_tells, row_tells, told_by, told_of, told_to}
 use Rattle.turn_laws.proofs.BlockRuns.{WereBlocks, blocks_law}
 use Rattle.turn_laws.proofs.EachTurns.{joined_law}
 use Rattle.turn_laws.proofs.Judgements.{judgement_run_law}
-use Rattle.turn_laws.proofs.LaterTerms.{Pushes}
 use Rattle.turn_laws.proofs.PushBlocks.{IsBlock}
 use Rattle.turn_laws.proofs.PushSerials.{Apart, Has}
 use Rattle.turn_laws.proofs.SerialsStay.{ends_turn}
