@@ -227,3 +227,6 @@ pub mod ManagerRequests
 pub mod PushRequests
 pub mod Told
 pub mod ToldNotes
+pub mod PushBlocks
+pub mod BlockRuns
+pub mod PushTold

@@ -9,16 +9,18 @@ use Rattle.label_table.specs.Peers.{state_for}
 use Rattle.label_table.specs.declared.reply.ReplyKind.{ReplyKind}
 use Rattle.label_table.specs.declared.reply.ReplyKind.TheVariants as kinds
 use Rattle.command_agent.specs.declared.step.Which.{Which}
+use Rattle.media_bay.specs.Unsolicited.{block}
 use Rattle.rbc_disk.specs.Disk.{Disk}
 use Rattle.rbc_disk.specs.Held.{Held as Media}
 use Rattle.sbp_bus.specs.Generations.{GenerationsState, id_of, topology_at}
+use Rattle.sbp_journal.specs.Addresses.{Access}
 use Rattle.sbp_journal.specs.Outgoings.{OutboxState}
 use Rattle.sbp_journal.specs.Run.{Moment, said}
 use Rattle.sbp_journal.specs.Transactions.{Kind, Transaction, locking, part_of, reading_block, reading_quadlet, request, writing}
 use Rattle.sbp_journal.specs.Wire.{Terms, terms, waits}
 use Rattle.sbp_journal.specs.declared.note.Note.{Note}
 use Rattle.sbp_journal.specs.declared.outbox.Outgoing.{Outgoing}
-use Rattle.sbp_laws.specs.Packets.{receiver_in}
+use Rattle.sbp_laws.specs.Packets.{access_in_bytes, receiver_in}
 use Rattle.sbp_laws.specs.Targets.{for_agent, for_manager, for_nobody, over, purpose_of, target_at}
 use Rattle.sbp_target.specs.Calls.{Call, alone}
 use Rattle.sbp_target.specs.Histories.Transactions.{IsUnderWay}
@@ -46,6 +48,7 @@ use Rattle.turn_laws.proofs.LaterTerms.{Clean, Later, New, Own, Pushes, free_wai
 use Rattle.turn_laws.proofs.PendingKept.{AreSent, Id, Pending, Rows, Ties}
 use Rattle.turn_laws.proofs.PendingTurns.{Kept, small, turn_kept, turn_later}
 use Rattle.turn_laws.proofs.Places.{Place}
+use Rattle.turn_laws.proofs.PushBlocks.{AreBlocks, IsBlock, handed_blocks, request_access}
 use Rattle.turn_laws.proofs.PushOwners.{IsWrite, access_writes, nobodys_pushed, turn_before}
 use Rattle.turn_laws.proofs.PushSerials.{Has, pushes_are_nobodys}
 use Rattle.turn_laws.proofs.StatusRows.{Row}
@@ -78,14 +81,18 @@ pub record Joins (t u : Terms) (nodes : ℕ) (before later : List ℕ) (r : ℕ)
 abbrev pub Any : ℕ → ℕ → Type 0
 Any to offset = Unit {0}
 
+-- an unsolicited status is the block
+abbrev pub Pays : Purpose → List ℕ → Type 0
+Pays p bytes = p ≡ purposes.Unsolicited → (access : Access) → access_in_bytes bytes ≡ Some access → access.payload ≡ block
+
 -- each request has a row that belongs to somebody
 abbrev pub Owner : Layer Purpose → GenerationsState → ℕ → List ℕ → Type 0
-Owner layer g to bytes = (number : ℕ) (kind : Kind) → part_of bytes ≡ request number kind → (p : Purpose) × IsUnderWay layer (Some p) (id_of (topology_at g 0) to) number
+Owner layer g to bytes = (number : ℕ) (kind : Kind) → part_of bytes ≡ request number kind → (p : Purpose) × (IsUnderWay layer (Some p) (id_of (topology_at g 0) to) number × Pays p bytes)
 
 leave_all : (layer : Layer Purpose) (g : GenerationsState) (packets : List Outgoing) → AllOwned Any layer packets → AllLeave (Owner layer g) 0 g packets
 leave_all layer g [] a = tt
 leave_all layer g (packet ∷ later) a =
-    ((λ to e number kind f. let o = a.0 number kind f in (o.purpose, subst (λ id. IsUnderWay layer (Some o.purpose) id number) (sym (node_has (topology_at g 0) packet.to to e).id_is) o.row)), leave_all layer g later a.1)
+    ((λ to e number kind f. let o = a.0 number kind f in (o.purpose, (subst (λ id. IsUnderWay layer (Some o.purpose) id number) (sym (node_has (topology_at g 0) packet.to to e).id_is) o.row, λ u access is. (o.told u access is).1))), leave_all layer g later a.1)
 
 module _ (units ready : ℕ) (has : 0 < units) (start : List Disk) (past : List Moment) (s : Scene) (here : Place units ready start past s) where
   abbrev w : WorldState
@@ -136,7 +143,7 @@ module _ (units ready : ℕ) (has : 0 < units) (start : List Disk) (past : List 
       label_is : x.label ≡ asks.label
       label_is = ap (λ (y : Transaction). y.label) asks.is
 
-      its : (p : Purpose) × IsUnderWay v.target.layer (Some p) (id_of (topology_at v.generations 0) x.packet.to) asks.label
+      its : (p : Purpose) × (IsUnderWay v.target.layer (Some p) (id_of (topology_at v.generations 0) x.packet.to) asks.label × Pays p x.packet.bytes)
       its = x.one asks.label asks.kind asks.part
 
       id_is : id_of (topology_at v.generations 0) x.packet.to ≡ Id (terms now) x.packet.to
@@ -148,7 +155,7 @@ module _ (units ready : ℕ) (has : 0 < units) (start : List Disk) (past : List 
       under =
           subst (λ (n : NodeState). IsUnderWay n.layer (Some its.0) (Id (terms now) x.packet.to) x.label) (sym (handed_alike 0 0 outbox v).target)
           (subst (λ id. IsUnderWay v.target.layer (Some its.0) id x.label) id_is
-          (subst (λ n. IsUnderWay v.target.layer (Some its.0) (id_of (topology_at v.generations 0) x.packet.to) n) (sym label_is) its.1))
+          (subst (λ n. IsUnderWay v.target.layer (Some its.0) (id_of (topology_at v.generations 0) x.packet.to) n) (sym label_is) its.1.0))
 
       waiting : (terms now).held (Own (terms now) x.packet.to x.label) ≡ waits x.kind r
       waiting = ap (λ g. (terms now).held (transaction g 0 x.packet.to x.label)) generation ∙ x.held
@@ -165,6 +172,20 @@ module _ (units ready : ℕ) (has : 0 < units) (start : List Disk) (past : List 
 
       new_row : Row behind.target.layer (Id (terms now) x.packet.to) x.label
       new_row = row_by its.0 under
+
+      pays_by : (p : Purpose) → IsUnderWay behind.target.layer (Some p) (Id (terms now) x.packet.to) x.label → Pays p x.packet.bytes → (access : Access) → access_in_bytes x.packet.bytes ≡ Some access → access.payload ≡ block
+      pays_by purposes.Unsolicited u pays access e = pays refl access e
+      pays_by purposes.Management u pays access e = manager_not (sym ((handed_so purposes.Management u).operation refl) ∙ nobodys r h)
+      pays_by (purposes.Agent place) u pays access e = let f = (handed_so (purposes.Agent place) u).agent place refl in agent_not place f.which (sym f.is ∙ nobodys r h)
+
+      new_block : IsBlock ((terms now).sent r)
+      new_block =
+          let a = request_access x.packet.bytes asks.label asks.kind asks.part in
+          record { packet = x.packet; is = x.sent; access = a.access; asks = a.is; payload = pays_by its.0 under its.1.1 a.access a.is }
+
+    -- so each unsolicited status is the block
+    pub blocks_kept : AreBlocks start base → AreBlocks start now
+    blocks_kept b = handed_blocks units ready has start past (note ∷ w.fresh) 0 0 outbox v media fresh_is there Q plain clean b (λ r h z x. new_block r h x)
 
     -- what waits under a new row of one is an unsolicited status of the terms
     module _ (layer : Layer Purpose) where

@@ -384,7 +384,7 @@ module _ (units ready : ℕ) (has : 0 < units) (start : List Disk) (past : List 
           untrue (sym fair ∙ (ap (λ f. f 0) (sends_agrees serial q x).injects
           ∙ (ap (λ b. (cond b (upd x.injects from true) x.injects) 0) injected ∙ ap (λ n. upd x.injects n true 0) zero)))
 
-      pushes_same : Pushes start second ≡ Pushes start first
+      pub pushes_same : Pushes start second ≡ Pushes start first
       pushes_same = by (grown start from (λ to bytes. Unit {0}) serial generation to bytes first)
         where
           by : (Pushes start second ≡ Pushes start first) ⊎ Grows start from (λ to bytes. Unit {0}) serial generation to bytes first → Pushes start second ≡ Pushes start first

@@ -15,6 +15,7 @@ use Rattle.turn_laws.proofs.Ends.{ends_law}
 use Rattle.turn_laws.proofs.Faults.{faults_law}
 use Rattle.turn_laws.proofs.Judgements.{judgement_run_law}
 use Rattle.turn_laws.proofs.LoginRuns.{login_run_law}
+use Rattle.turn_laws.proofs.PushTold.{push_told_law}
 use Rattle.turn_laws.proofs.Pushes.{pushes_law}
 use Rattle.turn_laws.proofs.Once.{once_law}
 use Rattle.turn_laws.proofs.Requests.{requests_run_law}
@@ -56,6 +57,7 @@ turns_law = record {
     runs_end = runs_end_law.after_lines line run is some most size;
     pushes = pushes_law.after_lines line run is some most size;
     told = told_law.after_lines line run is some most size;
+    pushes_told = push_told_law.after_lines line run is some most size;
   };
   between = λ line run is some most size next deliveries told may. record {
     judgement = judgement_run_law.between line run is some most size next deliveries told may;
@@ -85,5 +87,6 @@ turns_law = record {
     runs_end = runs_end_law.between line run is some most size next deliveries told may;
     pushes = pushes_law.between line run is some most size next deliveries told may;
     told = told_law.between line run is some most size next deliveries told may;
+    pushes_told = push_told_law.between line run is some most size next deliveries told may;
   };
 }

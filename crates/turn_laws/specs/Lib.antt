@@ -40,4 +40,5 @@ pub mod ManagerRequests
 pub mod TargetRequests
 pub mod OtherRequests
 pub mod Told
+pub mod PushTold
 pub mod Requests

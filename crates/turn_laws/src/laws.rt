@@ -31,6 +31,7 @@ ghost use Rattle.turn_laws.specs.Packets.{PacketsLaw};
 ghost use Rattle.turn_laws.specs.Requests.{RequestsRunLaw};
 ghost use Rattle.turn_laws.specs.RunsEnd.{RunsEndLaw};
 ghost use Rattle.turn_laws.specs.PushRequests.{PushRequestsLaw};
+ghost use Rattle.turn_laws.specs.PushTold.{PushToldLaw};
 ghost use Rattle.turn_laws.specs.Pushes.{PushesLaw};
 ghost use Rattle.turn_laws.specs.Silent.{SilentLaw};
 ghost use Rattle.turn_laws.specs.Statuses.{StatusesLaw};
@@ -360,6 +361,13 @@ pub fn other_turns_send_nothing()
 #[tactic(auto, using(crate::proofs::Told::told_law))]
 pub fn initiators_are_told_by_the_row()
     ensures { ToldLaw }
+{}
+
+/// In each turn of every run, whatever anybody injected, in which an initiator gets a packet that the target sent as an
+/// unsolicited status, at an address of a FIFO of a login, `told` stands for this initiator, once, and for no other.
+#[tactic(auto, using(crate::proofs::PushTold::push_told_law))]
+pub fn unsolicited_statuses_are_told()
+    ensures { PushToldLaw }
 {}
 
 /// In each turn of every run in which an initiator gets a packet, whatever anybody injected, it sends exactly its next

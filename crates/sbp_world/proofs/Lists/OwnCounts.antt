@@ -51,28 +51,27 @@ use Rattle.sbp_world.proofs.Hosts.Runs.{are_told, count_after, count_between}
 use Rattle.sbp_world.specs.Pointers.Moments.{manages}
 use Rattle.sbp_world.proofs.Lists.ManageTerms.{untrue}
 use Rattle.sbp_world.proofs.Lists.ManageWrites.{act_tells, no_action, not_so, other_node, same_action}
-use Rattle.sbp_world.proofs.Hosts.Statuses.Held.{few_before}
 
 abbrev pub FewAt : ℕ → Moment → List Moment → Type 0
-FewAt i (said (notes.Sent serial generation from to bytes)) past = from ≡ suc i → (action : Action) → event_of past ≡ Some (events.Act i action) → manages (operation_of action) ≡ true → (host_at past i).logins ≤ 2 ^ 32
+FewAt i (said (notes.Sent serial generation from to bytes)) past = from ≡ suc i → (action : Action) → event_of past ≡ Some (events.Act i action) → manages (operation_of action) ≡ true → (host_at past i).logins < 2 ^ 32
 FewAt i moment past = Unit {0}
 
-few_by : (m n : ℕ) → m ≡ n → n ≤ 2 ^ 32 → m ≤ 2 ^ 32
+few_by : (m n : ℕ) → m ≡ n → n < 2 ^ 32 → m < 2 ^ 32
 few_by m n e f = omega (arith, e, f)
 
 -- of the line
-few_written : (action other : Action) (past : List Moment) (i : ℕ) (s : InitiatorState) → (host_at past i).logins ≡ s.counts.logins → s.counts.logins ≤ 2 ^ 32 → event_of past ≡ Some (events.Act i action) → (act_step action empty_outbox s).0 ≡ None → event_of (behind (act_step action empty_outbox s).1.0.sides past) ≡ Some (events.Act i other) → manages (operation_of other) ≡ true → (host_at (behind (act_step action empty_outbox s).1.0.sides past) i).logins ≤ 2 ^ 32
+few_written : (action other : Action) (past : List Moment) (i : ℕ) (s : InitiatorState) → (host_at past i).logins ≡ s.counts.logins → s.counts.logins < 2 ^ 32 → event_of past ≡ Some (events.Act i action) → (act_step action empty_outbox s).0 ≡ None → event_of (behind (act_step action empty_outbox s).1.0.sides past) ≡ Some (events.Act i other) → manages (operation_of other) ≡ true → (host_at (behind (act_step action empty_outbox s).1.0.sides past) i).logins < 2 ^ 32
 few_written action other past i s logins few under done line m =
     let left = act_left action s done in
     let told = tame_told (act_step action empty_outbox s).1.0.sides past i left.told in
     let same = same_action i other action (sym line ∙ told.line ∙ under) in
     let own : manages (operation_of action) ≡ true = ap (λ x. manages (operation_of x)) (sym same) ∙ m in
-    subst (λ (told : List Side). (host_at (behind told past) i).logins ≤ 2 ^ 32) (sym (act_tells action s own)) (few_by (host_at past i).logins s.counts.logins logins few)
+    subst (λ (told : List Side). (host_at (behind told past) i).logins < 2 ^ 32) (sym (act_tells action s own)) (few_by (host_at past i).logins s.counts.logins logins few)
 
 -- ---- what is carried on, where the login numbers of the initiator have 32 bits
 pub record Counted (ready : Bool) (past : List Moment) (i : ℕ) (s : InitiatorState) : Type 0 where
   pub cored : Cored ready past i s
-  pub kept : s.counts.logins ≤ 2 ^ 32 → EachMoment (FewAt i) past
+  pub kept : s.counts.logins < 2 ^ 32 → EachMoment (FewAt i) past
 
 apart_kept : (note : Note) (past : List Moment) (i : ℕ) → is_apart i note ≡ true → EachMoment (FewAt i) past → EachMoment (FewAt i) (said note ∷ past)
 apart_kept (notes.Sent serial generation from to bytes) past i e h = (λ f action line m. other_node from i (not_so (nat_eq from (suc i)) e) f, h)
@@ -91,8 +90,8 @@ told_kept [] past i tame h = h
 told_kept (sides.Own note ∷ later) past i tame h = told_kept later (said note ∷ past) i tame.1 (tame_kept note past i tame.0 h)
 told_kept (_ ∷ later) past i tame h = absurd tame.0
 
-before : (s : InitiatorState) (call : Call) → IsCall call → (done call (empty_outbox, s)).1.counts.logins ≤ 2 ^ 32 → s.counts.logins ≤ 2 ^ 32
-before s call fit f = few_before s.counts.logins (done call (empty_outbox, s)).1.counts.logins (count_law.logins call (empty_outbox, s) fit) f
+before : (s : InitiatorState) (call : Call) → IsCall call → (done call (empty_outbox, s)).1.counts.logins < 2 ^ 32 → s.counts.logins < 2 ^ 32
+before s call fit f = let l = count_law.logins call (empty_outbox, s) fit in omega (arith, l, f)
 
 pub counted_carried : (ready : Bool) → Carries Nothing (Counted ready)
 counted_carried ready = record {
@@ -165,7 +164,7 @@ module _ (line : ℕ) (run : Run) (q : IsRun run) (i : ℕ) (b : i < run.initiat
   inside_start : i < length start.world.initiators
   inside_start = subst (λ n. i < n) (sym (count_after run run.entries)) b
 
-  few_of : (s : InitiatorState) → IsCalled run.ready i s → s.counts.acts ≤ length run.entries → s.counts.logins ≤ 2 ^ 32
+  few_of : (s : InitiatorState) → IsCalled run.ready i s → s.counts.acts ≤ length run.entries → s.counts.logins < 2 ^ 32
   few_of s h used =
       let short = q.short in
       let f : s.counts.logins ≤ s.counts.acts + 1 = subst (λ (x : InitiatorState). x.counts.logins ≤ x.counts.acts + 1) h.is (logins_few i run.ready h.calls) in

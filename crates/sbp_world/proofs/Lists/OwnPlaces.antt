@@ -52,7 +52,7 @@ named_good o subject n = record {
 other_named : (o : ManagementOrb) (place : ℕ) → place < 2 → o.fifo ≡ 0x12002000 + 0x20 * place → o.second ≡ 0 → o.function < 2 ^ 4 → (function_of o.function ≡ Some functions.Login → ⊥) → IsNamed o
 other_named o place small is none few never = record { second = omega (arith, none); aside = in_front (omega (arith, none)); low = omega (arith, small, is); small = few; its = of_place place small is; login = λ e. absurd (never e) }
 
-named : (action : Action) (past : List Moment) (i : ℕ) (host : Host) (place : ℕ) → host.logins ≤ 2 ^ 32 → place < 2 → manages (operation_of action) ≡ true → IsNamed (management_orb_of action past i host place)
+named : (action : Action) (past : List Moment) (i : ℕ) (host : Host) (place : ℕ) → host.logins < 2 ^ 32 → place < 2 → manages (operation_of action) ≡ true → IsNamed (management_orb_of action past i host place)
 named (actions.Login unit reconnect exclusive password) past i host place few small m =
     let own : IsLoginFifo (0x13000000 + 0x20 * host.logins) = record { number = host.logins; few = few; is = refl } in
     record { second = omega (arith, small); aside = of_response place small refl; low = omega (arith, few); small = omega arith; its = of_login own; login = λ e. own }
@@ -96,7 +96,7 @@ module _ (i m : ℕ) (small : m < 2) (few_nodes : i + 1 < 2 ^ 16) where
 
   module _ (past : List Moment) (shorts : AreShort past) (before : Option ManagementOrb) (h : IfGood before) (from : ℕ) (own : from ≡ i) where
     abbrev FewHere : Type 0
-    FewHere = suc from ≡ suc i → (action : Action) → event_of past ≡ Some (events.Act i action) → manages (operation_of action) ≡ true → (host_at past i).logins ≤ 2 ^ 32
+    FewHere = suc from ≡ suc i → (action : Action) → event_of past ≡ Some (events.Act i action) → manages (operation_of action) ≡ true → (host_at past i).logins < 2 ^ 32
 
     acted : (few : FewHere) (j : ℕ) (action : Action) → event_of past ≡ Some (events.Act j action) → is_own i j (operation_of action) ≡ true → IfGood (Some (management_orb_of action past i (host_at past i) m))
     acted few j action line e =

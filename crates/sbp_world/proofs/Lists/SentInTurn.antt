@@ -202,7 +202,7 @@ module _ (units ready : ℕ) (has : 0 < units) (start : List Disk) (wild : ℕ �
     status_not : own.purpose ≡ purposes.Unsolicited → ⊥
     status_not e =
         let to : node_of x.w.generations 0 from_it.packet.to ≡ Some (suc i) = ap (λ g. node_of g 0 from_it.packet.to) (sym (c.bus known)) ∙ (from_it.to ∙ ap Some to_is) in
-        let fifo : IsLoginFifo y.access.offset = own.told e y.access access_is to in
+        let fifo : IsLoginFifo y.access.offset = (own.told e y.access access_is).0 to in
         none_is slot (sym (ap data_slot (fifo_no_window y.access.offset fifo)) ∙ y.stands)
 
     quiet : (target_at start now).reply ≡ None

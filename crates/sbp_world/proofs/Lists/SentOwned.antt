@@ -22,6 +22,7 @@ use Rattle.command_agent.specs.declared.step.Which.{Which}
 use Rattle.command_agent.specs.Machine.{Machine, state_in}
 use Rattle.command_agent.specs.Steps as steps
 use Rattle.command_agent.specs.Steps.{doorbell_step, reply_step}
+use Rattle.media_bay.specs.Unsolicited.{block}
 use Rattle.sbp_journal.specs.Addresses.{Access}
 use Rattle.sbp_journal.specs.Transactions.{Kind, part_of, request}
 use Rattle.sbp_journal.specs.declared.cause.Cause.TheVariants as ignored
@@ -67,11 +68,11 @@ use Rattle.sbp_target.proofs.Histories.Seats.{Lives}
 use Rattle.sbp_target.proofs.Histories.Primitives.{Known}
 use Rattle.sbp_world.proofs.Agents.AskedReplies.{changed_logins}
 
--- a request of a call of the target has a row under way that belongs to somebody; and an unsolicited status goes to a FIFO
+-- a request of a call of the target has a row under way that belongs to somebody; and an unsolicited status goes to a FIFO, and is the block
 pub record IsOwned (Fifo : ℕ → ℕ → Type 0) (layer : Layer Purpose) (packet : Outgoing) (number : ℕ) : Type 0 where
   pub purpose : Purpose
   pub row : IsUnderWay layer (Some purpose) packet.to number
-  pub told : purpose ≡ purposes.Unsolicited → (access : Access) → access_in_bytes packet.bytes ≡ Some access → Fifo packet.to access.offset
+  pub told : purpose ≡ purposes.Unsolicited → (access : Access) → access_in_bytes packet.bytes ≡ Some access → Fifo packet.to access.offset × (access.payload ≡ block)
 
 abbrev pub AllOwned : (ℕ → ℕ → Type 0) → Layer Purpose → List Outgoing → Type 0
 AllOwned Fifo layer [] = Unit {0}

@@ -201,7 +201,7 @@ module _ (Fifo : ℕ → ℕ → Type 0) where
   fifo_tells : (layer : Layer Purpose) (other : Login) → Fifo other.node (written_at other.fifo) → IsTellable Fifo layer other.node (block_write other.fifo block) purposes.Unsolicited
   fifo_tells layer other f asked of e access is =
       let x = wrote asked.label.number layer.node other.node other.fifo block (let n = unsolicited_small in omega (arith, n)) access (subst (λ bytes. access_in_bytes bytes ≡ Some access) of is) in
-      subst (Fifo other.node) (sym x.offset_is) f
+      (subst (Fifo other.node) (sym x.offset_is) f, x.payload_is)
 
   told_out : (place : ℕ) (s : Scene) (other : Login) → Fifo other.node (written_at other.fifo) → (r : Option Asked × Layer Purpose) → asking_step s.node.layer other.node (block_write other.fifo block) purposes.Unsolicited ≡ r → Announced s → Announced (unsolicited_by place other.node s.node (sent_by r s.outbox other.node))
   told_out place s other f (None, layer) e a =

@@ -9,6 +9,7 @@ use Rattle.label_table.specs.Bodies.{Body}
 use Rattle.label_table.specs.History as wire
 use Rattle.label_table.specs.History.{began, is_same, not_begun, under_way}
 use Rattle.label_table.specs.Layer.{Layer, answering_step, asking_step, disowning_step, unlabelled}
+use Rattle.media_bay.specs.Unsolicited.{block}
 use Rattle.sbp_journal.specs.Addresses.{Access}
 use Rattle.sbp_journal.specs.Transactions.{Kind, part_of, request}
 use Rattle.sbp_journal.specs.declared.outbox.Outgoing.{Outgoing}
@@ -59,9 +60,9 @@ unasked_answers p bytes = record {
 
 -- ---- each request belongs to somebody
 module _ (Fifo : ℕ → ℕ → Type 0) where
-  -- an unsolicited status goes to a FIFO
+  -- an unsolicited status goes to a FIFO, and is the block
   abbrev pub IsTold : Purpose → (to : ℕ) → List ℕ → Type 0
-  IsTold purpose to bytes = purpose ≡ purposes.Unsolicited → (access : Access) → access_in_bytes bytes ≡ Some access → Fifo to access.offset
+  IsTold purpose to bytes = purpose ≡ purposes.Unsolicited → (access : Access) → access_in_bytes bytes ≡ Some access → Fifo to access.offset × (access.payload ≡ block)
 
   pub record HasLife (lives : Lives) (packet : Outgoing) (number : ℕ) : Type 0 where
     pub label : LabelParts

@@ -24,7 +24,7 @@ IsTame past = (i : ℕ) → IsCalm past i
 -- the FIFO of a login number
 pub record IsLoginFifo (fifo : ℕ) : Type 0 where
   pub number : ℕ
-  pub few : number ≤ 2 ^ 32
+  pub few : number < 2 ^ 32
   pub is : fifo ≡ login_fifo number
 
 -- each login
