@@ -21,9 +21,9 @@ use Rattle.sbp_laws.specs.Hosts.{Host, Underway, acted, goes_on, got_by, host_at
 use Rattle.sbp_laws.specs.Lists.{present_list}
 use Rattle.sbp_laws.specs.Packets.{answer_in, answered_at, packet_at, receiver_in, sender_in}
 use Rattle.sbp_laws.specs.Turns.{event_of}
-use Rattle.sbp_world.proofs.Common.{same_number, untrue}
+use Rattle.sbp_world.proofs.Common.{same_number, untrue, turned}
 use Rattle.sbp_world.proofs.Hosts.Carries.{IsNoAct}
-use Rattle.sbp_world.proofs.Hosts.Cores.{turned, wire_is}
+use Rattle.sbp_world.proofs.Hosts.Cores.{wire_is}
 use Rattle.sbp_world.proofs.Pointers.Sending.{off as and_off}
 use Rattle.turn_laws.proofs.Handed.{onto}
 

@@ -30,9 +30,9 @@ use Rattle.sbp_laws.specs.Hosts.{Host, Underway, goes_on, got_by, host_at, is_se
 use Rattle.sbp_laws.specs.Lists.{present_list}
 use Rattle.sbp_laws.specs.Packets.{answered_at, receiver_in, sender_in}
 use Rattle.sbp_laws.specs.Turns.{event_of}
-use Rattle.sbp_world.proofs.Common.{none_is, same_number, untrue}
+use Rattle.sbp_world.proofs.Common.{none_is, same_number, untrue, turned}
 use Rattle.sbp_world.proofs.Hosts.Carries.{IsNoAct}
-use Rattle.sbp_world.proofs.Hosts.Cores.{turned, wire_is}
+use Rattle.sbp_world.proofs.Hosts.Cores.{wire_is}
 use Rattle.sbp_world.proofs.Hosts.Held.{got_waits, ignored_quiet, sent_apart, timed_waits}
 use Rattle.sbp_world.proofs.Hosts.Mild.{quad_tcode}
 use Rattle.sbp_world.proofs.Lists.BegunBy.{transaction_of}

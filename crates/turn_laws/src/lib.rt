@@ -15,7 +15,7 @@ pub use laws::{
     requests_are_asked_for, requests_are_sent_where_due, rom_operations_wait_for_a_read,
     statuses_and_resets_end_operations, statuses_are_sent_where_due, targets_send_their_requests,
     turns_are_in_order, units_are_cleared_where_due, unsolicited_statuses_are_sent_where_due,
-    unsolicited_statuses_go_alone, unsolicited_statuses_stand_where_due,
-    untold_chunks_find_no_label, what_is_active_waits_for_a_request,
-    what_runs_is_under_way_behind_turns,
+    unsolicited_statuses_are_told, unsolicited_statuses_go_alone,
+    unsolicited_statuses_stand_where_due, untold_chunks_find_no_label,
+    what_is_active_waits_for_a_request, what_runs_is_under_way_behind_turns,
 };

@@ -48,7 +48,7 @@ use Rattle.sbp_target.proofs.Histories.Stepped.{Behind, Carries, Fit, Lost, ahea
 use Rattle.sbp_target.proofs.Histories.Stepped as stepped
 use Rattle.agent_laws.specs.Along.Requests.{ahead_ask, ahead_under, main_under}
 use Rattle.sbp_world.specs.Agents.Asked.{AsksReally, FollowLaw, IsBare, IsBehind, IsFit, IsFor, IsSized, IsStill, IsUnder, Left, ahead_body, asks, has_next, main_body, reads_none, uses_buffer}
-use Rattle.sbp_world.proofs.Agents.AskedSteps.{taken, under_law}
+use Rattle.sbp_world.proofs.Agents.AskedSteps.{taken, under_law, some_ask}
 use Rattle.sbp_world.proofs.Agents.Sized.{nothing_sized, read_sized, still_sized}
 use Rattle.sbp_world.proofs.Agents.Walk.{desk_set}
 use Rattle.sbp_world.proofs.Agents.Writes.{HasBody, has_body, no_body}
@@ -569,16 +569,13 @@ follow_of q b login had step before m s behind under had_is i = (followed q b lo
 pub only : (ahead : Ask) (at count : ℕ) (m : Machine) → is_ahead m.ahead ≡ false → main_under m ≡ Read at count → writes_status m.phase ≡ false → IsUnder ahead (steps.asks (Read at count), m)
 only ahead at count m i e w = record { main = λ f. e; status = λ f. w; turned = λ f. absurd (false≢true f); asked = λ f. absurd (false≢true f); kept = λ f g. absurd (false≢true (sym i ∙ g)); sized = read_sized m at count e }
 
-ok_ask : (x y : Ask) → taken x ≡ taken y → x ≡ y
-ok_ask x y e = cc
-
 refused_not : (r : PointRefusal) (y : Ask) → (let x : Result Ask PointRefusal = Err r in x) ≡ taken y → ⊥
 refused_not r y e = cc
 
 module _ (q : ℕ) (b : q < 8) (login : Login) (s : Scene) where
   fetches : (m : Machine) (next : ℕ) (ask : Ask) → taken (fetch_step m next).0.ask ≡ taken ask → IsBehind s.outbox.packets q m (fetch_step m next).1 s.node → Asks q login (follow q login (steps.asks ask) s)
   fetches m next ask e i =
-      subst (λ (a : Ask). Asks q login (follow q login (steps.asks a) s)) (ok_ask _ ask e)
+      subst (λ (a : Ask). Asks q login (follow q login (steps.asks a) s)) (some_ask _ ask e)
       (follow_of q b login false (fetch_step m next).0 m (fetch_step m next).1 s (behind_fetch m next) (only (ahead_under m) _ _ (fetch_step m next).1 refl refl refl) (λ f. absurd (false≢true f)) i)
 
   points : (state : AgentState) (m : Machine) (pointer : OrbPointer) (ask : Ask) → (point_in state m pointer).0 ≡ taken ask → IsBehind s.outbox.packets q m (point_in state m pointer).1 s.node → Asks q login (follow q login (steps.asks ask) s)

@@ -257,7 +257,7 @@ taken ask = Ok ask
 abbrev refused : PointRefusal → Result Ask PointRefusal
 refused refusal = Err refusal
 
-some_ask : (x y : Ask) → taken x ≡ taken y → x ≡ y
+pub some_ask : (x y : Ask) → taken x ≡ taken y → x ≡ y
 some_ask x y e = cc
 
 none_ask : (r : PointRefusal) (y : Ask) → refused r ≡ taken y → ⊥

@@ -15,8 +15,8 @@ use Rattle.sbp_target.specs.Nodes.{NodeState, Scene, desk_at, login_at}
 use Rattle.sbp_target.specs.Units.{cut_at, cut_from, is_cut}
 use Rattle.sbp_world.proofs.Agents.Follows.{Settled}
 use Rattle.sbp_world.proofs.Agents.Steps.{reset_any}
-use Rattle.sbp_world.proofs.Agents.Walk.{same_id}
 use Rattle.sbp_world.proofs.Agents.Management.Places.{next_below, other_id}
+use Rattle.sbp_world.proofs.Common.{itself as same_id}
 
 -- a cut agent is settled with any one that is in RESET
 pub cut_settled : (m : Machine) (pointer : Option ℕ) (a : Agent) → a.pointer ≡ pointer → Settled (reset_step m) pointer (cut_agent a)

@@ -22,8 +22,8 @@ use Rattle.sbp_world.specs.Agents.Management.Offices as office
 use Rattle.sbp_world.proofs.Agents.Management.Calm.{AreQuiet, IsQuiet}
 use Rattle.sbp_world.specs.Agents.Crews.{agent_in, by_packet, by_packets, by_side, by_sides, crew_over, crew_packet, crew_packets, crew_side, crew_sides, sent_among}
 use Rattle.sbp_world.proofs.Agents.Follows.{over_idle}
-use Rattle.sbp_world.proofs.Agents.Walk.{same_id}
 use Rattle.sbp_world.proofs.Agents.Management.Places.{other_id}
+use Rattle.sbp_world.proofs.Common.{itself as same_id}
 
 -- nothing is asked for
 pub record Idle (a : Agent) : Type 0 where

@@ -55,9 +55,9 @@ use Rattle.sbp_world.proofs.Agents.Hiring.{Hires, HiresIn, IsEntry, reply_hires}
 use Rattle.sbp_world.proofs.Agents.Lists.{AreNoEntries, all_over, at_other, at_own, crew_more, entries_more, idle_packets, idle_sides, quiet_entries}
 use Rattle.sbp_world.proofs.Agents.Serves.{ask_keeps, failed_crew}
 use Rattle.sbp_world.proofs.Agents.Steps.{abort_alike}
-use Rattle.sbp_world.proofs.Agents.Walk.{same_id}
 use Rattle.sbp_world.proofs.Lists.BusyCuts.{in_reset}
 use Rattle.sbp_world.proofs.Agents.Management.Places.{other_id}
+use Rattle.sbp_world.proofs.Common.{itself as same_id}
 
 pub in_place : (place : ℕ) → place < 8 → place_in place ≡ Some place
 in_place place b = by (nat_lt place 8) (grind (arith, nat_tests))

@@ -48,8 +48,9 @@ use Rattle.sbp_world.proofs.Agents.Rounds.{alike_told, blank_now}
 use Rattle.sbp_world.proofs.Agents.Steps.{doorbell_alike, fetch_same}
 use Rattle.sbp_world.proofs.Agents.Serials.{Paired, turning_unless}
 use Rattle.sbp_world.proofs.Agents.Turns.{ahead_follows, ahead_is, ahead_settled, ahead_turns, fits, lapse_ends, main_follows, main_is, main_stepped, main_turns, quiet_done, settled_done}
-use Rattle.sbp_world.proofs.Agents.Walk.{Holds, Out, Told as Tells, holds_still, same_id, silent_more}
+use Rattle.sbp_world.proofs.Agents.Walk.{Holds, Out, Told as Tells, holds_still, silent_more}
 use Rattle.sbp_world.proofs.Agents.Management.Places.{other_id}
+use Rattle.sbp_world.proofs.Common.{itself as same_id}
 
 -- ---- what a turn makes of the agent of a place, however its packets are numbered
 pub record Turned (requests : List Request) (q : ℕ) (node : NodeState) (first : Agent) (s : Scene) : Type 0 where

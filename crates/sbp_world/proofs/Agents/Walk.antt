@@ -37,9 +37,7 @@ use Rattle.sbp_world.proofs.Agents.Serials.{Paired, Turning, more_has, number_af
 use Rattle.sbp_world.proofs.Agents.Writes.{HasBody, asked_writes, has_body, no_body}
 use Rattle.sbp_world.proofs.Agents.Management.Requests.{writes_body}
 use Rattle.sbp_world.proofs.Agents.Management.Places.{other_id}
-
-pub same_id : (n : ℕ) → nat_eq n n ≡ true
-same_id n = grind (arith, nat_tests)
+use Rattle.sbp_world.proofs.Common.{itself}
 
 -- ---- desks
 
@@ -56,14 +54,14 @@ pub record Holds (q : ℕ) (before : NodeState) (m : Machine) (node : NodeState)
 pub desk_set : (q : ℕ) (node later : NodeState) (d : Desk) → q < 8 → length node.desks ≡ 8 → later.desks ≡ slice_set node.desks q d → desk_at later q ≡ d
 desk_set q node later d b size e =
     let inside : q < length node.desks = omega arith in
-    ap (λ ds. slice_index_or ds q new_desk) e ∙ set_at node.desks q q d new_desk inside ∙ ap (λ (x : Bool). cond x d (desk_at node q)) (same_id q)
+    ap (λ ds. slice_index_or ds q new_desk) e ∙ set_at node.desks q q d new_desk inside ∙ ap (λ (x : Bool). cond x d (desk_at node q)) (itself q)
 
 pub holds_set : (q : ℕ) (before : NodeState) (m now : Machine) (node later : NodeState) (d : Desk) → q < 8 → Holds q before m node → later.desks ≡ slice_set node.desks q d → d.agent ≡ now → d.pointer ≡ (desk_at node q).pointer → d.is_enabled ≡ (desk_at node q).is_enabled → Holds q before now later
 holds_set q before m now node later d b h e a p n =
     let size = h.size in
     let inside : q < length node.desks = omega arith in
     let at : (k : ℕ) → desk_at later k ≡ cond (nat_eq k q) d (desk_at node k) = λ k. ap (λ ds. slice_index_or ds k new_desk) e ∙ set_at node.desks q k d new_desk inside in
-    let here : desk_at later q ≡ d = at q ∙ ap (λ (x : Bool). cond x d (desk_at node q)) (same_id q) in
+    let here : desk_at later q ≡ d = at q ∙ ap (λ (x : Bool). cond x d (desk_at node q)) (itself q) in
     let off : (k : ℕ) → k ≢ q → desk_at later k ≡ desk_at node k = λ k f. at k ∙ ap (λ (x : Bool). cond x d (desk_at node k)) (other_id k q f) in
     record {
       size = ap (λ ds. length ds) e ∙ length-set node.desks q d ∙ h.size;

@@ -33,14 +33,8 @@ use Rattle.sbp_world.proofs.Hosts.Listed.{behind_more}
 use Rattle.sbp_world.proofs.Hosts.PointerNotes.{pointer}
 use Rattle.sbp_world.proofs.Hosts.Requested.{done_sends}
 use Rattle.sbp_world.proofs.Pointers.Asks.{no_packet}
-use Rattle.sbp_world.proofs.Common.{some_none}
+use Rattle.sbp_world.proofs.Common.{some_none, untrue}
 use Rattle.sbp_world.proofs.Hosts.KnowActs.{no_packets}
-
-pub untrue : {A : Type 0} → false ≡ true → A
-untrue e = absurd (differ e)
-  where
-    differ : false ≡ true → ⊥
-    differ e = cc
 
 -- ---- the steps of a list
 

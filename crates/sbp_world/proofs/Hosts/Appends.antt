@@ -22,7 +22,8 @@ use Rattle.sbp_laws.specs.Lists.{orb, SlotState as Row, used, is_vacant, lowest_
 use Rattle.sbp_world.specs.Hosts.Rows.{name, row, row_by, used_by}
 use Rattle.sbp_world.specs.Hosts.Fits.{ListTerms, terms_at, over_at, IsOf, StateFits, linked_by, LoweredFits, over_now, ListFits, IfList, Frees, Rows, AreRows}
 use Rattle.sbp_world.proofs.Hosts.Sweeps.{frees, closes_still}
-use Rattle.sbp_world.proofs.Hosts.Prepares.{first_terms, next_terms, itself, Grows, list_of, added_fits, first_swept, next_swept}
+use Rattle.sbp_world.proofs.Hosts.Prepares.{first_terms, next_terms, Grows, list_of, added_fits, first_swept, next_swept}
+use Rattle.sbp_world.proofs.Common.{itself}
 
 -- ---- the lowest free slot
 

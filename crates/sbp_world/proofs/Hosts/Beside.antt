@@ -35,11 +35,11 @@ use Rattle.sbp_world.specs.Hosts.Fits.{ListTerms, terms_at, over_at, IsOf, State
 use Rattle.sbp_world.specs.Hosts.Steps.{is_beside, IsNoAbort}
 use Rattle.sbp_world.proofs.Hosts.Over.{last_at}
 use Rattle.sbp_world.proofs.Hosts.Sweeps.{frees, rests}
-use Rattle.sbp_world.proofs.Hosts.Prepares.{itself}
 use Rattle.sbp_world.proofs.Hosts.Links.{low_terms, link_terms}
 use Rattle.sbp_world.proofs.Hosts.Takes.{taken_terms, rows_taken}
 use Rattle.sbp_world.proofs.Hosts.Drops.{drop_terms}
 use Rattle.sbp_world.proofs.Hosts.Pins.{pin_terms, pinned_table, pinned_rows}
+use Rattle.sbp_world.proofs.Common.{itself}
 
 -- ---- at the start
 

@@ -21,9 +21,8 @@ use Rattle.sbp_laws.specs.Targets.{is_serial}
 use Rattle.sbp_laws.specs.Turns.{event_of}
 use Rattle.sbp_world.specs.Hosts.Bytes.{byte_brought, byte_held, is_got_by}
 use Rattle.sbp_world.proofs.Hosts.ByteCalls.{KeepsBytes}
-use Rattle.sbp_world.proofs.Hosts.Prepares.{itself}
 use Rattle.sbp_world.proofs.Hosts.Shown.{NotTo}
-use Rattle.sbp_world.proofs.Common.{turned as other_way}
+use Rattle.sbp_world.proofs.Common.{turned as other_way, itself}
 
 pub record ByteTerms : Type 0 where
   pub command : ℕ → ℕ → Option Cmd

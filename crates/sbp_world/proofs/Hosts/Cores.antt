@@ -23,8 +23,8 @@ use Rattle.sbp_laws.specs.Turns.{event_of}
 use Rattle.sbp_laws.specs.Hosts.{Host, Underway, acted, got_by, goes_on, host_at, is_management, is_serial, known_host, list_begins, op_ended, operation_of, pointer_answered, reset_seen, ring, sent_as, sent_in, session_ended, session_reset, session_sent, session_stuck}
 use Rattle.sbp_world.specs.Hosts.Core.{Core, host_core, work_of}
 use Rattle.sbp_world.proofs.Hosts.Carries.{IsNoAct, is_apart}
-use Rattle.sbp_world.proofs.Hosts.Prepares.{itself}
 use Rattle.sbp_world.proofs.Hosts.Beside.{turned as away}
+use Rattle.sbp_world.proofs.Common.{untrue, itself, turned}
 
 -- the wire that the fold carries is that of the history
 pub wire_is : (past : List Moment) (i : ℕ) → (known_host past i).wire ≡ terms past
@@ -37,12 +37,6 @@ wire_is (said note ∷ past) i = ap (passed (said note)) (wire_is past i)
 same_if : (b : Bool) (x y : Host) → host_core x ≡ host_core y → host_core (cond b x y) ≡ host_core y
 same_if true x y e = e
 same_if false x y e = refl
-
-pub untrue : {A : Type 0} → false ≡ true → A
-untrue e = absurd (differ e)
-  where
-    differ : false ≡ true → ⊥
-    differ e = cc
 
 -- where a test does not hold, and where it does
 none_if : (b : Bool) (x y : Host) → b ≡ false → host_core (cond b x y) ≡ host_core y
@@ -60,9 +54,6 @@ and_false false c e = refl
 pub not_so : (b : Bool) → not b ≡ true → b ≡ false
 not_so true e = untrue e
 not_so false e = refl
-
-pub turned : (i j : ℕ) → nat_eq i j ≡ false → nat_eq j i ≡ false
-turned i j e = grind (arith, nat_tests)
 
 -- ---- a packet
 

@@ -18,9 +18,9 @@ use Rattle.sbp_world.specs.Hosts.Acting.{HasRows}
 use Rattle.sbp_world.specs.Hosts.Deciding.{RunRefusalLaw, is_decided}
 use Rattle.sbp_world.specs.Hosts.Refusing.{initiator_of}
 use Rattle.sbp_world.specs.Hosts.Runs.{IsRun}
-use Rattle.sbp_world.proofs.Hosts.Cores.{untrue}
 use Rattle.sbp_world.proofs.Hosts.Hosted.{host_law}
 use Rattle.sbp_world.proofs.Hosts.Refusing.{run_action_law}
+use Rattle.sbp_world.proofs.Common.{untrue}
 
 -- the rows that neither the lists nor the session are read for
 pub record Plain (run own : Refusals) : Type 0 where

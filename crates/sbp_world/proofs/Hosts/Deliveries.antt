@@ -51,6 +51,7 @@ use Rattle.sbp_world.proofs.Hosts.GotRequests.{request_got}
 use Rattle.sbp_world.proofs.Hosts.Knows.{was_sent}
 use Rattle.sbp_world.proofs.Hosts.Runs.{count_after, count_between}
 use Rattle.sbp_world.proofs.Hosts.Statuses.Ranges.{moments_same, lines_same}
+use Rattle.sbp_world.proofs.Common.{said_joined}
 
 -- ---- notes
 
@@ -353,10 +354,6 @@ find_got G (said (notes.Got other) ∷ later) before serial h = find_got G later
 find_got G (said note ∷ later) before serial h = find_got G later before serial h
 find_got G (asked line event ∷ later) before serial h = find_got G later before serial h
 
-pub said_append : (one two : List Note) (ms : List Moment) → map said one ++ (map said two ++ ms) ≡ map said (one ++ two) ++ ms
-said_append [] two ms = refl
-said_append (note ∷ one) two ms = ap (λ x. said note ∷ x) (said_append one two ms)
-
 -- ---- a run
 
 module _ (line : ℕ) (run : Run) (e : Entry) (earlier : List Entry) (q : IsRun (front_of run (e ∷ earlier))) where
@@ -405,7 +402,7 @@ module _ (line : ℕ) (run : Run) (e : Entry) (earlier : List Entry) (q : IsRun 
         inside = λ i is. is_inside h.told i (h.was_got.inside i is);
         is = ap (λ ns. map said ns ++ asked e.line e.event ∷ history_of line front) h.is;
         rest = map said h.later;
-        behind = said_append h.later new (asked e.line e.event ∷ history_of line front)
+        behind = said_joined h.later new (asked e.line e.event ∷ history_of line front)
             ∙ ap (λ ns. map said ns ++ asked e.line e.event ∷ history_of line front) (sym h.behind)
             ∙ ap (λ ms. map said e.notes ++ asked e.line e.event ∷ ms) same;
       }

@@ -24,12 +24,13 @@ use Rattle.sbp_world.specs.Hosts.Runs.{IsRun}
 use Rattle.sbp_world.proofs.Hosts.AnsweringLines.{run_answers}
 use Rattle.sbp_world.proofs.Hosts.AnsweringSends.{Gets}
 use Rattle.sbp_world.proofs.Hosts.Between.{between, stands_there, there}
-use Rattle.sbp_world.proofs.Hosts.Deliveries.{GotsAre, GotsIn, Here, all_gots, map_in, run_gots, said_append, said_gots}
+use Rattle.sbp_world.proofs.Hosts.Deliveries.{GotsAre, GotsIn, Here, all_gots, map_in, run_gots, said_gots}
 use Rattle.sbp_world.proofs.Hosts.GotRequests.{request_got}
 use Rattle.sbp_world.proofs.Hosts.Knows.{was_sent}
 use Rattle.sbp_world.proofs.Hosts.Replied.{IsReplied}
 use Rattle.sbp_world.proofs.Hosts.ResponseBytes.{IsBlockRead}
 use Rattle.sbp_world.proofs.Lists.PlaceGots.{spelled_ok}
+use Rattle.sbp_world.proofs.Common.{said_joined as said_append}
 
 -- the packet of a note is a request to an initiator
 pub record IsAsked (past : List Moment) (i serial : ℕ) (packet : Packet) (access : Access) : Type 0 where

@@ -50,13 +50,14 @@ use Rattle.sbp_world.specs.Hosts.Runs.{IsRun}
 use Rattle.sbp_world.proofs.Hosts.Calling.{IsOwn, own_first, own_on}
 use Rattle.sbp_world.proofs.Hosts.Carried.{between_runs, of_runs}
 use Rattle.sbp_world.proofs.Hosts.Carries.{Carries, Does, Nothing, Tells}
-use Rattle.sbp_world.proofs.Hosts.Cores.{apart_core, sent_core, untrue}
+use Rattle.sbp_world.proofs.Hosts.Cores.{apart_core, sent_core}
 use Rattle.sbp_world.proofs.Hosts.KnowActs.{act_acted, asked_known}
 use Rattle.sbp_world.proofs.Hosts.KnowEnds.{Points}
 use Rattle.sbp_world.proofs.Hosts.KnowHears.{IfExpires, IfFits, expire_known, receive_known}
 use Rattle.sbp_world.proofs.Hosts.Knowing.{Known, Sits}
 use Rattle.sbp_world.proofs.Hosts.KnowSees.{sees_known}
 use Rattle.sbp_world.proofs.Hosts.Passes.{judged_apart}
+use Rattle.sbp_world.proofs.Common.{untrue}
 
 -- ---- what a transaction was for fits the operation under way
 

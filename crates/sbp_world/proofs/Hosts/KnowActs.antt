@@ -39,10 +39,10 @@ use Rattle.sbp_world.specs.Hosts.Calls.{behind}
 use Rattle.sbp_world.specs.Hosts.Core.{Core, host_core, operation_by, own_core, session_in}
 use Rattle.sbp_world.proofs.Hosts.Acts.{Goes, goes_on}
 use Rattle.sbp_world.proofs.Hosts.Asked.{IsRequest}
-use Rattle.sbp_world.proofs.Hosts.Cores.{append_told, apart_core, asks_core, begun_by, list_first, list_in, list_later, rung_as, rung_by, started_by, untrue}
+use Rattle.sbp_world.proofs.Hosts.Cores.{append_told, apart_core, asks_core, begun_by, list_first, list_in, list_later, rung_as, rung_by, started_by}
 use Rattle.sbp_world.proofs.Hosts.Knowing.{Known, Sits, seated, still_known, tell, tell_plain}
 use Rattle.sbp_world.proofs.Hosts.Requested.{done_sends}
-use Rattle.sbp_world.proofs.Common.{some_none}
+use Rattle.sbp_world.proofs.Common.{some_none, untrue}
 
 -- ---- the session of an action
 

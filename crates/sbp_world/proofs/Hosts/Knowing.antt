@@ -23,8 +23,9 @@ use Rattle.sbp_laws.specs.Hosts.{Session, host_at, session_ended, session_stuck}
 use Rattle.sbp_laws.specs.Hosts as terms
 use Rattle.sbp_world.specs.Hosts.Calls.{behind}
 use Rattle.sbp_world.specs.Hosts.Core.{Core, host_core, operation_by, own_core, session_in, work_in}
-use Rattle.sbp_world.proofs.Hosts.Cores.{apart_core, drop_told, ended_in, list_in, op_told, stuck_in, stuck_told, untrue}
+use Rattle.sbp_world.proofs.Hosts.Cores.{apart_core, drop_told, ended_in, list_in, op_told, stuck_in, stuck_told}
 use Rattle.sbp_world.proofs.Hosts.Listed.{behind_more}
+use Rattle.sbp_world.proofs.Common.{untrue}
 
 -- An operation that moves the session goes with the state that it began, or with a session that is stuck; and a read of AGENT_STATE is none.
 abbrev pub Sits : Option Operation → Session → Type 0

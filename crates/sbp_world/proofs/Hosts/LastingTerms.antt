@@ -22,9 +22,9 @@ use Rattle.sbp_world.specs.Hosts.Calls.{behind, by_side}
 use Rattle.sbp_world.specs.Hosts.Lasting.{Lasts}
 use Rattle.sbp_world.specs.Hosts.Orbs.{next_of}
 use Rattle.sbp_world.proofs.Hosts.OrbTerms.{AreLeft, AreStill, IsStill, OrbTerms, append_first, append_next, dummy_said, first_linked, link_said, low_said, orb_terms, orbs_left, with_append, with_dummy, with_link, with_low}
-use Rattle.sbp_world.proofs.Hosts.Prepares.{itself}
 use Rattle.sbp_world.proofs.Lists.BusyTold.{still_cut}
 use Rattle.sbp_world.proofs.Pointers.Naming.{at_most, still_below}
+use Rattle.sbp_world.proofs.Common.{itself}
 
 abbrev pub Within : OrbTerms → Type 0
 Within t = (n : ℕ) → t.linked n ≤ t.appended n

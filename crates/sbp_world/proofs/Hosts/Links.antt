@@ -12,7 +12,7 @@ use Rattle.orb_list.specs.Table.{SlotTable, slot_in, is_done}
 use Rattle.sbp_laws.specs.Lists.{TakenStatus, SlotState as Row}
 use Rattle.sbp_world.specs.Hosts.Fits.{ListTerms, over_at, linked_by, LoweredFits, StateFits, Fits, Frees, Rows}
 use Rattle.sbp_world.proofs.Hosts.Sweeps.{closes, closes_still}
-use Rattle.sbp_world.proofs.Hosts.Prepares.{itself}
+use Rattle.sbp_world.proofs.Common.{itself}
 
 -- the terms behind the low quadlet, and behind the high one
 abbrev pub low_terms : Bool → (n k : ℕ) → ListTerms → ListTerms

@@ -29,8 +29,8 @@ use Rattle.sbp_world.specs.Hosts.Orbs.{request_of}
 use Rattle.sbp_world.proofs.Hosts.Chains.{Same, chained_run}
 use Rattle.sbp_world.proofs.Hosts.OrbFits.{AllFit, IfFits, IsFull, NoneYet, OrbFits, low_to}
 use Rattle.sbp_world.proofs.Hosts.OrbTerms.{OrbTerms, append_first, append_next, first_linked, orb_terms, with_append}
-use Rattle.sbp_world.proofs.Hosts.Prepares.{itself}
 use Rattle.sbp_world.proofs.Hosts.LastingTerms.{other_name}
+use Rattle.sbp_world.proofs.Common.{itself}
 
 -- ---- an ORB with another name
 

@@ -18,8 +18,7 @@ use Rattle.sbp_laws.specs.Turns.{event_of}
 use Rattle.sbp_initiator.specs.Histories.Ends.{own}
 use Rattle.sbp_world.specs.Hosts.Calls.{behind, by_side}
 use Rattle.sbp_world.proofs.Hosts.Carries.{is_apart}
-use Rattle.sbp_world.proofs.Hosts.Prepares.{itself}
-use Rattle.sbp_world.proofs.Common.{turned}
+use Rattle.sbp_world.proofs.Common.{turned, itself}
 
 pub record OrbTerms : Type 0 where
   pub request : ℕ → ℕ → Option Request

@@ -1,5 +1,5 @@
 -- In every run the ORB_POINTER write that an initiator's host names is the one under way in its layer, where one is.
-use Rattle.std.proofs.Common.{arith, ◌≡◌, refl, sym, ◌∙◌, ap, subst, ℕ, suc, ◌<◌, ◌≤◌, ◌==◌, is_some, not, Bool, true, false, List, [], ◌∷◌, Option, Some, None, Result, Ok, Err}
+use Rattle.std.proofs.Common.{arith, ◌≡◌, refl, sym, ◌∙◌, ap, subst, ℕ, suc, ◌<◌, ◌==◌, is_some, not, Bool, true, false, List, [], ◌∷◌, Option, Some, None, Result, Ok, Err}
 use Rattle.async_packet.specs.Labels.{LabelParts}
 use Rattle.bus_transactions.specs.Wire.{transaction}
 use Rattle.label_table.specs.declared.reply.Stale.{Stale}
@@ -47,13 +47,11 @@ use Rattle.sbp_world.proofs.Hosts.PointerNotes.{Fit, apart_passes, got_fades_now
 use Rattle.sbp_world.proofs.Hosts.Pointing.{Points, called_of, written_at, wrote_at, wrote_is}
 use Rattle.sbp_world.proofs.Hosts.Shown.{IsElsewhere, IsHeard, IsShown}
 use Rattle.sbp_world.proofs.Pointers.Pends.{unwritten_not}
+use Rattle.sbp_world.proofs.Common.{least}
 
 pub record Pointed (ready : Bool) (past : List Moment) (i : ℕ) (s : InitiatorState) : Type 0 where
   pub cored : Cored ready past i s
   pub points : Fit past → Points past i s.target s.layer
-
-least : (n m : ℕ) → m ≡ n → n ≤ m
-least n m e = omega arith
 
 -- a time-out leaves a layer in its generation
 pub expired_stays : (k : ℕ) (layer : Layer Purpose) (r : Result (Option Purpose) Stale × PeerPlace Purpose) → (expired_at k layer r).1.generation ≡ layer.generation

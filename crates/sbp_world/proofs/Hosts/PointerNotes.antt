@@ -34,9 +34,8 @@ use Rattle.sbp_world.proofs.Hosts.Carries.{IsNoAct, is_apart}
 use Rattle.sbp_world.proofs.Hosts.Cores.{wire_is, and_false}
 use Rattle.sbp_world.proofs.Hosts.Held.{begun_from, got_apart, ignored_quiet, sent_apart, sent_count, sent_old, timed_apart}
 use Rattle.sbp_world.proofs.Hosts.Layered.{AreTame, is_tame}
-use Rattle.sbp_world.proofs.Hosts.Prepares.{itself}
 use Rattle.sbp_world.proofs.Hosts.Shown.{IsElsewhere}
-use Rattle.sbp_world.proofs.Common.{untrue, turned as other_way, least}
+use Rattle.sbp_world.proofs.Common.{untrue, turned as other_way, least, itself}
 
 -- the serial of the ORB_POINTER write of the present list
 abbrev pub pointer : List Moment → ℕ → Option ℕ

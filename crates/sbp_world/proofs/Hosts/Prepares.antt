@@ -10,11 +10,12 @@ use Rattle.orb_list.specs.declared.slot.SlotState.TheVariants as states
 use Rattle.orb_list.specs.declared.slot.Slot.{Slot}
 use Rattle.orb_list.specs.Tickets.{TicketParts}
 use Rattle.orb_list.specs.Table as table
-use Rattle.orb_list.specs.Table.{SlotTable, slot_in, is_free, is_done, is_mid_link, waiting, extended, next_ticket, added, lists_begun}
+use Rattle.orb_list.specs.Table.{SlotTable, slot_in, is_free, is_done, waiting}
 use Rattle.orb_list.proofs.Tied.{free_waits, set_here, set_there}
 use Rattle.sbp_laws.specs.Lists.{orb, TakenStatus}
 use Rattle.sbp_world.specs.Hosts.Rows.{name, name_in}
 use Rattle.sbp_world.specs.Hosts.Fits.{ListTerms, IfLast, IsOf, IsTaken, StateFits, linked_by, LoweredFits, Waits, IfList, IfHeld, ToCome, Fits, over_now}
+use Rattle.sbp_world.proofs.Common.{itself}
 
 -- the terms behind an append, of the first ORB of a list or of another one, in the slot `low`; only the first one begins a list
 abbrev pub first_terms : Bool → (n low : ℕ) → ListTerms → ListTerms
@@ -44,9 +45,6 @@ next_terms own starts n k low t = record {
   prepared = λ x. cond own (cond (nat_eq x low) (Some (orb n (suc k))) (t.prepared x)) (t.prepared x);
   pinned = t.pinned;
 }
-
-pub itself : (n : ℕ) → nat_eq n n ≡ true
-itself n = grind (arith, nat_tests)
 
 -- a slot that is free is none that an ORB waits in, and none that is pinned
 module _ (slots : List Slot) (j : ℕ) (x : Slot) (z : length slots ≡ 32) (small : j < 32) (free : is_free (slot_in slots j) ≡ true) where

@@ -13,8 +13,8 @@ use Rattle.sbp_laws.specs.CarriedBytes.{before_sent, bytes_in, payload_at}
 use Rattle.sbp_laws.specs.Packets.{answer_in, packet_in}
 use Rattle.sbp_laws.specs.SentAnswers.{is_answered}
 use Rattle.sbp_world.specs.Hosts.Responses.{payload_of}
-use Rattle.sbp_world.proofs.Hosts.Prepares.{itself}
 use Rattle.sbp_world.proofs.Hosts.SentMoments.{answers_now, sent_there}
+use Rattle.sbp_world.proofs.Common.{itself}
 
 pub plain_all : (ns : List Note) (past : List Moment) → AllByRecursion (λ note. is_plain note ≡ true) ns → terms (map said ns ++ past) ≡ terms past
 plain_all [] past h = refl

@@ -28,11 +28,11 @@ use Rattle.sbp_world.specs.Hosts.Rows.{present_in}
 use Rattle.sbp_world.specs.Hosts.Fits.{ListTerms, terms_at, over_at, Frees, IfLast, StateFits, IfList, Fits, Rows, AreRows}
 use Rattle.sbp_world.proofs.Hosts.Pins.{pin_terms}
 use Rattle.sbp_world.proofs.Hosts.Sweeps.{frees, rests}
-use Rattle.sbp_world.proofs.Hosts.Prepares.{itself}
 use Rattle.sbp_world.proofs.Hosts.Drops.{drop_terms, seen_terms, dropped_fits, dropped_table, freed_fits}
 use Rattle.sbp_world.specs.Hosts.Calls.{behind, Beside, Listed, Pins}
 use Rattle.sbp_world.proofs.Hosts.Ends.{op_beside}
 use Rattle.sbp_world.proofs.Hosts.Listed.{behind_more, tells_beside}
+use Rattle.sbp_world.proofs.Common.{itself}
 
 -- what holds between the note of a later generation and the last of what is told then: the slots are new, nothing is pinned, and the other
 -- terms are those of before

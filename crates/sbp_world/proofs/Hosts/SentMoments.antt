@@ -9,8 +9,8 @@ use Rattle.sbp_journal.specs.Transactions.{Sending, begun_by}
 use Rattle.sbp_journal.specs.Wire.{Owed, Terms, begins, pays, puts, terms}
 use Rattle.sbp_journal.specs.declared.note.Note.TheVariants as notes
 use Rattle.sbp_laws.specs.CarriedBytes.{before_sent}
-use Rattle.sbp_world.proofs.Hosts.Prepares.{itself}
 use Rattle.sbp_world.proofs.Hosts.Remaining.{begins_same, gets_same, ignores_that_same, opened_same, pays_same, remains, serials_behind, times_out_same}
+use Rattle.sbp_world.proofs.Common.{itself}
 
 -- ---- right behind it
 

@@ -17,7 +17,7 @@ use Rattle.sbp_world.specs.Hosts.Rows.{name, name_in, row, row_by}
 use Rattle.sbp_world.specs.Hosts.Fits.{ListTerms, over_at, LastFits, IfLast, StateFits, Waits, IfHeld, Fits, Frees, Rows}
 use Rattle.sbp_world.proofs.Hosts.Over.{one_ticket, last_at, slot_is, here}
 use Rattle.sbp_world.proofs.Hosts.Sweeps.{closes}
-use Rattle.sbp_world.proofs.Hosts.Prepares.{itself}
+use Rattle.sbp_world.proofs.Common.{itself}
 
 -- the terms behind a status that was taken; its ORB, or an earlier one, is the highest, counted from 1
 abbrev pub taken_terms : Bool → (n k : ℕ) → TakenStatus → (highest : ℕ) → ListTerms → ListTerms

@@ -27,11 +27,11 @@ use Rattle.sbp_world.specs.Hosts.Fits.{terms_at, over_at, StateFits, Frees, Rows
 use Rattle.sbp_world.specs.Hosts.Steps.{MayTake}
 use Rattle.sbp_world.proofs.Hosts.Over.{last_at}
 use Rattle.sbp_world.proofs.Hosts.Sweeps.{frees, rests}
-use Rattle.sbp_world.proofs.Hosts.Prepares.{itself}
 use Rattle.sbp_world.proofs.Hosts.Links.{low_terms, link_terms, low_rows, high_rows}
 use Rattle.sbp_world.proofs.Hosts.Takes.{taken_terms, rows_taken, taken_rows}
 use Rattle.sbp_world.proofs.Hosts.Drops.{drop_terms, dropped_rows, dropped_table}
 use Rattle.sbp_world.proofs.Hosts.Pins.{pin_terms, pinned_table, unpinned_rows}
+use Rattle.sbp_world.proofs.Common.{itself}
 
 -- a table with this present list
 abbrev pub with_present : SlotTable → Option PresentList → SlotTable

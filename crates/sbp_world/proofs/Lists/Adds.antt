@@ -16,12 +16,11 @@ use Rattle.sbp_initiator.specs.Histories.Ends.{own}
 use Rattle.sbp_world.proofs.Formed.{AreOwn, IsNoRun}
 use Rattle.sbp_world.proofs.Agents.Management.Still.{hist}
 use Rattle.sbp_world.proofs.Hosts.OrbTerms.{AreStill, is_left}
-use Rattle.sbp_world.proofs.Hosts.Prepares.{itself}
 use Rattle.sbp_laws.specs.OrderLaw.{OrderLaw, is_cut}
 use Rattle.sbp_world.specs.Lists.Orders.{IsAppend}
-use Rattle.sbp_world.proofs.Lists.Named.{no}
 use Rattle.sbp_world.proofs.Lists.Passing.{PassLaw}
-use Rattle.sbp_world.proofs.Common.{moments_joined}
+use Rattle.sbp_world.proofs.Common.{moments_joined, itself}
+use Rattle.sbp_world.proofs.Lists.Stands.{no}
 
 -- a note is no run, no end and no cut, and an append is the next one
 abbrev pub IsGood : List Moment → Note → Type 0

@@ -76,13 +76,14 @@ use Rattle.sbp_world.proofs.Lists.OrbWaits.{over_twice}
 use Rattle.sbp_world.proofs.Lists.OwnFifos.{fifo_no_window}
 use Rattle.sbp_world.proofs.Lists.OwnGots.{answered_same, read_same, read_so}
 use Rattle.sbp_world.proofs.Lists.OpenProved.{opens_law}
-use Rattle.sbp_world.proofs.Lists.OpenTurns.{listing_up, up_state}
+use Rattle.sbp_world.proofs.Lists.OpenTurns.{listing_up}
 use Rattle.sbp_world.proofs.Lists.Sites.{IsPrepared, Site, Waiting, named_prepared, waiting as agent_waiting}
 use Rattle.sbp_world.proofs.Lists.Slots.{IsFilled, table_slot}
 use Rattle.sbp_world.proofs.Lists.StillReads.{ahead_name}
 use Rattle.sbp_world.proofs.Lists.StillRuns.{ground_everywhere}
 use Rattle.sbp_world.proofs.Lists.StillTurns.{Ground, site_at}
 use Rattle.sbp_world.proofs.Lists.KeptPhases.{kept_idle}
+use Rattle.sbp_world.proofs.Hosts.Cores.{not_so as up_state}
 
 -- ---- where a chunk of a buffer begins
 nowhere : window_at 0 ≡ None

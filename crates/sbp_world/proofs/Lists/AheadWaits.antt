@@ -39,13 +39,13 @@ use Rattle.sbp_world.proofs.Lists.KeptPhases.{kept_idle, kept_sent}
 use Rattle.sbp_world.proofs.Lists.ListsProved.{closing}
 use Rattle.sbp_world.proofs.Lists.LiveRuns.{goes_tame}
 use Rattle.sbp_world.proofs.Lists.ManageSends.{opened_terms}
-use Rattle.sbp_world.proofs.Lists.ManageTerms.{untrue}
 use Rattle.sbp_world.proofs.Lists.OrbFolds.{over_reads}
 use Rattle.sbp_world.proofs.Lists.OrbSteps.{Reads, has_read}
 use Rattle.sbp_world.proofs.Lists.OrbWaits.{over_twice}
 use Rattle.sbp_world.proofs.Lists.Sites.{Site, waiting}
 use Rattle.sbp_world.proofs.Lists.StillRuns.{ground_everywhere}
 use Rattle.sbp_world.proofs.Lists.StillTurns.{Ground, site_at, unlisted_reads}
+use Rattle.sbp_world.proofs.Common.{untrue}
 
 record IsThere (x : Option ℕ) : Type 0 where
   pub serial : ℕ

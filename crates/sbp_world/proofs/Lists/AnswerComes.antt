@@ -27,7 +27,7 @@ use Rattle.sbp_target.specs.Replies.{plain_in}
 use Rattle.sbp_world.proofs.Lists.MachineTurns.{heard_in, line_heard}
 use Rattle.sbp_world.proofs.Lists.Runless.{Delivers, IsRunBy, IsRunlessBy, Plainly, acts, delivery_comes, target_told, ToldHere, told_none, told_run, injects, keys, late, loses, none_judged, no_run, one_run, plain_one, resets, sights, ticks}
 use Rattle.sbp_world.proofs.Lists.RunTells.{NoneRan, RanBy}
-use Rattle.sbp_world.proofs.Lists.AnswerRuns.{AreUnrun, both_unrun, joined, plain_unrun}
+use Rattle.sbp_world.proofs.Lists.AnswerRuns.{AreUnrun, both_unrun, plain_unrun}
 use Rattle.sbp_world.proofs.Agents.UnitsTold.{got_same}
 use Rattle.sbp_world.proofs.Agents.UnitsLines.{Units}
 use Rattle.sbp_laws.specs.Targets.{known_at, plain_of, target_at}
@@ -40,7 +40,7 @@ use Rattle.sbp_journal.specs.declared.note.Note.{Note}
 use Rattle.sbp_journal.specs.declared.cause.Judged.{Judged}
 use Rattle.sbp_journal.specs.declared.cause.Judged.TheVariants as judgements
 use Rattle.std.proofs.Common.{map, ◌++◌, ◌⊎◌, inl, inr}
-use Rattle.sbp_world.proofs.Common.{said_split}
+use Rattle.sbp_world.proofs.Common.{said_split, moments_joined as joined}
 
 -- an agent ran its command as this packet was got
 pub record RanHere (w : WorldState) (media : Held) (serial : ℕ) (run : Option Told) : Type 0 where

@@ -30,6 +30,7 @@ use Rattle.sbp_world.proofs.Lists.Running.{later_unrun}
 use Rattle.sbp_world.proofs.Lists.Runless.{AllPlain}
 use Rattle.sbp_world.proofs.Lists.UnrunTerms.{ends_grow, lists_grow, passes_from}
 use Rattle.sbp_world.proofs.Agents.UnitsKept.{runs_if as none_if}
+use Rattle.sbp_world.proofs.Common.{moments_joined}
 
 abbrev pub IsUnrun : Moment → Type 0
 IsUnrun (said (notes.Ran i n k unit cdb bytes check)) = ⊥
@@ -47,10 +48,6 @@ plain_unrun (note ∷ more) h = (tt, plain_unrun more h.1)
 pub both_unrun : (a b : List Moment) → AreUnrun a → AreUnrun b → AreUnrun (a ++ b)
 both_unrun [] b h k = k
 both_unrun (m ∷ a) b h k = (h.0, both_unrun a b h.1 k)
-
-pub joined : (a b c : List Moment) → (a ++ b) ++ c ≡ a ++ (b ++ c)
-joined [] b c = refl
-joined (m ∷ a) b c = ap (λ ms. m ∷ ms) (joined a b c)
 
 module _ (i n k : ℕ) where
   pub unrun_runs : (more ms : List Moment) → AreUnrun more → runs (more ++ ms) i n k ≡ runs ms i n k
@@ -156,7 +153,7 @@ answer_on start more ms now is i n k answer x = record {
   cdb = x.cdb;
   bytes = x.bytes;
   check = x.check;
-  is = joined more x.later _ ∙ (ap (λ h. more ++ h) x.is ∙ is);
+  is = moments_joined more x.later _ ∙ (ap (λ h. more ++ h) x.is ∙ is);
   told = x.told;
   size = x.size;
 }

@@ -24,13 +24,10 @@ use Rattle.sbp_world.proofs.Lists.Passing.{PassAt, PassLaw, RunsNext}
 use Rattle.sbp_world.proofs.Lists.SlotShut.{AllApart}
 use Rattle.sbp_world.proofs.Lists.StatusKnown.{IsKnown, known_less, all_three}
 use Rattle.sbp_world.proofs.Lists.WasReads.{got_now, got_later}
+use Rattle.sbp_world.proofs.Common.{moments_split}
 
 pub tail_is : (m x : Moment) (a b : List Moment) → m ∷ a ≡ x ∷ b → a ≡ b
 tail_is m x a b e = cc
-
-pub split : (a b c : List Moment) → a ++ (b ++ c) ≡ (a ++ b) ++ c
-split [] b c = refl
-split (m ∷ a) b c = ap (λ ms. m ∷ ms) (split a b c)
 
 pub known_from : (wild : ℕ → Bool) (i : ℕ) (later before : List Moment) → IsKnown wild (later ++ before) i → IsKnown wild before i
 known_from wild i [] before k = k
@@ -68,7 +65,7 @@ got_low past serial c gots e =
     let w = got_moment past serial e in
     let here = said (notes.Got serial) ∷ w.before in
     let front = w.later ++ said (notes.Got serial) ∷ [] in
-    let whole : front ++ w.before ≡ past = sym (split w.later (said (notes.Got serial) ∷ []) w.before) ∙ w.is in
+    let whole : front ++ w.before ≡ past = sym (moments_split w.later (said (notes.Got serial) ∷ []) w.before) ∙ w.is in
     let counted : SerialsCount (front ++ w.before) = subst SerialsCount (sym whole) c in
     let sent : WasSentThen serial w.before = find_got WasSentThen w.later w.before serial (subst (GotsIn WasSentThen) (sym w.is) gots) in
     let low = sent_below w.before serial sent.0 (serials_from front w.before counted) sent.1 in
@@ -256,7 +253,7 @@ module _ (i : ℕ) (all later B : List Moment) (at : later ++ B ≡ all) (c : Se
       writes = d.writes;
       later = later ++ d.later;
       before = d.before;
-      is = sym (split later d.later (said (notes.Sent serial packet.generation packet.from packet.to packet.bytes) ∷ d.before)) ∙ (ap (λ ms. later ++ ms) d.is ∙ at);
+      is = sym (moments_split later d.later (said (notes.Sent serial packet.generation packet.from packet.to packet.bytes) ∷ d.before)) ∙ (ap (λ ms. later ++ ms) d.is ∙ at);
       was = d.was;
       list_is = d.list_is;
       number_is = d.number_is;

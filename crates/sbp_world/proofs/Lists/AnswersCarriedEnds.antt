@@ -27,7 +27,7 @@ use Rattle.sbp_world.specs.Lists.DataWrites.{IsAnswered}
 use Rattle.sbp_world.specs.Lists.EndsWell.{EndedWell, GoodEnds, IsWrittenWell, well_behind, well_fresh}
 use Rattle.sbp_world.specs.Lists.Statuses.{IsTakenSo, IsToHost}
 use Rattle.sbp_world.specs.Lists.StatusRuns.{IsTakenOf}
-use Rattle.sbp_world.proofs.Lists.AnswersCarriedBefore.{WereDataWritten, has_run, into, out, split, ran_told, run_on}
+use Rattle.sbp_world.proofs.Lists.AnswersCarriedBefore.{WereDataWritten, has_run, into, out, ran_told, run_on}
 use Rattle.sbp_world.proofs.Lists.DataClosed.{IsSound, answered_low, are_served, its, sent, sound_from}
 use Rattle.sbp_world.proofs.Lists.DataOpen.{ended_less}
 use Rattle.sbp_world.proofs.Lists.DataServed.{dry_before, inside, moved, ran_so}
@@ -43,7 +43,7 @@ use Rattle.sbp_world.proofs.Lists.Sights.{BeginsLine, SightAt}
 use Rattle.sbp_world.proofs.Lists.StatusKnown.{each_from, generation_grows, got_by, IsKnown}
 use Rattle.sbp_world.proofs.Lists.StatusMoments.{DueIs, due_is, ended_stays}
 use Rattle.sbp_world.proofs.Lists.StatusNull.{WasDue, was_due}
-use Rattle.sbp_world.proofs.Common.{itself}
+use Rattle.sbp_world.proofs.Common.{itself, moments_split as split}
 
 none_due : {A : Type 0} (one : EndedOrb) → None ≡ Some one → A
 none_due one e = absurd (let z : None ≡ Some one = e in cc)

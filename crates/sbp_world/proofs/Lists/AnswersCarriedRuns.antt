@@ -27,10 +27,11 @@ use Rattle.sbp_world.specs.Lists.DataEnds.{AllEndSo}
 use Rattle.sbp_world.specs.Lists.DataWrites.{AllDataSo}
 use Rattle.sbp_world.specs.Lists.Statuses.{AllStatuses}
 use Rattle.sbp_world.proofs.Lists.AnswersCarriedLines.{fit_after, fit_said, more_fit}
-use Rattle.sbp_world.proofs.Lists.DataServing.{delivers, known_after, known_between, sound_after, sound_between}
+use Rattle.sbp_world.proofs.Lists.DataServing.{known_after, known_between, sound_after, sound_between}
 use Rattle.sbp_world.proofs.Lists.ManageLaws as manage
 use Rattle.sbp_world.proofs.Lists.SlotShut.{apart_between, apart_of}
 use Rattle.sbp_world.proofs.Lists.StatusRuns.{delivering}
+use Rattle.sbp_world.proofs.Common.{delivers}
 
 -- each answer of a good status that an initiator takes which injected no packets
 abbrev pub AllWhole : List Disk → List Moment → WorldState → Type 0

@@ -43,7 +43,7 @@ use Rattle.sbp_world.proofs.Lists.DataWhole.{Ground, all_filled, whole_law}
 use Rattle.sbp_world.specs.Lists.AnswersTold.{AnswersToldLaw, AreAnswers, IsAnswerOf}
 use Rattle.sbp_world.specs.Lists.DataWhole.{AreWhole}
 use Rattle.sbp_world.proofs.Lists.AnswersKept.{Writes, writes_closed}
-use Rattle.sbp_world.proofs.Lists.AnswerRuns.{WasFirst, answer_on, answering_none, joined, runs_key, unrun_runs, was_first}
+use Rattle.sbp_world.proofs.Lists.AnswerRuns.{WasFirst, answer_on, answering_none, runs_key, unrun_runs, was_first}
 use Rattle.sbp_world.proofs.Lists.AnswerComes.{Comes, ComesOne, RanHere, note_of, one, quiet, turn_comes, turn_ran, same_found}
 use Rattle.sbp_world.proofs.Lists.PlaceOwners.{walk_owns}
 use Rattle.sbp_world.proofs.Lists.OpenTurns.{listing_up}
@@ -72,7 +72,7 @@ use Rattle.packet_store.specs.Kept.{found_sent}
 use Rattle.sbp_bus.specs.Words.{check_of}
 use Rattle.sbp_laws.specs.Lawful.{injectors}
 use Rattle.sbp_world.proofs.Lists.Courses.{EveryPlace}
-use Rattle.sbp_world.proofs.Common.{delivers}
+use Rattle.sbp_world.proofs.Common.{delivers, moments_joined as joined}
 
 -- of each agent that writes an answer of its initiator's latest list
 abbrev pub AreToldThere : List Disk → List Moment → WorldState → Type 0

@@ -7,7 +7,6 @@ use Rattle.async_packet.specs.Reading.{reading}
 use Rattle.bus_transactions.specs.Judging.{AreJudged}
 use Rattle.bus_transactions.specs.Packets.{SerialsCount}
 use Rattle.sbp_world.specs.Hosts.Sources.{AllOfTarget}
-use Rattle.sbp_world.proofs.Hosts.Prepares.{itself}
 use Rattle.sbp_world.proofs.Hosts.Remaining.{remains, serials_behind}
 use Rattle.sbp_world.proofs.Hosts.SentMoments.{WasSent, count_now, sent_below, sent_moment, serials_from}
 use Rattle.rbc_disk.specs.Disk.{Disk}
@@ -28,12 +27,13 @@ use Rattle.sbp_world.proofs.Lists.Calm.{injects_before}
 use Rattle.sbp_world.proofs.Lists.ManageGot.{IsWriting, writing_in}
 use Rattle.sbp_world.proofs.Lists.ManageKnown.{current_of}
 use Rattle.sbp_world.proofs.Lists.ManageSends.{opened_terms, sent_terms}
-use Rattle.sbp_world.proofs.Lists.ManageTerms.{got_rests, ignored_rests, none_is, same_some, timed_rests, untrue}
+use Rattle.sbp_world.proofs.Lists.ManageTerms.{got_rests, ignored_rests, none_is, same_some, timed_rests}
 use Rattle.sbp_world.proofs.Lists.ManageWire.{WireMoments}
 use Rattle.sbp_world.proofs.Lists.OpenNews.{all_grow, got_more}
 use Rattle.sbp_world.proofs.Lists.Rises.{Rises}
 use Rattle.sbp_world.proofs.Lists.OpenedGrown.{not_fallen}
 use Rattle.sbp_world.proofs.Lists.StatusKnown.{writes_no_rom, each_from}
+use Rattle.sbp_world.proofs.Common.{untrue, itself}
 
 -- ---- what stays of a packet that was sent
 

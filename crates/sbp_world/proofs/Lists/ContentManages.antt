@@ -32,8 +32,8 @@ use Rattle.sbp_world.proofs.Hosts.Remaining.{remains, serials_behind}
 use Rattle.sbp_world.proofs.Hosts.SentMoments.{count_now}
 use Rattle.sbp_world.specs.Lists.ManagedFor.{is_its_packet, managed_for, operation_if}
 use Rattle.sbp_world.proofs.Lists.ContentPhases.{sits}
-use Rattle.sbp_world.proofs.Sessions.Buffers.{untrue}
 use Rattle.sbp_world.proofs.Lists.MainStays.{wanted as wants_some}
+use Rattle.sbp_world.proofs.Common.{untrue}
 
 -- ---- what a moment does to the operation and its request
 pub data Moves (before now : Office) (m : Moment) : Type 0 where

@@ -38,7 +38,7 @@ use Rattle.sbp_laws.specs.Turns.{event_of}
 use Rattle.sbp_world.specs.Agents.Management.Offices.{Office, by_managed, by_note, office_of, placed, placed_by, replied, started, started_by}
 use Rattle.sbp_world.proofs.Agents.Management.Firsts.{other_reply, own_reply, request_keeps, served_office, start_office}
 use Rattle.sbp_world.proofs.Agents.Management.Offices.{IsBehind, note_changes, over_keeps, taken_keeps}
-use Rattle.sbp_world.proofs.Sessions.Buffers.{untrue}
+use Rattle.sbp_world.proofs.Common.{untrue}
 
 abbrev pub AskOf : Phase → Operation → Ask → List ℕ → Type 0
 AskOf phases.Orb op ask out = ask ≡ asks.Read op.orb 32

@@ -49,7 +49,7 @@ use Rattle.sbp_world.proofs.Agents.Management.Still.{hist}
 use Rattle.sbp_world.proofs.Agents.Management.Told.{all_sides, office_in, posts, term_in}
 use Rattle.sbp_world.specs.Lists.Contents.{AreContents, IsAsked, access_for}
 use Rattle.sbp_world.specs.Lists.ManagedFor.{is_its_packet}
-use Rattle.sbp_world.proofs.Sessions.Buffers.{untrue}
+use Rattle.sbp_world.proofs.Common.{untrue}
 
 -- ---- a packet that is none of the operation
 

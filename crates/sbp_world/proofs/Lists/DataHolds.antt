@@ -1,6 +1,5 @@
 -- A write of data is of an ORB whose slot has it until its status is taken, while its initiator is in the generation of the write.
-use Rattle.std.proofs.Common.{arith, ◌≡◌, ◌∙◌, refl, sym, ap, subst, inl, inr, ◌⊎◌, ◌<◌, ◌≤◌, ◌==◌, ℕ, suc, Bool, true, false, List, [], ◌∷◌, ◌++◌, length, Option, Some, None}
-use Rattle.std.proofs.lemmas.Bool.{false≢true}
+use Rattle.std.proofs.Common.{arith, ◌≡◌, ◌∙◌, refl, sym, ap, subst, inl, inr, ◌⊎◌, ◌<◌, ◌≤◌, ◌==◌, ℕ, suc, Bool, true, false, List, [], ◌∷◌, ◌++◌, length, Some, None}
 use Rattle.std.proofs.lemmas.Option.{none-some}
 use Rattle.bus_transactions.specs.Packets.{SerialsCount}
 use Rattle.rbc_disk.specs.Disk.{Disk}
@@ -15,7 +14,6 @@ use Rattle.sbp_world.specs.Histories.{moments_behind}
 use Rattle.sbp_world.specs.Runs.{Run, beginning}
 use Rattle.sbp_world.specs.Worlds.{WorldState}
 use Rattle.sbp_world.proofs.Agents.Management.Still.{hist}
-use Rattle.sbp_world.specs.Agents.Management.Terms.{DeliversMore}
 use Rattle.sbp_world.specs.Hosts.Runs.{more_deliveries}
 use Rattle.sbp_world.proofs.Hosts.SentMoments.{WasSent, sent_moment}
 use Rattle.sbp_world.specs.Lists.Closes.{Always, Under, WhereTameOrFew}
@@ -34,7 +32,7 @@ use Rattle.sbp_world.specs.Lists.FewLogins.{IsTameOrFew}
 use Rattle.sbp_world.proofs.Lists.Beside.{tame_or_few_before}
 use Rattle.sbp_world.specs.Lists.Closes.{UnderFrom}
 use Rattle.sbp_world.proofs.Lists.Walks.{Walks}
-use Rattle.sbp_world.proofs.Common.{moments_split}
+use Rattle.sbp_world.proofs.Common.{moments_split, delivers}
 
 -- ---- a slot keeps its ORB in a generation until its status is taken
 module _ (i slot : ℕ) (one : Orb) (mid before : List Moment) (rises : Rises (mid ++ before)) (same : (terms before).generation (suc i) ≡ (terms (mid ++ before)).generation (suc i)) where
@@ -143,10 +141,6 @@ first_held wild line run i b own = record {
   seen = λ serial slot packet t x. absurd (none-some packet t.is);
   held = λ serial slot packet t x. absurd (none-some packet t.is);
 }
-
-pub delivers : (most : Option ℕ) → DeliversMore (more_deliveries most)
-delivers (Some count) = tt
-delivers None = tt
 
 pub held_law : UnderFrom (λ start. WhereTameOrFew (AllDataSo start)) → Under (WhereTameOrFew AllDataHeld)
 held_law sends = record {

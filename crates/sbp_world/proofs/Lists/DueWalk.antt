@@ -24,8 +24,8 @@ use Rattle.sbp_world.proofs.Agents.Management.Still.{hist}
 use Rattle.sbp_world.proofs.Lists.DueDeliveries.{none_got, one_got}
 use Rattle.sbp_world.proofs.Lists.DueRuns.{AtDelivery}
 use Rattle.sbp_world.proofs.Lists.DueTurns.{Before, TellsDue, front_turns, line_turns, plain_runs, plain_turn}
-use Rattle.sbp_world.proofs.Lists.Gots.{split}
 use Rattle.sbp_world.proofs.Lists.Runless.{AllPlain, Delivers, IsRunBy, IsRunlessBy, NoneRun, OneRan, Plainly, delivery_comes, no_run, none_judged, one_run, plain_none}
+use Rattle.sbp_world.proofs.Common.{said_split as split}
 
 -- a packet was judged as the bus says, behind notes of no packet
 judged_front : (front : List Note) (P : List Moment) → AllPlain front → AreJudged (map said front ++ P) → AreJudged P

@@ -26,7 +26,6 @@ use Rattle.sbp_world.specs.Lists.Needs.{is_open_at}
 use Rattle.sbp_world.specs.Lists.OrbNames.{EndIsNamed, IsNamedBrought, IsStillBrought}
 use Rattle.sbp_world.proofs.Lists.Endless.{IsEndBy, IsPlain}
 use Rattle.sbp_world.proofs.Lists.EndReads.{M as end_machine, answer, asked_so, ends_so, got, i as place_initiator, is_open, k as end_number, light_request, light_slot, list, list_is, matches, named, number, opened, place as end_place, plain, small, step}
-use Rattle.sbp_world.proofs.Lists.ManageTerms.{untrue}
 use Rattle.sbp_world.proofs.Lists.NamedPlaces.{HasNames}
 use Rattle.sbp_world.proofs.Lists.OrbFolds.{Brings}
 use Rattle.sbp_world.proofs.Lists.OrbReading.{reads_more}
@@ -34,6 +33,7 @@ use Rattle.sbp_world.proofs.Lists.OrbSteps.{Reads, Stepped, ends_read, reply_ste
 use Rattle.sbp_world.proofs.Lists.RunOutcomes.{IsSet}
 use Rattle.sbp_world.proofs.Lists.Sites.{IsPrepared, prepared}
 use Rattle.sbp_world.proofs.Lists.StillReads.{IsHad, named_over, same_slot, still_had}
+use Rattle.sbp_world.proofs.Common.{untrue}
 
 -- ---- the law at an end, where it is given so
 abbrev pub EndNamedAt : Type 0 → (ℕ → Bool) → List Disk → Moment → List Moment → Type 0

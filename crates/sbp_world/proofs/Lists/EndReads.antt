@@ -61,8 +61,7 @@ use Rattle.sbp_world.proofs.Lists.RunTells.{served_there}
 use Rattle.sbp_world.proofs.Lists.StatusLosses.{present_is}
 use Rattle.sbp_world.proofs.Lists.StatusSteps.{EndsSo, replied_leaves}
 use Rattle.sbp_world.proofs.Lists.Turns.{heard_ended}
-use Rattle.sbp_world.proofs.Lists.ManageTerms.{untrue}
-use Rattle.sbp_world.proofs.Common.{none_is}
+use Rattle.sbp_world.proofs.Common.{none_is, untrue}
 
 -- ---- an agent whose ORB ends has a list
 

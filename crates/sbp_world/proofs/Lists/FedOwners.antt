@@ -39,9 +39,7 @@ use Rattle.sbp_world.proofs.Lists.Brought.{list, main_number, number_of}
 use Rattle.sbp_world.proofs.Lists.ManageTerms.{same_some}
 use Rattle.sbp_world.proofs.Lists.ReadSlots.{is_in, stands, under_as}
 use Rattle.sbp_world.proofs.Lists.Sites.{IsPrepared, Site, Waiting, waiting as agent_waiting}
-
-pub same_access : (a b : Access) → Some a ≡ Some b → a ≡ b
-same_access a b e = cc
+use Rattle.sbp_world.proofs.Hosts.Replies.{same_access}
 
 -- ---- windows
 -- an address in a page table or a buffer is in no ORB

@@ -19,9 +19,9 @@ use Rattle.sbp_world.specs.Lists.FedRuns.{main_read, own_reads}
 use Rattle.sbp_world.specs.Lists.OwnSince.{AllAwaited, IsAwaited}
 use Rattle.sbp_world.proofs.Lists.FedGoing.{IsNoGot, same_reads}
 use Rattle.sbp_world.proofs.Lists.FedSteps.{Feeding, Hears, IsFed, Tabling, none_awaits}
-use Rattle.sbp_world.proofs.Lists.ManageTerms.{untrue}
 use Rattle.sbp_world.proofs.Lists.OrbReading.{ahead_more}
 use Rattle.sbp_world.proofs.Lists.OrbSteps.{ReadAheadOf, has_read}
+use Rattle.sbp_world.proofs.Common.{untrue}
 
 -- ---- the agent of a place waits for an answer of the initiator that has the place
 abbrev pub Awaits : List Disk → (ℕ → ℕ → Type 0) → List Moment → ℕ → Type 0

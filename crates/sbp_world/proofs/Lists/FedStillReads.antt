@@ -41,12 +41,12 @@ use Rattle.sbp_world.proofs.Lists.FedSteps.{IsFed}
 use Rattle.sbp_world.proofs.Lists.FedGoing.{fed_so}
 use Rattle.sbp_world.proofs.Lists.FedStill.{Awaits, ReadBy, Spares, TurnedBy, closed_feeds, fed_alike, unlisted}
 use Rattle.sbp_world.proofs.Lists.KeptPhases.{kept_idle}
-use Rattle.sbp_world.proofs.Lists.ManageTerms.{untrue}
 use Rattle.sbp_world.proofs.Lists.OrbNotes.{GotBrings}
 use Rattle.sbp_world.proofs.Lists.OrbSteps.{holds_read}
 use Rattle.sbp_world.proofs.Lists.Sites.{Site, waiting}
 use Rattle.sbp_world.proofs.Lists.StillReads.{IsHad, named_over, still_had}
 use Rattle.sbp_world.specs.Lists.OrbReads.{AskedAsGot, IsBrought}
+use Rattle.sbp_world.proofs.Common.{untrue}
 
 -- ---- what is known of the response that brought an ORB
 -- it is the one prepared last in its slot still

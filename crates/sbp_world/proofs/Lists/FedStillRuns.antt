@@ -12,9 +12,9 @@ use Rattle.sbp_world.proofs.Lists.Courses.{EveryPlace, Keeps, at_between, at_lin
 use Rattle.sbp_world.proofs.Lists.FedStillReads.{AreFedStill}
 use Rattle.sbp_world.proofs.Lists.FedStillTurns.{turn_fed}
 use Rattle.sbp_world.proofs.Lists.LiveRuns.{goes_tame_or_few}
-use Rattle.sbp_world.proofs.Lists.ManageTerms.{untrue}
 use Rattle.sbp_world.proofs.Lists.StillRuns.{StillSo, first_closed, ground_everywhere, still_everywhere}
 use Rattle.sbp_world.proofs.Lists.StillTurns.{Ground}
+use Rattle.sbp_world.proofs.Common.{untrue}
 
 -- ---- what is known of a place
 pub record StillGround (start : List Disk) (ms : List Moment) (w : WorldState) : Type 0 where

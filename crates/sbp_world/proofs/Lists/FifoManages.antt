@@ -64,7 +64,7 @@ use Rattle.sbp_world.proofs.Lists.FifoLines.{IsWatched, WatchedSo, WriteSo}
 use Rattle.sbp_world.proofs.Lists.FifoReplies.{sides_same}
 use Rattle.sbp_world.proofs.Lists.StatusBytes.{reads_as}
 use Rattle.sbp_world.proofs.Lists.StatusManaged.{Unread, named_orb}
-use Rattle.sbp_world.proofs.Sessions.Buffers.{untrue}
+use Rattle.sbp_world.proofs.Common.{untrue}
 
 none_body : {A : Type 0} (body : Body) → None ≡ Some body → A
 none_body body e = absurd (let no : None ≡ Some body = e in cc)

@@ -42,7 +42,8 @@ use Rattle.sbp_world.proofs.Sessions.Starting.{starting_law}
 use Rattle.sbp_world.specs.Lists.Needs.{machine_at}
 use Rattle.sbp_world.specs.Lists.Opens.{AreOpened}
 use Rattle.sbp_world.proofs.Lists.LiveTurns.{TargetCall, TurnOf, by_clearing, by_own, by_sight, by_target, delivers, still}
-use Rattle.sbp_world.proofs.Lists.OpenTurns.{listing_up, up_state}
+use Rattle.sbp_world.proofs.Lists.OpenTurns.{listing_up}
+use Rattle.sbp_world.proofs.Hosts.Cores.{not_so as up_state}
 
 -- ---- a place whose login is live
 -- what goes to the node of its login, and to the initiator, is of its place, and the login is live

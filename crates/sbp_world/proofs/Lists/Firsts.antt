@@ -40,8 +40,8 @@ use Rattle.sbp_world.specs.Lists.Opens.{IsPointedBy}
 use Rattle.sbp_world.specs.Lists.Places.{IsFirst}
 use Rattle.sbp_world.specs.Lists.Roms.{WritesManaged}
 use Rattle.sbp_world.proofs.Lists.RomHeld.{rom_law}
-use Rattle.sbp_world.proofs.Hosts.ActLeft.{untrue}
 use Rattle.sbp_world.proofs.Lists.UnderwayRuns.{delivering}
+use Rattle.sbp_world.proofs.Common.{untrue}
 
 -- ---- what points an agent to an ORB: a write of a block, that is not to MANAGEMENT_AGENT
 

@@ -16,6 +16,7 @@ use Rattle.sbp_world.proofs.Lists.Quiet.{AllQuiet, Comes, IsQuiet, Quietly, acts
 use Rattle.sbp_world.proofs.Lists.Turned.{IsOne}
 use Rattle.sbp_world.proofs.Lists.Walks.{Turn, by_delivery, by_end, by_line, by_start}
 use Rattle.sbp_world.proofs.Lists.TurnReads.{none_behind}
+use Rattle.sbp_world.proofs.Common.{said_split}
 
 -- ---- a history goes on over a turn
 pub data Next (before now : List Moment) : Type 0 where
@@ -23,13 +24,9 @@ pub data Next (before now : List Moment) : Type 0 where
   next : (front : List Note) → AllQuiet front → (moment : Moment) → map said front ++ moment ∷ before ≡ now → Next before now
   next_line : (front : List Note) → AllQuiet front → (note : Note) (line : ℕ) (event : Event) → map said front ++ said note ∷ asked line event ∷ before ≡ now → Next before now
 
-pub split : (a b : List Note) (past : List Moment) → map said (a ++ b) ++ past ≡ map said a ++ (map said b ++ past)
-split [] b past = refl
-split (n ∷ a) b past = ap (λ ms. said n ∷ ms) (split a b past)
-
 of_comes : (past : List Moment) (old new : List Note) → Comes old new → Next (map said old ++ past) (map said new ++ past)
 of_comes past old new (nothing e) = same_still (ap (λ ns. map said ns ++ past) e)
-of_comes past old new (comes note q) = next q.more q.quiet (said note) (sym (split q.more (note ∷ old) past) ∙ ap (λ ns. map said ns ++ past) q.is)
+of_comes past old new (comes note q) = next q.more q.quiet (said note) (sym (said_split q.more (note ∷ old) past) ∙ ap (λ ns. map said ns ++ past) q.is)
 
 -- a line with no packet, and one with a packet
 module _ (line : ℕ) (event : Event) (past : List Moment) (new : List Note) where
@@ -41,7 +38,7 @@ module _ (line : ℕ) (event : Event) (past : List Moment) (new : List Note) whe
 
   line_comes : Comes [] new → Next past now
   line_comes (nothing e) = next [] tt (asked line event) (ap (λ ns. map said ns ++ asked line event ∷ past) (sym e))
-  line_comes (comes note q) = next_line q.more q.quiet note line event (sym (split q.more (note ∷ []) (asked line event ∷ past)) ∙ ap (λ ns. map said ns ++ asked line event ∷ past) q.is)
+  line_comes (comes note q) = next_line q.more q.quiet note line event (sym (said_split q.more (note ∷ []) (asked line event ∷ past)) ∙ ap (λ ns. map said ns ++ asked line event ∷ past) q.is)
 
 one_next : (past : List Moment) (s : Scene) (line : ℕ) (event : Event) (told : List (Option Told)) → IsOne event → MayHappen event told s → Next (hist past s.world) (hist (asked line event ∷ hist past s.world) (happens line event told s).world)
 unfolding happens MayHappen

@@ -50,9 +50,9 @@ use Rattle.sbp_world.proofs.Lists.LiveHears.{IsAnswered}
 use Rattle.sbp_world.proofs.Lists.LoginShapes.{IsEnd, call_ends, enters, stays}
 use Rattle.sbp_world.proofs.Lists.ManageFinds.{block_is_got}
 use Rattle.sbp_world.proofs.Lists.ManageOwn.{at_host}
-use Rattle.sbp_world.proofs.Lists.ManageTerms.{untrue}
 use Rattle.sbp_world.proofs.Hosts.Runs.{count_after, count_between}
 use Rattle.sbp_world.proofs.Lists.ManageOwn.{is_orb}
+use Rattle.sbp_world.proofs.Common.{untrue}
 
 -- ---- notes that tell of no login that is done
 

@@ -30,7 +30,7 @@ use Rattle.sbp_world.proofs.Hosts.Carries.{Carries, Nothing, is_apart}
 use Rattle.sbp_world.proofs.Hosts.Hosted.{Cored, cored_carried, first_cored}
 use Rattle.sbp_world.proofs.Hosts.Layered.{AreTame, expire_left, is_tame, receive_left}
 use Rattle.sbp_world.proofs.Hosts.PointSees.{see_left}
-use Rattle.sbp_world.proofs.Lists.ManageTerms.{untrue}
+use Rattle.sbp_world.proofs.Common.{untrue}
 
 abbrev pub BegunAt : Bool → ℕ → Moment → List Moment → Type 0
 BegunAt ready n (said (notes.Begin initiators is_ready)) past = (initiators ≡ n) × (is_ready ≡ ready)

@@ -15,11 +15,11 @@ use Rattle.sbp_laws.specs.Hosts.{Host, host_at, operation_of}
 use Rattle.sbp_laws.specs.Served.{is_own, management_orb_of, place_held, place_written}
 use Rattle.sbp_laws.specs.Turns.{event_of}
 use Rattle.sbp_world.specs.Lists.Shorts.{AreShort, IsShortAction}
-use Rattle.sbp_world.proofs.Lists.ManageTerms.{untrue}
 use Rattle.sbp_world.proofs.Lists.OrbsShort.{event_short, login_small, orb_short}
 use Rattle.rbc_disk.specs.Disk.{Disk}
 use Rattle.sbp_world.specs.Lists.Owners.{HasOwn, OwnBy}
 use Rattle.sbp_world.proofs.Lists.OwnPlaces.{and_first, own_manages, function_back}
+use Rattle.sbp_world.proofs.Common.{untrue}
 
 -- ---- as it is read back
 subject_back : (o : ManagementOrb) → o.subject < 2 ^ 16 → (management_orb (management_bytes o)).subject ≡ o.subject

@@ -36,9 +36,7 @@ use Rattle.sbp_world.proofs.Hosts.OrbTerms.{AreStill, is_left}
 use Rattle.sbp_world.proofs.Hosts.Telling.{action_law}
 use Rattle.sbp_initiator.specs.Histories.Laws as calls
 use Rattle.sbp_world.proofs.Lists.Generations.{moment_generation}
-
-no : false ≡ true → ⊥
-no e = cc
+use Rattle.sbp_world.proofs.Lists.Stands.{no}
 
 abbrev pub BeginsAt : ℕ → Moment → List Moment → Type 0
 BeginsAt i (said (notes.Append j n k cdb buffer)) past = (j == i) ≡ true → (terms past).generation (suc i) ≤ (terms past).generation 0

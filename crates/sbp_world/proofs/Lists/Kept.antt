@@ -23,11 +23,11 @@ use Rattle.sbp_world.specs.Worlds.{WorldState}
 use Rattle.sbp_world.proofs.Agents.Management.Still.{hist}
 use Rattle.sbp_world.specs.Agents.Alike.{has_list}
 use Rattle.sbp_world.specs.Lists.Lists.{orbs}
-use Rattle.sbp_world.proofs.Lists.Named.{no}
 use Rattle.sbp_world.proofs.Lists.Told.{AgentAt, AgentOn, along_of}
 use Rattle.sbp_world.proofs.Lists.Running.{order_part}
 use Rattle.sbp_laws.specs.OrderLaw.{OrderLaw}
 use Rattle.sbp_world.proofs.Lists.Passing.{PassLaw}
+use Rattle.sbp_world.proofs.Lists.Stands.{no}
 
 -- what is known of all places, of the agents of which these are the machines
 pub record Kept (wild : ℕ → Bool) (past : List Moment) (machines : ℕ → Machine) (w : WorldState) : Type 0 where

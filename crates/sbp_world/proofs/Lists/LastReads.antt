@@ -22,8 +22,8 @@ use Rattle.sbp_world.proofs.Lists.Gots.{Next, next, next_line, same_still}
 use Rattle.sbp_world.proofs.Lists.LiveLeads.{line_manager}
 use Rattle.sbp_world.proofs.Lists.LiveTold.{is_behind, is_own_packet}
 use Rattle.sbp_world.proofs.Lists.Quiet.{AllQuiet, IsQuiet}
-use Rattle.sbp_world.proofs.Sessions.Buffers.{untrue}
 use Rattle.sbp_world.proofs.Sessions.BlockNotes.{opened_sent}
+use Rattle.sbp_world.proofs.Common.{untrue}
 
 -- the phase reads no ORB
 abbrev pub ReadsNone : Operation → Type 0

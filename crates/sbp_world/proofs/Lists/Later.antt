@@ -4,17 +4,14 @@ use Rattle.sbp_journal.specs.declared.note.Note.TheVariants as notes
 use Rattle.sbp_journal.specs.Run.{Moment, said}
 use Rattle.sbp_world.specs.Lists.CutLists.{WasHad}
 use Rattle.sbp_world.specs.Lists.Opens.{WasOpened}
-
-pub joined : (a b c : List Moment) → (a ++ b) ++ c ≡ a ++ (b ++ c)
-joined [] b c = refl
-joined (m ∷ a) b c = ap (λ ms. m ∷ ms) (joined a b c)
+use Rattle.sbp_world.proofs.Common.{moments_joined}
 
 unfoldable pub was_later : (more past now : List Moment) (i place : ℕ) (list : Option ℕ) → more ++ past ≡ now → WasOpened past i place list → WasOpened now i place list
 was_later more past now i place list e o = record {
   later = more ++ o.later;
   earlier = o.earlier;
   serial = o.serial;
-  is = joined more o.later (said (notes.Got o.serial) ∷ o.earlier) ∙ ap (λ ms. more ++ ms) o.is ∙ e;
+  is = moments_joined more o.later (said (notes.Got o.serial) ∷ o.earlier) ∙ ap (λ ms. more ++ ms) o.is ∙ e;
   sent = o.sent;
   sent_is = o.sent_is;
   address = o.address;

@@ -9,7 +9,7 @@ use Rattle.sbp_world.proofs.Lists.LiveActs.{Acted, Sends, begins, comes_back, go
 use Rattle.sbp_world.proofs.Lists.LiveMoves.{Moved, answers, ends, gives_up, rests, undoes}
 use Rattle.sbp_world.proofs.Lists.LiveOwn.{enters, enters_moves, is_entry, is_exit, quits, quits_moves, two_ways}
 use Rattle.sbp_world.proofs.Lists.LiveStandings.{Stand, comes, leaves, stand_of}
-use Rattle.sbp_world.proofs.Sessions.Buffers.{untrue}
+use Rattle.sbp_world.proofs.Common.{untrue}
 
 pub record Aims (operation : Option Running) (stand : Stand) : Type 0 where
   pub entry : is_entry operation ≡ true → stand ≡ comes

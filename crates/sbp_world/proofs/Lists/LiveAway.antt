@@ -24,7 +24,7 @@ use Rattle.sbp_world.specs.Lists.Managing.{IsRest, IsTelling}
 use Rattle.sbp_world.specs.Lists.Tellings.{outgoing_for}
 use Rattle.sbp_world.proofs.Lists.LiveLeads.{Leads, OldTelling, calm_leads, leads_self, leads_then, packet_leads}
 use Rattle.sbp_world.proofs.Lists.LiveTold.{AllAway, IsAway, IsOwnPacket}
-use Rattle.sbp_world.proofs.Lists.ManageFirsts.{Goes, acted_none, goes_then, note_first, same_goes, sent_first}
+use Rattle.sbp_world.proofs.Lists.ManageFirsts.{Goes, acted_none, goes_then, note_first, same_goes, sent_first, pick}
 use Rattle.sbp_world.proofs.Lists.ManageGot.{gets_other}
 use Rattle.sbp_world.proofs.Lists.ManageMoments.{Hands, LineFacts, MayHand, TakeFacts, is_quiet, line_calm, quiet_calm}
 use Rattle.sbp_world.proofs.Lists.ManageSends.{Sends, opened_terms, sent_other, sent_terms}
@@ -162,14 +162,10 @@ module _ (start : List Disk) (i own : ℕ) (kept : List Kept) where
 
 -- ---- the operation under way at the host of the initiator
 
-pick_goes : (b : Bool) (old x : Host) → Goes old x → Goes old (cond b x old)
-pick_goes true old x f = f
-pick_goes false old x f = same_goes old old refl
-
 -- a packet in a line of an action of it that begins none
 acting_first : (serial generation from to : ℕ) (bytes : List ℕ) (past : List Moment) (i : ℕ) (action : Action) → event_of past ≡ Some (events.Act i action) → operation_of action ≡ None → Goes (host_at past i) (host_at (said (notes.Sent serial generation from to bytes) ∷ past) i)
 acting_first serial generation from to bytes past i action line none =
-    pick_goes ((nat_eq from (suc i)) && not ((known_host past i).wire.injected serial)) (host_at past i) (sent_as (part_of bytes) (event_of past) i (present_list past i) serial (host_at past i)) (by (part_of bytes))
+    pick ((nat_eq from (suc i)) && not ((known_host past i).wire.injected serial)) (host_at past i) (sent_as (part_of bytes) (event_of past) i (present_list past i) serial (host_at past i)) (by (part_of bytes))
   where
     in_line : sent_in (event_of past) i (present_list past i) serial (host_at past i) ≡ acted action (operation_of action) (present_list past i) serial (host_at past i)
     in_line =

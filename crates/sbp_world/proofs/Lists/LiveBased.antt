@@ -53,9 +53,10 @@ use Rattle.sbp_world.proofs.Lists.LiveLeads.{hands_before}
 use Rattle.sbp_world.proofs.Lists.LiveStandings.{good_block}
 use Rattle.sbp_world.proofs.Lists.ManageMoments.{Hands, LineFacts, MayHand, TakeFacts, line_calm}
 use Rattle.sbp_world.proofs.Lists.ManageSends.{opened_terms}
-use Rattle.sbp_world.proofs.Lists.ManageTerms.{same_some, untrue}
+use Rattle.sbp_world.proofs.Lists.ManageTerms.{same_some}
 use Rattle.sbp_world.proofs.Lists.Quiet.{AllQuiet, IsQuiet}
 use Rattle.sbp_world.proofs.Sessions.HoldingHears.{placed_same, same_login}
+use Rattle.sbp_world.proofs.Common.{untrue}
 
 -- ---- what an answer says of the packet of the target that waited
 

@@ -41,10 +41,11 @@ use Rattle.sbp_world.proofs.Hosts.SentMoments.{count_now, serials_from}
 use Rattle.sbp_world.specs.Lists.Contents.{AccessOf, WasAsked, access_for}
 use Rattle.sbp_world.specs.Lists.Tellings.{outgoing_for}
 use Rattle.sbp_world.proofs.Lists.ManageSends.{sent_is, sent_terms}
-use Rattle.sbp_world.proofs.Lists.ManageTerms.{none_is, same_some, untrue}
+use Rattle.sbp_world.proofs.Lists.ManageTerms.{none_is, same_some}
 use Rattle.sbp_world.proofs.Lists.StatusBytes.{same_block}
 use Rattle.sbp_world.proofs.Hosts.PointerNotes.{older}
 use Rattle.sbp_world.proofs.Lists.StatusManaged.{number_small}
+use Rattle.sbp_world.proofs.Common.{untrue}
 
 -- ---- the bytes of a status block
 

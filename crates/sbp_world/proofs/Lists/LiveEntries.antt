@@ -22,7 +22,7 @@ use Rattle.sbp_laws.specs.Hosts.{Host, Underway, host_at, is_management, operati
 use Rattle.sbp_laws.specs.Served.{management_orb_of, place_bytes, place_held}
 use Rattle.sbp_world.specs.Lists.Underway.{IsUnderway, underway_orb}
 use Rattle.sbp_world.proofs.Lists.LiveGrants.{IsEntry}
-use Rattle.sbp_world.proofs.Sessions.Buffers.{untrue}
+use Rattle.sbp_world.proofs.Common.{untrue}
 
 -- ---- the action of an entry
 is_login : Option Operation → Bool

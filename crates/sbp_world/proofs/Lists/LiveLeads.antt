@@ -33,7 +33,8 @@ use Rattle.sbp_world.proofs.Lists.ManageSends.{sent_terms}
 use Rattle.sbp_world.proofs.Lists.ManageSent.{IsNew, SentFacts, sent_accepted, sent_handling, sent_own, sent_rest, sent_telling}
 use Rattle.sbp_world.proofs.Lists.ManageSights.{sight_calm}
 use Rattle.sbp_world.proofs.Lists.ManageStays.{Calms, calm_rest, replies_handling, rests_handling, rests_own, rests_telling, zero_or}
-use Rattle.sbp_world.proofs.Lists.ManageTerms.{got_rests, untrue}
+use Rattle.sbp_world.proofs.Lists.ManageTerms.{got_rests}
+use Rattle.sbp_world.proofs.Common.{untrue}
 
 -- ---- one moment after the other
 

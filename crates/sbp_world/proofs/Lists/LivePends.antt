@@ -43,13 +43,14 @@ use Rattle.sbp_world.proofs.Lists.LiveHears.{IsAnswered}
 use Rattle.sbp_world.proofs.Lists.LiveLeads.{hands_before}
 use Rattle.sbp_world.proofs.Lists.LiveRuns.{base_of}
 use Rattle.sbp_world.proofs.Lists.LiveStandings.{good_block}
-use Rattle.sbp_world.proofs.Lists.LiveTogether.{split, turn_begins}
+use Rattle.sbp_world.proofs.Lists.LiveTogether.{turn_begins}
 use Rattle.sbp_world.proofs.Lists.LiveTold.{HeardFirst}
 use Rattle.sbp_world.proofs.Lists.ManageFinds.{block_is_got, read_request}
 use Rattle.sbp_world.proofs.Lists.ManageMoments.{Hands, TakeFacts}
 use Rattle.sbp_world.proofs.Lists.ManageSends.{opened_terms}
 use Rattle.sbp_world.proofs.Lists.ManageTerms.{same_some}
 use Rattle.sbp_world.proofs.Lists.ManageOwn.{is_orb}
+use Rattle.sbp_world.proofs.Common.{said_split as split}
 
 -- as a turn begins the wire is what it was
 pub record SameWire (before base : List Moment) : Type 0 where

@@ -66,12 +66,12 @@ use Rattle.sbp_world.proofs.Lists.ManageNotes.{none_taken}
 use Rattle.sbp_world.proofs.Lists.ManageOwn.{AtHost, at_host, conflict_is}
 use Rattle.sbp_world.proofs.Lists.ManageRuns.{Managed, first_managed, managed_carried}
 use Rattle.sbp_world.proofs.Lists.ManageSends.{opened_terms}
-use Rattle.sbp_world.proofs.Lists.ManageTerms.{same_some, untrue}
-use Rattle.sbp_world.proofs.Lists.OpenedNotes.{split}
+use Rattle.sbp_world.proofs.Lists.ManageTerms.{same_some}
 use Rattle.sbp_world.proofs.Lists.StatusKnown.{each_from}
 use Rattle.sbp_world.proofs.Lists.BufferGets.{judged_from}
 use Rattle.sbp_world.proofs.Pointers.Ending.{read_in}
 use Rattle.sbp_world.proofs.Pointers.Guarded.{receive_got as response_got}
+use Rattle.sbp_world.proofs.Common.{untrue, said_split as split}
 
 -- ---- the label that a response closes has the number in its header
 

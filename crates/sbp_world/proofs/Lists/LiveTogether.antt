@@ -1,6 +1,6 @@
 -- The two ends of the management go together at a turn in which the target is called: by what is known of each moment of the turn, and of the ORBs that the
 -- target reads.
-use Rattle.std.proofs.Common.{arith, ◌≡◌, ◌∙◌, refl, sym, ap, subst, ◌⊎◌, inl, inr, ℕ, suc, ◌^◌, ◌<◌, Bool, true, List, [], ◌∷◌, ◌++◌, map, length, Some}
+use Rattle.std.proofs.Common.{arith, ◌≡◌, ◌∙◌, refl, sym, ap, subst, ◌⊎◌, inl, inr, ℕ, suc, ◌^◌, ◌<◌, Bool, true, List, ◌++◌, map, length, Some}
 use Rattle.async_packet.specs.Labels.{LabelParts}
 use Rattle.async_packet.specs.Packet.{Packet}
 use Rattle.bus_memory.specs.declared.window.Window.TheVariants as windows
@@ -47,19 +47,16 @@ use Rattle.sbp_world.proofs.Lists.LiveTold.{TargetTold}
 use Rattle.sbp_world.proofs.Lists.LiveTurns.{SameBus}
 use Rattle.sbp_world.proofs.Lists.ManageFirsts.{line_first, same_goes}
 use Rattle.sbp_world.proofs.Lists.ManageMoments.{Hands, line_calm}
+use Rattle.sbp_world.proofs.Common.{said_split}
 
 -- ---- the notes of a turn
-
-pub split : (a b : List Note) (past : List Moment) → map said (a ++ b) ++ past ≡ map said a ++ (map said b ++ past)
-split [] b past = refl
-split (note ∷ a) b past = ap (λ ms. said note ∷ ms) (split a b past)
 
 -- what stands behind the notes that there were
 pub told_is : (base fresh : List Note) (t : TargetTold base fresh) (later : List Moment) → map said fresh ++ later ≡ map said t.sends ++ (map said t.told ++ (map said t.first ++ (map said base ++ later)))
 told_is base fresh t later =
     ap (λ (ns : List Note). map said ns ++ later) t.is
-    ∙ split t.sends (t.told ++ (t.first ++ base)) later
-    ∙ ap (λ ms. map said t.sends ++ ms) (split t.told (t.first ++ base) later ∙ ap (λ ms. map said t.told ++ ms) (split t.first base later))
+    ∙ said_split t.sends (t.told ++ (t.first ++ base)) later
+    ∙ ap (λ ms. map said t.sends ++ ms) (said_split t.told (t.first ++ base) later ∙ ap (λ ms. map said t.told ++ ms) (said_split t.first base later))
 
 -- a turn begins where the one before it ended, or with its line
 pub turn_begins : (start : List Disk) (i : ℕ) (past : List Moment) (s : Scene) (later : List Moment) (t : Scene) (g : Goes past s later t) → Hands start i (map said (base_of g) ++ later) → Begins start (hist past s.world) (map said (base_of g) ++ later) i

@@ -27,7 +27,7 @@ use Rattle.sbp_journal.specs.Outgoings.{OutboxState, empty_outbox}
 use Rattle.sbp_world.specs.Sessions.Entering.{is_open}
 use Rattle.sbp_world.proofs.Lists.LiveDone.{AllDone, IfDone, IsLoggedIn, IsRefused, NoStatus, Nobody, done_told}
 use Rattle.sbp_world.proofs.Lists.LiveHears.{IsAnswered}
-use Rattle.sbp_world.proofs.Lists.ManageTerms.{untrue}
+use Rattle.sbp_world.proofs.Common.{untrue}
 
 -- ---- whether such a thing is told
 module _ (T : ℕ → Type 0) (R : ℕ → ℕ → Type 0) where

@@ -34,9 +34,9 @@ use Rattle.sbp_world.specs.Lists.OwnReads.{data_slot}
 use Rattle.sbp_world.specs.Lists.SlotsStay.{HasSlot}
 use Rattle.sbp_world.proofs.Lists.AheadGots.{buffer_data, fifo_data, no_start, write_data}
 use Rattle.sbp_world.proofs.Lists.Brought.{has_a_table, list}
-use Rattle.sbp_world.proofs.Lists.FedOwners.{one_slot, orb_none, same_access}
+use Rattle.sbp_world.proofs.Lists.FedOwners.{one_slot, orb_none}
 use Rattle.sbp_world.proofs.Lists.ManagedGots.{NoData}
-use Rattle.sbp_world.proofs.Lists.OpenTurns.{listing_up, up_state}
+use Rattle.sbp_world.proofs.Lists.OpenTurns.{listing_up}
 use Rattle.sbp_world.proofs.Lists.Sites.{IsPrepared, Site, Waiting, named_prepared, waiting as agent_waiting}
 use Rattle.sbp_world.proofs.Lists.Slots.{IsFilled, table_slot}
 use Rattle.sbp_world.proofs.Lists.StatusPlaced.{has_slot}
@@ -44,6 +44,8 @@ use Rattle.sbp_world.proofs.Lists.StatusPlaces.{AllPlacedFor}
 use Rattle.sbp_world.proofs.Lists.StatusProved.{Ground as Known}
 use Rattle.sbp_world.proofs.Lists.StatusRested.{AllHere}
 use Rattle.sbp_world.proofs.Lists.StillTurns.{Ground, site_at}
+use Rattle.sbp_world.proofs.Hosts.Cores.{not_so as up_state}
+use Rattle.sbp_world.proofs.Hosts.Replies.{same_access}
 
 -- ---- an agent along a list
 module _ (past : List Moment) (i n : ℕ) where

@@ -32,7 +32,8 @@ use Rattle.sbp_session.specs.declared.seat.Seat.{Seat}
 use Rattle.sbp_session.specs.declared.seat.Seat.TheVariants as seats
 use Rattle.sbp_world.proofs.Hosts.Hosted.{Cored}
 use Rattle.sbp_world.proofs.Hosts.Lives.{At, at_life}
-use Rattle.sbp_world.proofs.Lists.ManageTerms.{none_is, same_some, untrue}
+use Rattle.sbp_world.proofs.Lists.ManageTerms.{none_is, same_some}
+use Rattle.sbp_world.proofs.Common.{untrue}
 
 -- ---- an action that is not refused
 

@@ -20,7 +20,8 @@ use Rattle.sbp_world.specs.Pointers.Moments.{IsWritten, MayAsk, MayPoint, MaySen
 use Rattle.sbp_world.specs.Lists.Managing.{IsAsking}
 use Rattle.sbp_world.proofs.Lists.ManageLines.{IsManagingLine, eight_at}
 use Rattle.sbp_world.proofs.Lists.ManageSends.{sent_is, sent_terms}
-use Rattle.sbp_world.proofs.Lists.ManageTerms.{same_some, untrue}
+use Rattle.sbp_world.proofs.Lists.ManageTerms.{same_some}
+use Rattle.sbp_world.proofs.Common.{untrue}
 
 -- ---- each ORB of an initiator has a slot
 

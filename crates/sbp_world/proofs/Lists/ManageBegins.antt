@@ -43,9 +43,10 @@ use Rattle.sbp_world.proofs.Lists.ManageMoments.{Hands, IsActing, SendFacts}
 use Rattle.sbp_world.proofs.Lists.ManageSends.{Sends, sent_terms}
 use Rattle.sbp_world.proofs.Lists.ManageSent.{begun_busy, sent_busy, sent_free}
 use Rattle.sbp_world.proofs.Lists.ManageSights.{told_busy, told_free}
-use Rattle.sbp_world.proofs.Lists.ManageTerms.{none_is, same_some, untrue}
+use Rattle.sbp_world.proofs.Lists.ManageTerms.{none_is, same_some}
 use Rattle.sbp_world.proofs.Pointers.GuardDoes.{same_action}
 use Rattle.sbp_world.proofs.Pointers.Asks.{act_allowed}
+use Rattle.sbp_world.proofs.Common.{untrue}
 
 -- the value at an update
 at_itself : {A : Type 0} (s : ℕ) (x : A) (f : ℕ → A) → upd f s x s ≡ x

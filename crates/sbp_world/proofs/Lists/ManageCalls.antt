@@ -36,7 +36,8 @@ use Rattle.sbp_target.proofs.Histories.Pass.{Keeps, Said, concludes, expires_in,
 use Rattle.sbp_target.proofs.Histories.Rowing.{row_law}
 use Rattle.sbp_target.proofs.Histories.Served.{judges}
 use Rattle.sbp_world.proofs.Lists.ManageCodes.{IfAsked, NoConflict, asked_free, response_free}
-use Rattle.sbp_world.proofs.Lists.ManageTerms.{none_is, same_some, untrue}
+use Rattle.sbp_world.proofs.Lists.ManageTerms.{none_is, same_some}
+use Rattle.sbp_world.proofs.Common.{untrue}
 
 abbrev pub NoConflicts : List Outgoing → Type 0
 NoConflicts [] = Unit {0}

@@ -17,8 +17,8 @@ use Rattle.label_table.specs.Peers.{begun_for}
 use Rattle.label_table.specs.Requests.{with_label}
 use Rattle.label_table.specs.Table.{begin_at, begin_step, lowest_from}
 use Rattle.sbp_journal.specs.Transactions.{Kind, locking, no_packet, part_by, part_in, part_of, reading_block, reading_quadlet, request, response, writing}
-use Rattle.sbp_world.proofs.Lists.ManageTerms.{untrue}
 use Rattle.sbp_world.proofs.Hosts.Mild.{quad_tcode, tcode_same}
+use Rattle.sbp_world.proofs.Common.{untrue}
 
 -- a packet that does not
 abbrev pub NoConflict : List ℕ → Type 0

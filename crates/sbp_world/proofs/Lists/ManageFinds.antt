@@ -32,9 +32,9 @@ use Rattle.sbp_initiator.proofs.Histories.Lives.{of_same}
 use Rattle.sbp_initiator.proofs.Histories.Purposes.{kind_in}
 use Rattle.sbp_world.proofs.Hosts.Lives.{At, Called, at_life}
 use Rattle.sbp_world.proofs.Lists.ManageHears.{IsStatusFor}
-use Rattle.sbp_world.proofs.Lists.ManageTerms.{untrue}
 use Rattle.sbp_world.proofs.Pointers.Finds.{same_serial, none_ended}
 use Rattle.sbp_world.proofs.Pointers.Guarded.{receive_got}
+use Rattle.sbp_world.proofs.Common.{untrue}
 
 -- ---- it was under way
 

@@ -23,9 +23,8 @@ use Rattle.sbp_world.specs.Hosts.Calls.{behind}
 use Rattle.sbp_world.proofs.Hosts.Carries.{IsNoAct}
 use Rattle.sbp_world.proofs.Hosts.Cores.{wire_is}
 use Rattle.sbp_world.proofs.Hosts.Layered.{AreTame, is_tame}
-use Rattle.sbp_world.proofs.Lists.ManageTerms.{none_is, same_some, untrue}
-use Rattle.sbp_world.proofs.Hosts.Cores.{turned}
-use Rattle.sbp_world.proofs.Common.{itself}
+use Rattle.sbp_world.proofs.Lists.ManageTerms.{none_is, same_some}
+use Rattle.sbp_world.proofs.Common.{itself, turned, untrue}
 
 -- an operation was under way before, with the same first request
 pub record Was (before : Option Underway) (now : Underway) : Type 0 where
@@ -56,7 +55,7 @@ pick_same : (b : Bool) (old x : Host) → x.operation ≡ old.operation → Goes
 pick_same true old x e = same_goes old x e
 pick_same false old x e = same_goes old old refl
 
-pick : (b : Bool) (old x : Host) → Goes old x → Goes old (cond b x old)
+pub pick : (b : Bool) (old x : Host) → Goes old x → Goes old (cond b x old)
 pick true old x f = f
 pick false old x f = same_goes old old refl
 

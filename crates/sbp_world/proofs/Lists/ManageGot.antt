@@ -22,7 +22,8 @@ use Rattle.sbp_world.specs.Lists.Managing.{IsAccepted, IsAsking, IsBusy, IsFree,
 use Rattle.sbp_world.proofs.Lists.ManageNotes.{none_taken}
 use Rattle.sbp_world.proofs.Lists.ManageOffices.{GotAs, Starts, got_as, got_other, got_replies, got_settles, got_starts}
 use Rattle.sbp_world.proofs.Lists.ManageStays.{Calms, Had, calm_busy, calm_free, calm_served, replies_handling, rests_accepted, rests_asking, rests_calm, rests_handling, rests_own, rests_telling, zero_or}
-use Rattle.sbp_world.proofs.Lists.ManageTerms.{Rests, got_more, got_owes, got_request, got_rests, none_is, same_some, untrue}
+use Rattle.sbp_world.proofs.Lists.ManageTerms.{Rests, got_more, got_owes, got_request, got_rests, none_is, same_some}
+use Rattle.sbp_world.proofs.Common.{untrue}
 
 -- what is known of a packet that is got, and of an initiator that injected none
 pub record GotFacts (past : List Moment) (i serial : ℕ) (q : Sending) : Type 0 where

@@ -25,9 +25,9 @@ use Rattle.sbp_world.proofs.Lists.ManageSends.{sent_is, sent_terms}
 use Rattle.sbp_world.proofs.Lists.ManageSent.{sent_busy, sent_free}
 use Rattle.sbp_world.proofs.Lists.ManageSights.{sight_calm}
 use Rattle.sbp_world.proofs.Lists.ManageStays.{calm_busy, calm_free}
-use Rattle.sbp_world.proofs.Lists.ManageTerms.{untrue}
 use Rattle.sbp_world.proofs.Hosts.Cores.{not_so}
 use Rattle.sbp_world.proofs.Wire.Latest.{differ_by}
+use Rattle.sbp_world.proofs.Common.{untrue}
 
 -- a write of MANAGEMENT_AGENT is that of the operation under way, where it is of its action
 abbrev pub Own : List Moment → ℕ → InitiatorState → (act serial : ℕ) → Type 0

@@ -38,8 +38,9 @@ use Rattle.sbp_world.proofs.Lists.Calm.{injects_before}
 use Rattle.sbp_world.proofs.Lists.ManageGot.{IsWriting}
 use Rattle.sbp_world.proofs.Lists.ManageMoments.{Hands, IsActing, IsAnswer, LineFacts, SendFacts, TakeFacts}
 use Rattle.sbp_world.proofs.Lists.ManageSent.{IsRefusing}
-use Rattle.sbp_world.proofs.Lists.ManageTerms.{got_more, got_rests, none_is, same_some, untrue}
+use Rattle.sbp_world.proofs.Lists.ManageTerms.{got_more, got_rests, none_is, same_some}
 use Rattle.sbp_world.proofs.Lists.ManageWire.{IsGetting, IsSending, WireMoments}
+use Rattle.sbp_world.proofs.Common.{untrue}
 
 -- ---- what the wire does not tell
 

@@ -39,8 +39,9 @@ use Rattle.sbp_session.specs.Seats.{is_stuck_seat}
 use Rattle.sbp_session.specs.declared.seat.Origin.{Origin}
 use Rattle.sbp_session.specs.declared.seat.Seat.{Seat}
 use Rattle.sbp_session.specs.declared.seat.Seat.TheVariants as seats
-use Rattle.sbp_world.proofs.Lists.ManageTerms.{none_is, untrue}
+use Rattle.sbp_world.proofs.Lists.ManageTerms.{none_is}
 use Rattle.sbp_world.proofs.Lists.LiveMoves.{drop_operation}
+use Rattle.sbp_world.proofs.Common.{untrue}
 
 -- ---- a session that is stuck stays so, but for a reset
 

@@ -36,7 +36,8 @@ use Rattle.sbp_world.proofs.Lists.ManageOffices.{Lingers, Settles, key_lingers, 
 use Rattle.sbp_world.proofs.Lists.ManageSends.{Opens, opened_terms}
 use Rattle.sbp_world.proofs.Lists.ManageSent.{SentFacts}
 use Rattle.sbp_world.proofs.Lists.ManageStays.{Calms, Had, rests_accepted, rests_calm, rests_handling}
-use Rattle.sbp_world.proofs.Lists.ManageTerms.{Rests, none_is, rests_on, untrue}
+use Rattle.sbp_world.proofs.Lists.ManageTerms.{Rests, none_is, rests_on}
+use Rattle.sbp_world.proofs.Common.{untrue}
 
 -- ---- what is known of a moment
 

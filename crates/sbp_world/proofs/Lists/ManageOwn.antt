@@ -56,9 +56,10 @@ use Rattle.sbp_world.proofs.Lists.ManageMoments.{Hands, IsAnswer, MayHand, TakeF
 use Rattle.sbp_world.proofs.Lists.ManageNotes.{none_taken}
 use Rattle.sbp_world.proofs.Lists.ManageSights.{told_busy, told_free, told_hands}
 use Rattle.sbp_world.proofs.Lists.ManageStays.{Calms, calm_busy, calm_free, zero_or}
-use Rattle.sbp_world.proofs.Lists.ManageTerms.{got_more, none_is, same_some, untrue}
+use Rattle.sbp_world.proofs.Lists.ManageTerms.{got_more, none_is, same_some}
 use Rattle.sbp_world.proofs.Pointers.Ending.{read_in}
 use Rattle.sbp_world.proofs.Pointers.Guarded.{receive_got as response_got}
+use Rattle.sbp_world.proofs.Common.{untrue}
 
 -- ---- the operation under way, at the host and at the initiator
 

@@ -23,8 +23,9 @@ use Rattle.sbp_world.proofs.Lists.ManageLabels.{Asks, asks_to, seen_asks, still_
 use Rattle.sbp_world.proofs.Lists.ManageMoments.{Hands, SightFacts}
 use Rattle.sbp_world.proofs.Lists.ManageSights.{again_calm, told_free, told_hands}
 use Rattle.sbp_world.proofs.Lists.ManageStays.{calm_busy, calm_free}
-use Rattle.sbp_world.proofs.Lists.ManageTerms.{none_is, untrue}
+use Rattle.sbp_world.proofs.Lists.ManageTerms.{none_is}
 use Rattle.sbp_world.proofs.Pointers.WaitActs.{see_old}
+use Rattle.sbp_world.proofs.Common.{untrue}
 
 seen_none : (b : Bool) (generation id target : ℕ) (s : InitiatorState) → b ≡ true → (seen_as (cond b (true, seen_in_generation s.layer generation id) (false, s.layer)) target empty_outbox s).1.operation ≡ None
 seen_none true generation id target s e =

@@ -24,7 +24,8 @@ use Rattle.sbp_world.specs.Lists.Managing.{IsAccepted, IsAsking, IsAtAgent, IsBe
 use Rattle.sbp_world.proofs.Lists.ManageOffices.{Sent, office_at, sent_office}
 use Rattle.sbp_world.proofs.Lists.ManageSends.{Sends, by_given, given_behind, sent_given, sent_is, sent_other, sent_terms}
 use Rattle.sbp_world.proofs.Lists.ManageStays.{IsOver}
-use Rattle.sbp_world.proofs.Lists.ManageTerms.{none_is, same_some, untrue}
+use Rattle.sbp_world.proofs.Lists.ManageTerms.{none_is, same_some}
+use Rattle.sbp_world.proofs.Common.{untrue}
 
 -- a request that was refused with conflict_error found an operation under way, which asked for nothing then
 pub record IsRefusing (start : List Disk) (past : List Moment) : Type 0 where

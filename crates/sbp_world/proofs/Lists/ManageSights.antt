@@ -18,8 +18,8 @@ use Rattle.sbp_world.proofs.Lists.ManageMoments.{Hands, is_quiet, quiet_calm}
 use Rattle.sbp_world.proofs.Lists.ManageNotes.{none_taken}
 use Rattle.sbp_world.proofs.Lists.ManageOffices.{Settles, none_left, office_at, rested, sees_none, sight_settles, stays}
 use Rattle.sbp_world.proofs.Lists.ManageStays.{Calms, Had, calm_busy, calm_free}
-use Rattle.sbp_world.proofs.Lists.ManageTerms.{none_is, untrue}
-use Rattle.sbp_world.proofs.Common.{turned}
+use Rattle.sbp_world.proofs.Lists.ManageTerms.{none_is}
+use Rattle.sbp_world.proofs.Common.{turned, untrue}
 use Rattle.sbp_world.proofs.Wire.OnceHere.{other_news}
 
 -- ---- another node sees a generation

@@ -47,7 +47,8 @@ use Rattle.sbp_world.proofs.Lists.ManageKnown.{OfWire, RestGot, before_it}
 use Rattle.sbp_world.proofs.Lists.ManageLaws.{known_after, known_between}
 use Rattle.sbp_world.proofs.Lists.ManageOpen.{GotAt, GotLaw}
 use Rattle.sbp_world.proofs.Lists.ManageSends.{opened_terms, sent_is, sent_other, sent_terms}
-use Rattle.sbp_world.proofs.Lists.ManageTerms.{got_rests, ignored_rests, none_is, timed_rests, untrue}
+use Rattle.sbp_world.proofs.Lists.ManageTerms.{got_rests, ignored_rests, none_is, timed_rests}
+use Rattle.sbp_world.proofs.Common.{untrue}
 
 -- ---- what a status block of a management ORB reads
 

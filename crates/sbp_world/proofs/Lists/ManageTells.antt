@@ -47,7 +47,7 @@ use Rattle.sbp_world.specs.Telling.{told, told_all}
 use Rattle.sbp_world.specs.Worlds.{WorldState, initiator_at, with_initiator, with_note, with_target}
 use Rattle.sbp_world.proofs.Lists.ManageAnswers.{IsFound, free_found}
 use Rattle.sbp_world.proofs.Lists.ManageCalls.{First, NoConflicts, lapse_free, second_free, sight_free}
-use Rattle.sbp_world.proofs.Lists.ManageTerms.{untrue}
+use Rattle.sbp_world.proofs.Common.{untrue}
 
 -- of a packet of the target, and of a second
 abbrev pub FoundAt : List Disk → Moment → List Moment → Type 0

@@ -10,9 +10,7 @@ use Rattle.sbp_journal.specs.Wire.{Held, Owed, Terms, arrives, begun_in, closes,
 use Rattle.sbp_journal.specs.declared.cause.Cause.{Cause}
 use Rattle.sbp_journal.specs.declared.cause.Cause.TheVariants as causes
 use Rattle.sbp_journal.specs.declared.note.Note.TheVariants as notes
-
-pub untrue : {A : Type 0} → false ≡ true → A
-untrue e = absurd (let no : false ≡ true = e in cc)
+use Rattle.sbp_world.proofs.Common.{untrue}
 
 pub none_is : {A B : Type 0} (x : A) → None ≡ Some x → B
 none_is x e = absurd (let no : None ≡ Some x = e in cc)

@@ -1,6 +1,6 @@
 -- In each line whose action begins an operation of management, what its initiator sends is the write of the address of its management ORB, which stands in the next place.
 use Rattle.std.specs.Prelude.{unwrap_or}
-use Rattle.std.proofs.Common.{arith, ◌≡◌, refl, sym, ◌∙◌, ap, subst, ℕ, suc, ◌+◌, ◌%◌, nat_eq, not, Bool, true, false, List, [], ◌∷◌, ◌++◌, Option, Some, None}
+use Rattle.std.proofs.Common.{arith, ◌≡◌, refl, sym, ◌∙◌, ap, subst, ℕ, suc, ◌+◌, ◌%◌, nat_eq, Bool, true, false, List, [], ◌∷◌, ◌++◌, Option, Some, None}
 use Rattle.std.proofs.lemmas.Bool.Decides.{nat_tests}
 use Rattle.bus_transactions.proofs.Fits.{request_fits}
 use Rattle.label_table.specs.declared.judgement.Asked.{Asked}
@@ -53,8 +53,10 @@ use Rattle.sbp_world.proofs.Hosts.PointSees.{see_left}
 use Rattle.sbp_world.proofs.Hosts.Requested.{done_sends}
 use Rattle.sbp_world.specs.Pointers.Moments.{managed_write, manages}
 use Rattle.sbp_world.proofs.Lists.ManageSpelled.{spelled_by}
-use Rattle.sbp_world.proofs.Lists.ManageTerms.{none_is, same_some, untrue}
+use Rattle.sbp_world.proofs.Lists.ManageTerms.{none_is, same_some}
 use Rattle.sbp_world.proofs.Pointers.Asks.{no_packet}
+use Rattle.sbp_world.proofs.Common.{untrue}
+use Rattle.sbp_world.proofs.Hosts.Cores.{not_so}
 
 -- the write of the address of the ORB in the next place
 pub record HasPlace (past : List Moment) (i : ℕ) (bytes : List ℕ) : Type 0 where
@@ -162,10 +164,6 @@ module _ (action : Action) (s : InitiatorState) (m : manages (operation_of actio
 pub record Wrote (ready : Bool) (past : List Moment) (i : ℕ) (s : InitiatorState) : Type 0 where
   pub cored : Cored ready past i s
   pub kept : EachMoment (WroteAt i) past
-
-pub not_so : (b : Bool) → not b ≡ true → b ≡ false
-not_so true e = untrue e
-not_so false e = refl
 
 pub other_node : {A : Type 0} (from i : ℕ) → nat_eq from (suc i) ≡ false → from ≡ suc i → A
 other_node from i e f = let x : nat_eq from (suc i) ≡ true = grind (arith, nat_tests) in untrue (sym e ∙ x)

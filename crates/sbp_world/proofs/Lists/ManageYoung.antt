@@ -18,8 +18,9 @@ use Rattle.sbp_world.proofs.Lists.ManageKnown.{OfWire, before_it, current_of}
 use Rattle.sbp_world.proofs.Lists.ManageOffices.{GotAs, Lingers, Replies, Settles, got_as, got_other, got_replies, got_settles, got_starts, ignored_settles, key_lingers, line_settles, none_left, note_lingers, office_at, rested, sees_none, sent_office, settles_of, sight_settles, stays, tick_settles, timed_by}
 use Rattle.sbp_world.proofs.Lists.ManageSends.{opened_terms, sent_is, sent_other, sent_terms}
 use Rattle.sbp_world.proofs.Lists.ManageSent.{for_below, for_one}
-use Rattle.sbp_world.proofs.Lists.ManageTerms.{Rests, got_rests, ignored_rests, none_is, rests_on, same_some, timed_rests, untrue}
+use Rattle.sbp_world.proofs.Lists.ManageTerms.{Rests, got_rests, ignored_rests, none_is, rests_on, same_some, timed_rests}
 use Rattle.sbp_world.proofs.Lists.Rises.{Rises}
+use Rattle.sbp_world.proofs.Common.{untrue}
 
 pub record Young (start : List Disk) (past : List Moment) (i : ℕ) : Type 0 where
   pub op : (op : Operation) → (target_at start past).manager.operation ≡ Some op → op.source ≡ (terms past).ids ((terms past).generation 0) (suc i) → (terms past).generation 0 ≤ (terms past).generation (suc i)

@@ -15,13 +15,10 @@ use Rattle.sbp_journal.specs.declared.note.Note.TheVariants as notes
 use Rattle.sbp_laws.specs.Lists.{command_at}
 use Rattle.sbp_laws.specs.OrderLaw.{IsNextEnd}
 use Rattle.sbp_laws.specs.Terms.{ends}
-use Rattle.sbp_world.proofs.Hosts.Prepares.{itself}
 use Rattle.sbp_world.specs.Lists.Lists.{IsDataIn, IsDataOf, orbs}
 use Rattle.sbp_world.specs.Lists.Running.{IsNextRun}
 use Rattle.sbp_world.proofs.Lists.Passing.{PassAt, EndsNext, RunsNext}
-
-pub no : false ≡ true → ⊥
-no e = cc
+use Rattle.sbp_world.proofs.Common.{itself}
 
 -- ---- the number of ends, behind a note of one
 

@@ -44,10 +44,11 @@ use Rattle.sbp_world.proofs.Hosts.SentMoments.{sent_there}
 use Rattle.sbp_world.specs.Lists.Contents.{ContentAt, IsAsked, access_for}
 use Rattle.sbp_world.specs.Lists.ManagedFor.{is_its_packet}
 use Rattle.sbp_world.proofs.Lists.ContentManages.{Moves, bound, drops, its_by, keeps, moment_moves, puts}
-use Rattle.sbp_world.proofs.Lists.ManageTerms.{none_is, same_some, untrue}
+use Rattle.sbp_world.proofs.Lists.ManageTerms.{none_is, same_some}
 use Rattle.sbp_world.proofs.Agents.Handed.{is_its_serial}
 use Rattle.sbp_world.proofs.Lists.KeptReplies.{HasRead, brought, kept, reply_read}
 use Rattle.sbp_world.proofs.Lists.Quiet.{AllQuiet, IsQuiet}
+use Rattle.sbp_world.proofs.Common.{untrue}
 
 -- ---- a moment but that at which a packet is got leaves what the management asks for, or nothing of it
 -- with its operation

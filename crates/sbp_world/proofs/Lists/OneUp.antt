@@ -41,7 +41,7 @@ use Rattle.sbp_world.proofs.Lists.OpenedLaws.{opened_law}
 use Rattle.sbp_world.proofs.Lists.OpenedMinded.{minded_law}
 use Rattle.sbp_world.proofs.Lists.OpenPlacing.{one_place}
 use Rattle.sbp_world.proofs.Lists.OpenProved.{opens_law}
-use Rattle.sbp_world.proofs.Lists.OpenTurns.{up_state}
+use Rattle.sbp_world.proofs.Hosts.Cores.{not_so as up_state}
 
 module _ (start : List Disk) (past : List Moment) (w : WorldState) (opened : AreOpened past w) (held : AreHeldAt start past w) (caught : HaveCaught start past w) (once : (i : ℕ) → i < length w.initiators → (n serial other : ℕ) → pointed_list past serial i ≡ Some n → pointed_list past other i ≡ Some n → serial ≡ other) (open_for : AreAllOpenFor past w) where
   module _ (i place other : ℕ) (calm : IsCalm past i) (b : place < 8) (c : other < 8) (up : IsUp w i place) (up_other : IsUp w i other) where

@@ -68,7 +68,7 @@ map_less [] p e = e
 map_less (d ∷ desks) zero e = e
 map_less (d ∷ desks) (suc p) e = map_less desks p e
 
-reset_none : (m : Machine) → is_up (reset_step m) ≡ false
+pub reset_none : (m : Machine) → is_up (reset_step m) ≡ false
 unfolding reset_step
 reset_none m = refl
 

@@ -45,7 +45,8 @@ use Rattle.sbp_world.proofs.Lists.OpenPlacing.{one_place}
 use Rattle.sbp_world.proofs.Lists.OpenUncut.{open_uncut}
 use Rattle.sbp_laws.specs.OrderLaw.{is_cut}
 use Rattle.sbp_world.specs.Wire.History.{IsOfWire}
-use Rattle.sbp_world.proofs.Lists.OpenTurns.{listing_up, up_state}
+use Rattle.sbp_world.proofs.Lists.OpenTurns.{listing_up}
+use Rattle.sbp_world.proofs.Hosts.Cores.{not_so as up_state}
 
 -- ---- an ORB of the present list whose status was not taken stands in its slot
 module _ (past : List Moment) (i n k : ℕ) (s : SlotTable) (rows : AreRows past i s) (inside : k < appends past i n) (none : taken_at past i n k ≡ None) where

@@ -45,13 +45,13 @@ use Rattle.sbp_world.proofs.Lists.OpenCuts.{is_up}
 use Rattle.sbp_world.specs.Lists.CutLists.{CutListsLaw}
 use Rattle.sbp_world.specs.Lists.Opens.{AreOpened, OpensLaw}
 use Rattle.sbp_world.proofs.Lists.OpenRuns.{AllFacts, AllSo, Facts, More, all, all_heard, line_were}
-use Rattle.sbp_world.proofs.Lists.OpenTurns.{up_state}
 use Rattle.sbp_world.proofs.Lists.OpenWorlds.{AllTaken, AllWere}
 use Rattle.sbp_world.proofs.Lists.OpenHad.{WereAt, same_were}
 use Rattle.sbp_world.proofs.Lists.Runs.{kept_after}
 use Rattle.sbp_target.proofs.Histories.Calling.{Good, not_eight}
 use Rattle.sbp_world.proofs.Agents.Management.Holding.{good_of}
 use Rattle.sbp_world.proofs.Lists.JoinLaws.{moments_same, lines_same}
+use Rattle.sbp_world.proofs.Hosts.Cores.{not_so as up_state}
 
 pub nobody_needs : (A : Type 0) → true ≡ false → A
 nobody_needs A e = absurd (false≢true (sym e))

@@ -37,7 +37,7 @@ use Rattle.sbp_world.proofs.Lists.Courses.{Goes}
 use Rattle.sbp_world.proofs.Lists.Judging.{goes_next, grown as grown_by}
 use Rattle.sbp_world.proofs.Lists.ManageTerms.{none_is}
 use Rattle.sbp_world.proofs.Lists.OpenCuts.{is_up}
-use Rattle.sbp_world.proofs.Lists.OpenTurns.{listing_up, up_state}
+use Rattle.sbp_world.proofs.Lists.OpenTurns.{listing_up}
 use Rattle.sbp_world.proofs.Lists.AgentGoes.{ends_turn, note_goes, stay, then_goes}
 use Rattle.sbp_world.proofs.Lists.PointersHeld.{AllHold, Holds, are_going}
 use Rattle.sbp_world.proofs.Lists.TakenTerms.{sends_over}
@@ -49,6 +49,7 @@ use Rattle.sbp_world.proofs.Lists.StillTurns.{Ground, site_at}
 use Rattle.sbp_world.proofs.Lists.TurnSends.{SentLast, since_turn}
 use Rattle.sbp_world.proofs.Lists.TurnShapes.{goes_shape}
 use Rattle.sbp_world.proofs.Lists.WasReads.{sender_sent}
+use Rattle.sbp_world.proofs.Hosts.Cores.{not_so as up_state}
 
 -- the latest list of an initiator is open
 pub record IsOpenThen (start : List Disk) (past : List Moment) (i : ℕ) : Type 0 where

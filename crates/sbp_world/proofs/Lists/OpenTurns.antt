@@ -12,7 +12,6 @@ use Rattle.login_table.specs.Table.{is_live, place_at}
 use Rattle.orb_layout.specs.declared.ask.Ask.TheVariants.{Nothing}
 use Rattle.command_agent.specs.declared.phase.Phase.{Phase}
 use Rattle.command_agent.specs.declared.phase.Phase.TheVariants as phases
-use Rattle.command_agent.specs.declared.step.AgentState.TheVariants as states
 use Rattle.command_agent.specs.declared.step.Which.{Which}
 use Rattle.command_agent.specs.declared.step.Which.TheVariants.{Ahead, Main}
 use Rattle.command_agent.specs.Machine.{Machine, is_ahead, is_sent, state_in}
@@ -38,6 +37,7 @@ use Rattle.sbp_world.proofs.Lists.OpenFollows.{Beside}
 use Rattle.sbp_world.proofs.Lists.OpenPlaces.{Has}
 use Rattle.sbp_world.proofs.Lists.StatusCalls.{none_beyond}
 use Rattle.sbp_world.proofs.Lists.StatusLosses.{sent_has}
+use Rattle.sbp_world.proofs.Hosts.Cores.{not_so}
 
 -- ---- an agent that has a list open is not in RESET
 pub listing_up : (phase : Phase) → has_list phase ≡ true → not (is_reset (state_in phase)) ≡ true
@@ -51,10 +51,6 @@ listing_up phases.WritingStatus e = refl
 listing_up phases.WritingLastStatus e = refl
 listing_up phases.ReadingNext e = refl
 listing_up phases.Suspended e = refl
-
-pub up_state : (b : Bool) → not b ≡ true → b ≡ false
-up_state true e = absurd (false≢true e)
-up_state false e = refl
 
 -- one that waits for something has a list open
 pub ahead_lists : (phase : Phase) (x : Bool) → (is_bare phase ≡ true → x ≡ false) → x ≡ true → has_list phase ≡ true
@@ -101,7 +97,7 @@ module _ (w : WorldState) (g : Good w.target) (seats : AreSeated w) where
       record { there = k.there ∙ ap Some (sym is); login = s.login; is = s.is; live = s.live; id_is = ap (λ (x : Holder). x.login) is ∙ k.id_is }
 
   pub listing_seat : (p : ℕ) → p < 8 → Listing w.target p → HasSeat w p
-  listing_seat p b l = served_seat p (g.mid.served p b (not_eight p b) (up_state (is_reset (state_in (Here w.target p).phase)) l))
+  listing_seat p b l = served_seat p (g.mid.served p b (not_eight p b) (not_so (is_reset (state_in (Here w.target p).phase)) l))
 
   pub waits_place : (place peer : ℕ) (label : LabelParts) (which : Which) → which_in (desk_at w.target place) peer label ≡ Some which → place < 8
   waits_place place peer label which e = by (nat_lt place 8) refl

@@ -21,10 +21,10 @@ use Rattle.sbp_world.specs.Lists.CutLists.{WasHad}
 use Rattle.sbp_world.specs.Lists.Opens.{IsPointedBy, WasOpened}
 use Rattle.sbp_world.specs.Lists.Places.{AreNamedFor}
 use Rattle.sbp_world.proofs.Lists.OpenFresh.{writes_of}
-use Rattle.sbp_world.proofs.Lists.Later.{joined}
 use Rattle.sbp_world.proofs.Lists.OpenHad.{Was, WasElse}
 use Rattle.sbp_world.proofs.Lists.OpenNews.{got_more, got_news}
 use Rattle.sbp_world.proofs.Lists.OpenPlacing.{one_place}
+use Rattle.sbp_world.proofs.Common.{moments_joined as joined}
 
 module _ (past : List Moment) (i : ℕ) (named : AreNamedFor past i) (pointers : PointersAt past i) (lasting : (later earlier : List Moment) (serial : ℕ) (sent : Sending) → later ++ said (notes.Got serial) ∷ earlier ≡ past → (terms earlier).sent serial ≡ Some sent → (terms past).sent serial ≡ Some sent) where
   -- the list that a place had is that of the write

@@ -95,14 +95,14 @@ use Rattle.sbp_world.proofs.Lists.Adds.{all_stay}
 use Rattle.sbp_world.proofs.Lists.Extends.{Extends, handed_extends}
 use Rattle.sbp_world.proofs.Lists.OpenCuts.{CutAt, Here, Listing, Open}
 use Rattle.sbp_world.proofs.Lists.OpenDeliveries.{Points, delivery_open, lapse_open, takes_point}
-use Rattle.sbp_world.proofs.Lists.Later.{had_later, joined}
+use Rattle.sbp_world.proofs.Lists.Later.{had_later}
 use Rattle.sbp_world.proofs.Lists.OpenHad.{Was, WasElse, WereAt, else_later, same_were, was_on}
 use Rattle.sbp_world.proofs.Lists.OpenManages as manages
 use Rattle.sbp_world.proofs.Lists.OpenOwners.{came_from, served_initiator}
 use Rattle.sbp_world.proofs.Lists.OpenPlaces.{Has}
 use Rattle.sbp_world.proofs.Lists.OpenTurns.{AreSeated, Before, begins, sound}
 use Rattle.sbp_world.proofs.Lists.Pointers.{not_taken}
-use Rattle.sbp_world.proofs.Common.{said_split}
+use Rattle.sbp_world.proofs.Common.{said_split, moments_joined as joined}
 
 abbrev pub AllWere : List Moment → WorldState → Type 0
 AllWere past w = WereAt (hist past w) w

@@ -9,7 +9,7 @@ use Rattle.sbp_world.specs.Worlds.{Scene}
 use Rattle.sbp_world.specs.Lists.FewLogins.{IsTameOrFew}
 use Rattle.sbp_world.proofs.Lists.Beside.{tame_or_few_before}
 use Rattle.sbp_world.proofs.Lists.Extends.{Extends, delivered_extends, extends_none}
-use Rattle.sbp_world.proofs.Lists.OpenedNotes.{split}
+use Rattle.sbp_world.proofs.Common.{said_split as split}
 
 -- before a line and its notes
 pub beside_line : (notes : List Note) (line : ℕ) (event : Event) (past : List Moment) → IsTameOrFew (map said notes ++ asked line event ∷ past) → IsTameOrFew past

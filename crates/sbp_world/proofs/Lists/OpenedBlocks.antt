@@ -30,7 +30,8 @@ use Rattle.sbp_journal.specs.declared.operation.OpWord.TheVariants as words
 use Rattle.sbp_session.specs.Moves.{bad}
 use Rattle.sbp_world.specs.Sessions.Entering.{is_open}
 use Rattle.sbp_world.proofs.Pointers.Dropping.{drops_of}
-use Rattle.sbp_world.proofs.Lists.ManageTerms.{none_is, untrue}
+use Rattle.sbp_world.proofs.Lists.ManageTerms.{none_is}
+use Rattle.sbp_world.proofs.Common.{untrue}
 
 pub record IsDoneFor (s : InitiatorState) (generation : ℕ) (bytes : List ℕ) : Type 0 where
   pub header : Header

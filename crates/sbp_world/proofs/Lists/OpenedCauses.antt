@@ -40,7 +40,6 @@ use Rattle.sbp_world.proofs.Hosts.PointerNotes.{Fit}
 use Rattle.sbp_world.proofs.Hosts.Pointed.{stale_is}
 use Rattle.sbp_world.proofs.Hosts.Telling.{action_law}
 use Rattle.sbp_world.specs.Pointers.Moments.{turn_of}
-use Rattle.sbp_world.proofs.Pointers.Ages.{untrue}
 use Rattle.sbp_world.proofs.Pointers.Dropping.{drops_of, expire_drops, is_drop, receive_drops, see_drops}
 use Rattle.sbp_world.proofs.Pointers.Ending.{other_number}
 use Rattle.sbp_world.proofs.Pointers.GuardHears.{anew, as_before, SawAs, saw}
@@ -50,6 +49,7 @@ use Rattle.sbp_world.proofs.Pointers.Guarding.{first_guarded, guarded_carried, r
 use Rattle.sbp_world.proofs.Lists.OpenedEnds.{Drops, drops_by_sight, heard_drops}
 use Rattle.sbp_world.proofs.Hosts.Pointed.{judged_fit}
 use Rattle.sbp_world.proofs.Pointers.Passing.{turn_same}
+use Rattle.sbp_world.proofs.Common.{untrue}
 
 -- at each drop of its list
 abbrev pub DropAt : ℕ → Moment → List Moment → Type 0

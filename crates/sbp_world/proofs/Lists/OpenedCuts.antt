@@ -30,8 +30,9 @@ use Rattle.sbp_target.specs.Sending.{request_step, sent_by}
 use Rattle.sbp_target.specs.Units.{clear_from, clear_unit, cut_all, cut_at, cut_from, is_cut}
 use Rattle.sbp_world.proofs.Lists.SameAgents.{set_here}
 use Rattle.sbp_world.proofs.Lists.OpenCuts.{Listing, is_up, set_less}
-use Rattle.sbp_world.proofs.Lists.ManageTerms.{none_is, untrue}
+use Rattle.sbp_world.proofs.Lists.ManageTerms.{none_is}
 use Rattle.sbp_world.proofs.Agents.Managed.{clears_desks}
+use Rattle.sbp_world.proofs.Common.{untrue}
 
 up_reset : {A : Type 0} (d : Desk) → is_up (reset_desk d).agent ≡ true → A
 unfolding reset_step

@@ -28,10 +28,11 @@ use Rattle.sbp_world.specs.Lists.Closes.{Always}
 use Rattle.sbp_world.specs.Lists.Opened.{AreEnds, Ends, EndsAt, IsDoneNow, ends_by_reset, ends_by_sight, ends_by_state, ends_by_status}
 use Rattle.sbp_world.proofs.Lists.Calm.{injects_before}
 use Rattle.sbp_world.proofs.Lists.ManageKnown.{OfWire, before_it, current_of, write_of}
-use Rattle.sbp_world.proofs.Lists.ManageTerms.{got_more, got_rests, untrue}
+use Rattle.sbp_world.proofs.Lists.ManageTerms.{got_more, got_rests}
 use Rattle.sbp_world.proofs.Lists.ManageWire.{WireMoments, wire_moments}
 use Rattle.sbp_world.proofs.Lists.OpenedCauses.{AllDrops, DropAt, drops_after, drops_between}
 use Rattle.sbp_world.proofs.Lists.OpenedEnds.{Drops, IsBlockGot, drops_by_block, drops_by_reset, drops_by_sight, drops_by_state}
+use Rattle.sbp_world.proofs.Common.{untrue}
 
 -- ---- the moment that began a turn
 of_turn : (past : List Moment) → OfWire past → OfWire (turn_of past)

@@ -76,7 +76,7 @@ use Rattle.sbp_world.proofs.Lists.LiveDecides.{decided_kept, keeps_logins}
 use Rattle.sbp_world.proofs.Lists.LiveSteps.{id_in}
 use Rattle.sbp_world.proofs.Lists.LiveTurns.{keeps}
 use Rattle.sbp_world.proofs.Lists.ManageOffices.{office_at}
-use Rattle.sbp_world.proofs.Lists.ManageTerms.{none_is, same_some, untrue}
+use Rattle.sbp_world.proofs.Lists.ManageTerms.{none_is, same_some}
 use Rattle.sbp_world.proofs.Lists.OpenCuts.{Listing}
 use Rattle.sbp_world.proofs.Lists.OpenTurns.{HasSeat, listing_seat}
 use Rattle.sbp_world.proofs.Lists.OpenedCuts.{Hits, manage_down}
@@ -92,6 +92,7 @@ use Rattle.sbp_world.proofs.Lists.OpenedSends.{IsWritten, Tells, telling, writte
 use Rattle.sbp_world.proofs.Lists.OpenedTurns.{NoneUp, Opens, WasUp}
 use Rattle.sbp_world.proofs.Lists.OpenedWorlds.{Here, turn_is}
 use Rattle.sbp_world.proofs.Lists.OpenedTelling.{judged_first, judged_still}
+use Rattle.sbp_world.proofs.Common.{untrue}
 
 -- ---- what is known of the management of an initiator, before a turn
 pub record Manages (x : View) (w : WorldState) (i : ℕ) : Type 0 where

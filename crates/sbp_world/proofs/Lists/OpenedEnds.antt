@@ -46,7 +46,6 @@ use Rattle.sbp_world.proofs.Hosts.Shown.{IsHeard, IsShown}
 use Rattle.sbp_world.specs.Sessions.Entering.{is_open}
 use Rattle.sbp_session.specs.Seats.{is_out_seat}
 use Rattle.sbp_world.specs.Pointers.Moments.{IsResetting, TellsOfPresent}
-use Rattle.sbp_world.proofs.Pointers.Ages.{untrue}
 use Rattle.sbp_world.proofs.Pointers.Dropping.{drops_of, may_drop, receive_drops}
 use Rattle.sbp_world.proofs.Pointers.Ending.{read_in}
 use Rattle.sbp_world.proofs.Pointers.Finds.{closed_over, closes_at}
@@ -58,6 +57,7 @@ use Rattle.sbp_world.proofs.Lists.ManageFinds.{read_request}
 use Rattle.sbp_world.proofs.Lists.ManageTerms.{none_is, same_some}
 use Rattle.sbp_world.proofs.Lists.OpenedBlocks.{IsDoneFor, request_drops}
 use Rattle.sbp_world.proofs.Pointers.Ending.{complete_ends, first_of, zero_ends}
+use Rattle.sbp_world.proofs.Common.{untrue}
 
 -- ---- by the moment that began the turn
 

@@ -47,13 +47,13 @@ use Rattle.sbp_world.proofs.Lists.LiveReplies.{IsDecidedOn}
 use Rattle.sbp_world.proofs.Lists.LiveSteps.{id_in, own_of, zero_of}
 use Rattle.sbp_world.proofs.Lists.ManageKnown.{RestGot}
 use Rattle.sbp_world.proofs.Lists.ManageProved.{rest_places_law}
-use Rattle.sbp_world.proofs.Lists.ManageTerms.{untrue}
 use Rattle.sbp_world.proofs.Lists.OpenProved.{facts_at, were_after}
 use Rattle.sbp_world.proofs.Lists.OpenedEndings.{Manages}
 use Rattle.sbp_world.proofs.Lists.OpenedOrbs.{EndsLists, place_ends}
 use Rattle.sbp_world.proofs.Lists.OpenedPlaces.{IsMinded, MindedLaw}
 use Rattle.sbp_world.proofs.Lists.OpenedSends.{Tells}
 use Rattle.sbp_world.proofs.Lists.SilenceRuns.{AreSilentAt, silent_everywhere}
+use Rattle.sbp_world.proofs.Common.{untrue}
 
 -- ---- at a place of a history
 pub record IsPut (start : List Disk) (ms : List Moment) (w : WorldState) (i : ℕ) : Type 0 where

@@ -27,7 +27,8 @@ use Rattle.sbp_world.specs.Lists.ManagedFor.{is_its_packet, managed_for, operati
 use Rattle.sbp_world.specs.Lists.Opened.{AllOf}
 use Rattle.sbp_world.specs.Lists.Tellings.{outgoing_for}
 use Rattle.sbp_world.proofs.Lists.ManageOffices.{Lingers, fails, lasts, note_lingers, office_at, sent_office}
-use Rattle.sbp_world.proofs.Lists.ManageTerms.{none_is, untrue}
+use Rattle.sbp_world.proofs.Lists.ManageTerms.{none_is}
+use Rattle.sbp_world.proofs.Common.{untrue}
 
 -- ---- the packets that a turn sends
 abbrev pub is_packet : Note → Bool

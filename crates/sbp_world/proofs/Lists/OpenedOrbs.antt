@@ -17,8 +17,9 @@ use Rattle.sbp_laws.specs.CarriedBytes.{before_sent}
 use Rattle.sbp_laws.specs.Hosts.{Host, Underway, host_at, is_management, operation_of}
 use Rattle.sbp_laws.specs.Served.{management_orb_of, place_bytes, place_held}
 use Rattle.sbp_world.specs.Lists.Underway.{IsUnderway, underway_orb}
-use Rattle.sbp_world.proofs.Lists.ManageTerms.{none_is, same_some, untrue}
+use Rattle.sbp_world.proofs.Lists.ManageTerms.{none_is, same_some}
 use Rattle.sbp_world.proofs.Hosts.OrbSpelled.{bit_small}
+use Rattle.sbp_world.proofs.Common.{untrue}
 
 -- a function that ends lists
 abbrev pub ends_lists : Function → Bool

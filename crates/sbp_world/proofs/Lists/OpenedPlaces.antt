@@ -44,12 +44,12 @@ use Rattle.sbp_world.specs.Lists.Places.{IsFirst}
 use Rattle.sbp_world.proofs.Lists.JoinLaws.{begins_after, begins_between, rises_after, rises_between}
 use Rattle.sbp_world.proofs.Lists.OpenFresh.{Writes, writes_of}
 use Rattle.sbp_world.proofs.Lists.OpenProved.{After, facts_at, opens_law, were_after}
-use Rattle.sbp_world.proofs.Lists.OpenTurns.{up_state}
 use Rattle.sbp_world.proofs.Lists.OpenedEnding.{ends_law}
 use Rattle.sbp_world.proofs.Lists.OpenedEndings.{Manages}
 use Rattle.sbp_world.proofs.Lists.OpenedSends.{Tells, judged_first}
 use Rattle.sbp_world.proofs.Lists.OpenedWorlds.{Here, Then}
 use Rattle.sbp_world.proofs.Common.{delivers}
+use Rattle.sbp_world.proofs.Hosts.Cores.{not_so as up_state}
 
 -- ---- what is known of an initiator
 module _ (start : List Disk) (H : List Moment) (w : WorldState) (i : ℕ) (calm : IsCalm H i) (pointers : PointersAt H i) (begun : AreBegun H i) (first : (serial : ℕ) (sent : Sending) (place address : ℕ) → (terms H).sent serial ≡ Some sent → IsPointedBy sent i place address → IsFirst H i serial address) (bases : AreBased H i) (unrefused : AreUnrefused H i) (opened : AreOpened H w) (held : AreHeldAt start H w) (caught : HaveCaught start H w) (rows : i < length w.initiators → AreRows H i (initiator_at w i).lists.slots) where

@@ -18,7 +18,8 @@ use Rattle.sbp_base.specs.Quadlets.{quad}
 use Rattle.sbp_laws.specs.Targets.{Decided, decided_by, decided_in}
 use Rattle.sbp_world.specs.Sessions.Writing.{is_written}
 use Rattle.sbp_world.proofs.Sessions.Decisions.{bytes_are}
-use Rattle.sbp_world.proofs.Lists.ManageTerms.{none_is, same_some, untrue}
+use Rattle.sbp_world.proofs.Lists.ManageTerms.{none_is, same_some}
+use Rattle.sbp_world.proofs.Common.{untrue}
 
 -- the ORB was decided by this reply, and the operation writes
 pub record IsResolved (m : Machine) (t : Table) (keys : List (List ℕ)) (answer : Answer) (r : ManagerStep × (Machine × Table)) (op : Operation) : Type 0 where

@@ -8,8 +8,6 @@ use Rattle.async_packet.specs.Packet.{Packet, lock, lock_response, read_block, r
 use Rattle.async_packet.specs.Reading.{reading}
 use Rattle.sbp_target.proofs.Histories.Found.{IsFound}
 use Rattle.label_table.specs.Requests.{reply_kind}
-use Rattle.command_agent.specs.Machine.{Machine}
-use Rattle.command_agent.specs.Steps.{reset_step}
 use Rattle.label_table.specs.Layer.{Finding, of_again, of_generation, of_grammar, of_label, of_request, of_response}
 use Rattle.rbc_disk.specs.Runs.{Told}
 use Rattle.sbp_journal.specs.Addresses.{Access, access_of}
@@ -34,7 +32,7 @@ use Rattle.sbp_target.specs.Receiving.{judged_scene, received_as}
 use Rattle.sbp_target.specs.Replies.{Whole, scene_of}
 use Rattle.sbp_target.specs.Serving.{answered, is_barred, request_step, serve, served_as}
 use Rattle.sbp_world.proofs.Lists.SameAgents.{set_here}
-use Rattle.sbp_world.proofs.Lists.OpenCuts.{Here, Listing, is_up}
+use Rattle.sbp_world.proofs.Lists.OpenCuts.{Here, Listing, is_up, reset_none}
 use Rattle.sbp_world.proofs.Lists.OpenedAddresses.{IsBase, IsNear, block_base, demand_served, near_register}
 use Rattle.sbp_world.proofs.Wire.Kept.{and_false}
 
@@ -117,10 +115,6 @@ near agent place distance d b =
     record { base = b; is = omega (arith, low, d); small = omega (arith, d) }
 
 -- ---- an agent that is cut is in RESET
-reset_none : (m : Machine) → is_up (reset_step m) ≡ false
-unfolding reset_step
-reset_none m = refl
-
 cut_closes : (cause : CutCause) (place : ℕ) (s : TargetScene) → length s.node.desks ≡ 8 → place < 8 → Listing (cut cause place s).node place → ⊥
 unfolding cut
 cut_closes cause place s size b e =

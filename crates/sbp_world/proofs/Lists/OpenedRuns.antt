@@ -43,12 +43,12 @@ use Rattle.sbp_world.proofs.Lists.Calm.{asked_calm, calm_asked, calm_before}
 use Rattle.sbp_world.proofs.Lists.Extends.{Extends, delivered_extends}
 use Rattle.sbp_world.proofs.Lists.OpenedEndings.{Manages, delivery_cuts}
 use Rattle.sbp_world.proofs.Lists.OpenedGrown.{asked_view, end_view}
-use Rattle.sbp_world.proofs.Lists.OpenedNotes.{split}
 use Rattle.sbp_world.proofs.Lists.OpenedOthers.{OthersDo, acts_does, alike_open, hears_keeps, injects_does, lapses_keep, line_keeps, loses_does, refused_does, resets_does, sight_keeps as own_sight_keeps}
 use Rattle.sbp_world.proofs.Lists.OpenedSends.{Tells}
 use Rattle.sbp_world.proofs.Lists.OpenedTargets.{Telling, delivery_keeps, key_keeps, lapse_keeps, sight_keeps, tick_keeps}
 use Rattle.sbp_world.proofs.Lists.OpenedTurns.{Known}
 use Rattle.sbp_world.proofs.Lists.OpenedWorlds.{Here, Then, Wired, alike_up}
+use Rattle.sbp_world.proofs.Common.{said_split as split}
 
 -- ---- a line begins
 pub here_asked : (line : ℕ) (event : Event) (H : List Moment) (w : WorldState) (i : ℕ) → Here H w i → Here (asked line event ∷ H) (without_notes w) i

@@ -28,9 +28,9 @@ use Rattle.sbp_world.specs.Lists.Tellings.{outgoing_for}
 use Rattle.sbp_world.proofs.Lists.LiveBlocks.{sent_block}
 use Rattle.sbp_world.proofs.Lists.ManageKnown.{RestGot}
 use Rattle.sbp_world.proofs.Lists.ManageSent.{for_below}
-use Rattle.sbp_world.proofs.Lists.ManageTerms.{untrue}
-use Rattle.sbp_world.proofs.Lists.OpenedNotes.{Behind, all_sent, behind_none, behind_one, behind_then, split}
+use Rattle.sbp_world.proofs.Lists.OpenedNotes.{Behind, all_sent, behind_none, behind_one, behind_then}
 use Rattle.sbp_world.proofs.Lists.OpenedOffices.{AllBehind, WasAsked, is_packet, manager_same, sends_asked, told_asked, told_for}
+use Rattle.sbp_world.proofs.Common.{untrue, said_split as split}
 
 -- ---- what is known of the management of an initiator, behind a turn
 pub record Tells (start : List Disk) (ms : List Moment) (i : ℕ) : Type 0 where

@@ -55,7 +55,7 @@ use Rattle.sbp_world.specs.Lists.Opens.{AreOpened}
 use Rattle.sbp_world.proofs.Lists.Generations.{is_sight}
 use Rattle.sbp_world.proofs.Lists.OpenDeliveries.{lapse_open}
 use Rattle.sbp_world.proofs.Lists.OpenManages as manages
-use Rattle.sbp_world.proofs.Lists.OpenTurns.{Before, begins, sound, up_state}
+use Rattle.sbp_world.proofs.Lists.OpenTurns.{Before, begins, sound}
 use Rattle.sbp_world.proofs.Lists.OpenedDelivers.{delivery_up, end, good, kept_up, marks, seats, told, turn}
 use Rattle.sbp_world.proofs.Lists.OpenedFirst.{generation_same, is_first}
 use Rattle.sbp_world.proofs.Lists.OpenedMoments.{all_same, all_weaker, of_target, target_rest}
@@ -67,6 +67,7 @@ use Rattle.sbp_world.proofs.Lists.OpenedTarget.{none_answered, target_turn}
 use Rattle.sbp_world.proofs.Lists.OpenedTurns.{IsNews, IsTelling, NoneUp, Opens, WasUp}
 use Rattle.sbp_world.proofs.Lists.OpenedWorlds.{Here, Then, alike_up, grown_turn, turn_is, wired}
 use Rattle.sbp_world.proofs.Pointers.Ages.{seen_now}
+use Rattle.sbp_world.proofs.Hosts.Cores.{not_so as up_state}
 
 -- ---- the first moment of a turn of the target
 -- at which no packet comes

@@ -37,10 +37,9 @@ use Rattle.sbp_world.proofs.Lists.OpenedGrown.{grown}
 use Rattle.sbp_world.proofs.Lists.OpenedHears.{aside_keeps}
 use Rattle.sbp_world.proofs.Lists.OpenedMoments.{of_others}
 use Rattle.sbp_world.proofs.Lists.OpenedNever.{ResetsWrite}
-use Rattle.sbp_world.proofs.Lists.OpenedNotes.{split}
 use Rattle.sbp_world.proofs.Lists.OpenedTurns.{Grown, Known, NoneUp, WasUp}
 use Rattle.sbp_world.proofs.Lists.Rises.{Rises}
-use Rattle.sbp_world.proofs.Common.{moment_joined}
+use Rattle.sbp_world.proofs.Common.{moment_joined, said_split as split}
 use Rattle.sbp_world.proofs.Pointers.Ages.{seen_now}
 
 -- ---- what is known between two turns, of an initiator

@@ -10,9 +10,9 @@ use Rattle.orb_layout.specs.declared.pointer.OrbPointer.TheVariants.{At}
 use Rattle.orb_layout.specs.CommandOrbs.{command_orb}
 use Rattle.orb_layout.specs.Replies.{Expired, payload_of}
 use Rattle.sbp_laws.specs.Targets.{Reply, Target, over}
-use Rattle.sbp_world.proofs.Lists.ManageTerms.{untrue}
 use Rattle.sbp_world.proofs.Lists.FedFolds.{AreSo, AreStill, IsKept, Pends, over_still}
 use Rattle.sbp_world.proofs.Lists.OrbSteps.{Reads, abort_reads, bell_reads, lost_steps, new_reads, point_reads, reply_steps, reset_reads}
+use Rattle.sbp_world.proofs.Common.{untrue}
 
 module _ (Read : ℕ → ℕ → CommandOrb → Type 0) where
   abbrev pub Has : ℕ → Machine → Type 0

@@ -28,11 +28,12 @@ use Rattle.sbp_laws.specs.Packets.{answer_in, answered_at, packet_at, receiver_i
 use Rattle.sbp_laws.specs.Targets.{Agent, Target, agent_at, initiator_at, is_serial, known_at, login_at, over, target_at}
 use Rattle.sbp_laws.specs.Turns.{EachMoment}
 use Rattle.sbp_world.specs.Lists.OrbReads.{AskedAsGot, IsBrought}
-use Rattle.sbp_world.proofs.Lists.ManageTerms.{none_is, untrue}
+use Rattle.sbp_world.proofs.Lists.ManageTerms.{none_is}
 use Rattle.sbp_world.proofs.Lists.AgentFolds.{new_there}
 use Rattle.sbp_world.proofs.Lists.OrbFolds.{AreReading, Brings, Has, over_reads}
 use Rattle.sbp_world.proofs.Lists.OrbNotes.{GotBrings, IfGot, note_reads}
 use Rattle.sbp_world.proofs.Lists.OrbSteps.{ReadAheadOf, Reads, new_reads}
+use Rattle.sbp_world.proofs.Common.{untrue}
 
 -- ---- what was brought is so later
 module _ (R S : ℕ → CommandOrb → Type 0) (f : (address : ℕ) (orb : CommandOrb) → R address orb → S address orb) where

@@ -41,13 +41,14 @@ use Rattle.sbp_world.proofs.Lists.Calm.{calm_before}
 use Rattle.sbp_world.proofs.Lists.ContentManages.{so_before}
 use Rattle.sbp_world.proofs.Lists.Heard.{awaited_to}
 use Rattle.sbp_world.proofs.Lists.OrbsBegan.{BeganBy, began, line_kept, not_before}
-use Rattle.sbp_world.proofs.Lists.OrbsRead.{delivers, read_orbs_law}
+use Rattle.sbp_world.proofs.Lists.OrbsRead.{read_orbs_law}
 use Rattle.sbp_world.proofs.Lists.Runs.{as_front}
 use Rattle.sbp_world.proofs.Lists.UnderwayRuns.{delivering, underway_law}
 use Rattle.sbp_world.proofs.Lists.Courses.{more_no_act}
 use Rattle.sbp_world.proofs.Lists.FifoManages.{orb_status}
 use Rattle.sbp_world.proofs.Lists.JoinLaws.{moments_same, lines_same}
 use Rattle.sbp_world.proofs.Hosts.Runs.{are_told}
+use Rattle.sbp_world.proofs.Common.{delivers}
 
 -- ---- the request of the operation, by the wire
 

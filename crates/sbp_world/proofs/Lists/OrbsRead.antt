@@ -1,5 +1,5 @@
 -- The target reads the management ORB that stands in its place.
-use Rattle.std.proofs.Common.{arith, ◌≡◌, ◌∙◌, refl, sym, ap, subst, ℕ, zero, ◌+◌, ◌≤◌, List, [], ◌∷◌, ◌++◌, map, Option, Some, None, append_assoc}
+use Rattle.std.proofs.Common.{arith, ◌≡◌, ◌∙◌, refl, sym, ap, subst, ℕ, zero, ◌+◌, ◌≤◌, List, [], ◌∷◌, ◌++◌, map, Some, append_assoc}
 use Rattle.bus_transactions.specs.Packets.{SerialsCount}
 use Rattle.mgmt_agent.specs.declared.operation.Operation.{Operation}
 use Rattle.mgmt_agent.specs.declared.operation.Phase.{Phase}
@@ -17,7 +17,6 @@ use Rattle.sbp_world.specs.Runs.{after, beginning}
 use Rattle.sbp_world.specs.Settling.{after_all}
 use Rattle.sbp_world.specs.Worlds.{begun}
 use Rattle.sbp_world.specs.Agents.AskedRuns.{read_access}
-use Rattle.sbp_world.specs.Agents.Management.Terms.{DeliversMore}
 use Rattle.sbp_world.specs.Hosts.Runs.{more_deliveries}
 use Rattle.sbp_world.proofs.Hosts.Between.{of_wire_there}
 use Rattle.sbp_world.proofs.Hosts.Remaining.{remains, serials}
@@ -30,6 +29,7 @@ use Rattle.sbp_world.proofs.Lists.ContentAsked.{contents_law}
 use Rattle.sbp_world.proofs.Lists.ContentManages.{bound}
 use Rattle.sbp_world.proofs.Lists.PlaceBrings.{place_reads_law}
 use Rattle.sbp_world.proofs.Lists.UnderwayRuns.{delivering, underway_law}
+use Rattle.sbp_world.proofs.Common.{delivers}
 
 -- ---- what a packet of an operation asks for, as the terms have it
 pub access_there : (start : List Disk) (past : List Moment) → SerialsCount past → (serial : ℕ) (op : Operation) (w : WasAsked start past serial op) → access_at (terms past) serial ≡ Some w.access
@@ -82,10 +82,6 @@ module _ (start : List Disk) (past : List Moment) (i : ℕ) (counts : SerialsCou
         let below = b.below in
         let before = lasts.was (b.later ++ said (notes.Got read) ∷ []) b.before at underway r.has (omega (arith, behind, below)) in
         b.held ∙ ap place_bytes (sym (before.places underway.place))
-
-pub delivers : (most : Option ℕ) → DeliversMore (more_deliveries most)
-delivers (Some count) = tt
-delivers None = tt
 
 pub read_orbs_law : ReadOrbsLaw
 read_orbs_law = record {

@@ -37,8 +37,8 @@ use Rattle.sbp_world.specs.Agents.Management.Offices.{Office, by_managed, by_not
 use Rattle.sbp_world.proofs.Agents.Management.Firsts.{other_reply, own_reply, request_keeps, served_office, start_office}
 use Rattle.sbp_world.proofs.Agents.Management.Offices.{IsBehind, note_changes, over_keeps, taken_keeps}
 use Rattle.sbp_world.specs.Lists.CarriedOrbs.{IsOn}
-use Rattle.sbp_world.proofs.Sessions.Buffers.{untrue}
 use Rattle.sbp_world.proofs.Lists.OpenedReplied.{pays_as as payload_is}
+use Rattle.sbp_world.proofs.Common.{untrue}
 
 abbrev pub IsSecond : Option Decided → Ask → List ℕ → Type 0
 IsSecond None ask out = ⊥

@@ -49,8 +49,9 @@ use Rattle.sbp_world.proofs.Hosts.PointerNotes.{tame_told}
 use Rattle.sbp_world.proofs.Hosts.PointSees.{see_left}
 use Rattle.sbp_world.proofs.Hosts.Runs.{are_told, count_after, count_between}
 use Rattle.sbp_world.specs.Pointers.Moments.{manages}
-use Rattle.sbp_world.proofs.Lists.ManageTerms.{untrue}
-use Rattle.sbp_world.proofs.Lists.ManageWrites.{act_tells, no_action, not_so, other_node, same_action}
+use Rattle.sbp_world.proofs.Lists.ManageWrites.{act_tells, no_action, other_node, same_action}
+use Rattle.sbp_world.proofs.Common.{untrue}
+use Rattle.sbp_world.proofs.Hosts.Cores.{not_so}
 
 abbrev pub FewAt : ℕ → Moment → List Moment → Type 0
 FewAt i (said (notes.Sent serial generation from to bytes)) past = from ≡ suc i → (action : Action) → event_of past ≡ Some (events.Act i action) → manages (operation_of action) ≡ true → (host_at past i).logins < 2 ^ 32

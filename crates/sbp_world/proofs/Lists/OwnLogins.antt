@@ -56,7 +56,6 @@ use Rattle.sbp_world.proofs.Lists.LiveRuns.{base_of, goes_calm, goes_size, goes_
 use Rattle.sbp_world.proofs.Lists.LiveSteps.{id_in}
 use Rattle.sbp_world.proofs.Lists.LiveTurns.{TargetCall, TurnOf, by_clearing, by_own, by_sight, by_target, delivers, good, keeps, still}
 use Rattle.sbp_world.proofs.Lists.ManageTerms.{none_is}
-use Rattle.sbp_world.proofs.Lists.OrbsRead.{delivers as delivers_more}
 use Rattle.sbp_world.proofs.Lists.OwnCounts.{FewAt, few_after, few_between}
 use Rattle.sbp_world.proofs.Lists.OwnFifos.{tame_before}
 use Rattle.sbp_world.proofs.Lists.OwnOps.{AreOwnOps, IsOwnOp, brings_good, own_turn, short_from}
@@ -65,6 +64,7 @@ use Rattle.sbp_world.proofs.Lists.PlaceBrings.{place_reads_law}
 use Rattle.sbp_world.proofs.Lists.PlacedRuns.{WroteAll, wrote_everywhere}
 use Rattle.sbp_world.proofs.Lists.UnderwayRuns.{delivering}
 use Rattle.sbp_world.proofs.Lists.StatusKnown.{each_from}
+use Rattle.sbp_world.proofs.Common.{delivers as delivers_more}
 
 -- ---- what is known of every run
 pub record OwnKnown (start : List Disk) (past : List Moment) (w : WorldState) : Type 0 where

@@ -18,9 +18,9 @@ use Rattle.sbp_laws.specs.Served.{is_own, management_orb_of, place_held, place_w
 use Rattle.sbp_laws.specs.Turns.{EachMoment, event_of}
 use Rattle.sbp_world.specs.Lists.OwnLogins.{IsAside, IsGoodOrb, IsItsFifo, IsLoginFifo, in_front, of_login, of_place, of_response}
 use Rattle.sbp_world.specs.Lists.Shorts.{AreShort, IsShortAction}
-use Rattle.sbp_world.proofs.Lists.ManageTerms.{untrue}
 use Rattle.sbp_world.proofs.Lists.OrbsShort.{event_short, login_small, orb_short}
 use Rattle.sbp_world.proofs.Lists.OwnCounts.{FewAt}
+use Rattle.sbp_world.proofs.Common.{untrue}
 
 -- ---- as it is read back
 pub fifo_back : (o : ManagementOrb) → o.fifo < 2 ^ 48 → (management_orb (management_bytes o)).fifo ≡ o.fifo

@@ -28,7 +28,7 @@ use Rattle.sbp_world.specs.Hosts.Reads.{IsReadBy}
 use Rattle.sbp_world.specs.Hosts.Runs.{IsRun, more_deliveries}
 use Rattle.sbp_world.proofs.Hosts.AnsweringSends.{Gets}
 use Rattle.sbp_world.proofs.Hosts.Between.{between, stands_there, there}
-use Rattle.sbp_world.proofs.Hosts.Deliveries.{GotsAre, GotsIn, Here, all_gots, map_in, run_gots, said_append, said_gots}
+use Rattle.sbp_world.proofs.Hosts.Deliveries.{GotsAre, GotsIn, Here, all_gots, map_in, run_gots, said_gots}
 use Rattle.sbp_world.proofs.Hosts.GotRequests.{request_got}
 use Rattle.sbp_world.proofs.Hosts.Knows.{was_sent}
 use Rattle.sbp_world.proofs.Lists.PlaceReplies.{FewCodes, IsPlaceReplied, is_place_replied}
@@ -37,6 +37,7 @@ use Rattle.sbp_world.proofs.Hosts.ResponseBytes.{IsBlockRead}
 use Rattle.sbp_world.proofs.Hosts.ResponseTells.{rcode_small, read_code}
 use Rattle.sbp_world.specs.Sessions.Placed.{ArePlaces}
 use Rattle.sbp_world.proofs.Sessions.PlaceRuns.{placed_law}
+use Rattle.sbp_world.proofs.Common.{said_joined as said_append}
 
 pub spelled_ok : (r : Result Packet PacketFault) (p : Packet) → spelled_by r ≡ Some p → r ≡ Ok p
 spelled_ok (Ok q) p e =

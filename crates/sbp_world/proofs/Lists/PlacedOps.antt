@@ -50,10 +50,11 @@ use Rattle.sbp_world.specs.Lists.Needs.{IsCalm}
 use Rattle.sbp_world.specs.Lists.Placings.{BasedAt, HasBase, IsInAPlace, RingsAt}
 use Rattle.sbp_world.proofs.Lists.HostLogins.{GrantsAt, login_good}
 use Rattle.sbp_world.proofs.Lists.LiveSteps.{id_in}
-use Rattle.sbp_world.proofs.Lists.ManageTerms.{none_is, same_some, untrue}
+use Rattle.sbp_world.proofs.Lists.ManageTerms.{none_is, same_some}
 use Rattle.sbp_world.proofs.Lists.ManageWrites.{WroteAt}
 use Rattle.sbp_world.proofs.Lists.ManageLines.{eight_at}
 use Rattle.sbp_world.proofs.Lists.StatusKnown.{each_from}
+use Rattle.sbp_world.proofs.Common.{untrue}
 
 -- ---- a write of MANAGEMENT_AGENT, by what it asks of the target
 pub record IsManageWrite (p : Packet) (orb : ℕ) : Type 0 where

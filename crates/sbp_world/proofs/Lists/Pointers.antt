@@ -12,7 +12,7 @@ use Rattle.command_agent.specs.declared.step.PointRefusal.{PointRefusal}
 use Rattle.command_agent.specs.Machine.{Machine, state_in}
 use Rattle.command_agent.specs.Steps.{doorbell_step, fetch_step, point_in, point_step}
 use Rattle.sbp_world.specs.Agents.Alike.{has_list}
-use Rattle.sbp_world.proofs.Lists.Named.{no}
+use Rattle.sbp_world.proofs.Lists.Stands.{no}
 
 -- ---- a doorbell that nobody hears
 pub deaf_by : (phase : Phase) (m : Machine) → has_list phase ≡ false → doorbell_step (record m { phase = phase }) ≡ (Nothing, record m { phase = phase })

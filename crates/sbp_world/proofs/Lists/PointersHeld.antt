@@ -10,7 +10,6 @@ use Rattle.command_agent.specs.Steps.{advanced, ahead_step, quiet, reply_step, s
 use Rattle.orb_layout.specs.declared.ask.FailCause.{FailCause}
 use Rattle.orb_layout.specs.Replies.{payload_of}
 use Rattle.rbc_disk.specs.Units.{PlainDisk}
-use Rattle.sbp_world.proofs.Lists.ManageTerms.{untrue}
 use Rattle.command_agent.specs.Steps as steps
 use Rattle.orb_layout.specs.declared.ask.Ask.TheVariants.{Nothing}
 use Rattle.orb_layout.specs.declared.ask.FailCause.TheVariants as causes
@@ -19,6 +18,7 @@ use Rattle.rbc_disk.specs.Runs.{Told}
 use Rattle.sbp_laws.specs.Targets.{Agent, Reply, agent_over, closed, cut_agent, is_nothing, main_lost, moved, new_agent, sends_of, wants}
 use Rattle.sbp_world.proofs.Lists.AgentGoes.{AllGo, AreGoing}
 use Rattle.sbp_world.specs.Agents.Alike.{has_list}
+use Rattle.sbp_world.proofs.Common.{untrue}
 
 -- ---- an agent
 -- one that has a list had one before, with its pointer

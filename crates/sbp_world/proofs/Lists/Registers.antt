@@ -54,12 +54,12 @@ use Rattle.sbp_world.proofs.Lists.SameAgents.{AreSame, set_here, set_there}
 use Rattle.sbp_world.proofs.Lists.Kept.{IsLess, Kept, same}
 use Rattle.sbp_world.proofs.Lists.Lists.{laid}
 use Rattle.sbp_world.proofs.Lists.Looks.{Looks, kept_looks, opened_looks}
-use Rattle.sbp_world.proofs.Lists.Named.{no}
 use Rattle.sbp_world.specs.Lists.CutLists.{WasHad}
 use Rattle.sbp_world.proofs.Lists.Told.{AgentOn, Apart, Behind, ListAt, Own}
 use Rattle.sbp_world.proofs.Lists.Turns.{Acting, First, Lists, Ready, acting, apart, begun, finish, first_goes, first_listed, v}
 use Rattle.sbp_world.proofs.Lists.Passing.{GoesOn}
 use Rattle.sbp_world.proofs.Lists.Pointers.{deaf, refused, taken, taken_phase}
+use Rattle.sbp_world.proofs.Lists.Stands.{no}
 
 -- the answer changes no agent, and tells nothing
 answered_same : (request : Packet) (bytes : List ℕ) (rcode : ℕ) (given : List ℕ) (s : Scene) → AreSame s.node (answered request bytes rcode given s).node

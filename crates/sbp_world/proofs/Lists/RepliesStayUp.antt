@@ -29,8 +29,8 @@ use Rattle.rbc_disk.specs.declared.command.Outcome.{Outcome}
 use Rattle.rbc_disk.specs.declared.command.Outcome.TheVariants as outcomes
 use Rattle.rbc_disk.specs.Runs.{Told, need_of}
 use Rattle.rbc_disk.specs.Units.{PlainDisk}
-use Rattle.sbp_world.proofs.Lists.ManageTerms.{untrue}
 use Rattle.sbp_world.proofs.Lists.OpenCuts.{is_up}
+use Rattle.sbp_world.proofs.Common.{untrue}
 
 -- ---- steps
 abbrev Up : AgentStep × Machine → Type 0

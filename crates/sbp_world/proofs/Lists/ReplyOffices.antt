@@ -34,8 +34,9 @@ use Rattle.sbp_world.proofs.Lists.LiveTold.{is_behind, is_first, is_own_packet}
 use Rattle.sbp_world.proofs.Lists.ManageMoments.{MayHand, TakeFacts}
 use Rattle.sbp_world.proofs.Lists.ManageOffices.{office_at, sent_office}
 use Rattle.sbp_world.proofs.Lists.ManageReplies.{GoesOn, reply_goes}
-use Rattle.sbp_world.proofs.Lists.ManageTerms.{none_is, untrue}
+use Rattle.sbp_world.proofs.Lists.ManageTerms.{none_is}
 use Rattle.sbp_world.proofs.Agents.Handed.{is_its_serial}
+use Rattle.sbp_world.proofs.Common.{untrue}
 
 -- the operation and its request are as they were, and it asks for nothing where it did so; or there is none
 pub data Stays (o p : Office) : Type 0 where

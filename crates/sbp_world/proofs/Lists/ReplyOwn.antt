@@ -47,7 +47,7 @@ use Rattle.sbp_world.proofs.Lists.ManageLeaves.{IsEnded, Left}
 use Rattle.sbp_world.proofs.Lists.ManageMoments.{Hands}
 use Rattle.sbp_world.proofs.Lists.ManageOffices.{office_at}
 use Rattle.sbp_world.proofs.Lists.ManageOwn.{at_host}
-use Rattle.sbp_world.proofs.Lists.ManageTerms.{none_is, same_some, untrue}
+use Rattle.sbp_world.proofs.Lists.ManageTerms.{none_is, same_some}
 use Rattle.sbp_world.proofs.Lists.ManageYoung.{Young}
 use Rattle.sbp_world.proofs.Lists.Replying.{IsSentFor, away_replying, away_sent_for, line_sent_for}
 use Rattle.sbp_world.proofs.Lists.ReplyAway.{away_stays}
@@ -56,6 +56,7 @@ use Rattle.sbp_world.proofs.Lists.ReplyTurns.{SameNode, begins_replying, begins_
 use Rattle.sbp_world.proofs.Lists.LiveDecides.{equals}
 use Rattle.sbp_world.proofs.Lists.LiveCalled.{no_work}
 use Rattle.sbp_world.proofs.Lists.LiveLeads.{hands_before as hands_behind}
+use Rattle.sbp_world.proofs.Common.{untrue}
 
 -- ---- the nodes are as they were
 pub same_node : (units ready : ℕ) (start : List Disk) (past : List Moment) (s : Scene) (later : List Moment) (t : Scene) {lines more : ℕ} → Holding units ready start past lines s.world → Holding units ready start later more t.world → (i : ℕ) → i < length s.world.initiators → i < length t.world.initiators → SameBus i s.world t.world → SameNode (hist past s.world) (hist later t.world) i

@@ -21,9 +21,10 @@ use Rattle.sbp_world.proofs.Lists.ManageMoments.{Hands, SendFacts}
 use Rattle.sbp_world.proofs.Lists.ManageOffices.{sent_office}
 use Rattle.sbp_world.proofs.Lists.ManageSends.{Sends, sent_is, sent_other, sent_terms}
 use Rattle.sbp_world.proofs.Lists.ManageSent.{SentFacts, for_one}
-use Rattle.sbp_world.proofs.Lists.ManageTerms.{none_is, untrue}
+use Rattle.sbp_world.proofs.Lists.ManageTerms.{none_is}
 use Rattle.sbp_world.proofs.Lists.ReplyOffices.{quiet_sent}
 use Rattle.sbp_world.proofs.Agents.Handed.{is_its_serial as serial_there}
+use Rattle.sbp_world.proofs.Common.{untrue}
 
 -- the operation of the target responds, and waits for the answer to this response
 pub record NewReply (start : List Disk) (now : List Moment) (i s : ℕ) : Type 0 where

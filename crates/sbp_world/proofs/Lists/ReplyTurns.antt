@@ -38,11 +38,12 @@ use Rattle.sbp_world.proofs.Lists.LiveTold.{is_behind, is_first, is_own_packet}
 use Rattle.sbp_world.proofs.Lists.ManageMoments.{Hands}
 use Rattle.sbp_world.proofs.Lists.ManageOffices.{office_at}
 use Rattle.sbp_world.proofs.Lists.ManageReplies.{GoesOn}
-use Rattle.sbp_world.proofs.Lists.ManageTerms.{none_is, same_some, untrue}
+use Rattle.sbp_world.proofs.Lists.ManageTerms.{none_is, same_some}
 use Rattle.sbp_world.proofs.Lists.OrbsInPlace.{of_request}
 use Rattle.sbp_world.proofs.Lists.Replying.{first_replying, line_replying, told_replying}
 use Rattle.sbp_world.proofs.Lists.ReplyOffices.{Ends, Stays, answers, begins as begins_one, ends, gone, line_stays, same as stays_same, stays, stays_self}
 use Rattle.sbp_world.proofs.Lists.ReplySends.{NewReply, sends_reply}
+use Rattle.sbp_world.proofs.Common.{untrue}
 
 pub responds_open : (phase : Phase) → is_responding phase ≡ true → phase ≡ phases.Status → ⊥
 responds_open phase e f = let no : is_responding phases.Status ≡ true = ap is_responding (sym f) ∙ e in untrue no

@@ -19,7 +19,8 @@ use Rattle.sbp_world.proofs.Lists.LiveTold.{AllAway, IsAway, IsFirst, is_behind,
 use Rattle.sbp_world.proofs.Lists.ManageMoments.{LineFacts}
 use Rattle.sbp_world.proofs.Lists.ManageSends.{opened_terms, sent_terms}
 use Rattle.sbp_world.proofs.Lists.ManageSent.{for_below}
-use Rattle.sbp_world.proofs.Lists.ManageTerms.{got_rests, ignored_rests, timed_rests, untrue}
+use Rattle.sbp_world.proofs.Lists.ManageTerms.{got_rests, ignored_rests, timed_rests}
+use Rattle.sbp_world.proofs.Common.{untrue}
 
 -- ---- the notes that are no packets of the target
 

@@ -57,8 +57,10 @@ use Rattle.sbp_world.specs.Sessions.Blocks.{GotBlocks}
 use Rattle.sbp_world.proofs.Sessions.BlockRuns.{blocks_law}
 use Rattle.sbp_world.proofs.Sessions.HoldingRuns.{Held, behind_blocks, first_held, held_carried, peel}
 use Rattle.sbp_world.specs.Lists.Placings.{IsAtLogin, RingsAt, RingsLaw}
-use Rattle.sbp_world.proofs.Lists.ManageTerms.{same_some, untrue}
-use Rattle.sbp_world.proofs.Lists.ManageWrites.{Spells, act_bytes, no_action, not_so, other_node, same_action, spells_known}
+use Rattle.sbp_world.proofs.Lists.ManageTerms.{same_some}
+use Rattle.sbp_world.proofs.Lists.ManageWrites.{Spells, act_bytes, no_action, other_node, same_action, spells_known}
+use Rattle.sbp_world.proofs.Common.{untrue}
+use Rattle.sbp_world.proofs.Hosts.Cores.{not_so}
 
 -- ---- what a ring tells says nothing of the login
 abbrev IsStep : Side → Type 0

@@ -7,7 +7,7 @@ use Rattle.orb_layout.specs.Pointers.{quad_bytes}
 use Rattle.sbp_base.specs.Quadlets.{quad}
 use Rattle.target_base.specs.Beginning.{target_eui}
 use Rattle.sbp_world.proofs.Lists.RomKeys.{IsRomQuad, none_keyed}
-use Rattle.sbp_world.proofs.Hosts.ActLeft.{untrue}
+use Rattle.sbp_world.proofs.Common.{untrue}
 
 -- what is given as a quadlet
 abbrev pub IsGiven : List ℕ → Type 0

@@ -34,8 +34,8 @@ use Rattle.sbp_target.proofs.Histories.Rowing.{row_law}
 use Rattle.sbp_target.proofs.Histories.Served.{judges}
 use Rattle.sbp_world.proofs.Lists.RomBytes.{IsGiven, IsRom, none_given}
 use Rattle.sbp_world.proofs.Lists.RomCodes.{IfFair, IsFair, asked_fair, none_given_to, response_fair}
-use Rattle.sbp_world.proofs.Hosts.ActLeft.{untrue}
 use Rattle.sbp_world.proofs.Lists.ManageCalls.{disowns_node, same_bytes}
+use Rattle.sbp_world.proofs.Common.{untrue}
 
 abbrev pub AllFair : List Outgoing → Type 0
 AllFair [] = Unit {0}

@@ -16,8 +16,8 @@ use Rattle.label_table.specs.Table.{begin_at, begin_step, lowest_from}
 use Rattle.sbp_base.specs.Quadlets.{quad}
 use Rattle.sbp_world.proofs.Lists.RomBytes.{IsGiven, none_given}
 use Rattle.sbp_world.proofs.Lists.RomKeys.{IsRomQuad, none_keyed}
-use Rattle.sbp_world.proofs.Hosts.ActLeft.{untrue}
 use Rattle.sbp_world.proofs.Hosts.Mild.{quad_tcode, tcode_same}
+use Rattle.sbp_world.proofs.Common.{untrue}
 
 -- a packet that gives a quadlet gives one that may stand in the target's ROM
 abbrev pub IsFair : List ℕ → Type 0

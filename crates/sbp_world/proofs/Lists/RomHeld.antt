@@ -75,10 +75,9 @@ use Rattle.sbp_world.proofs.Lists.RomKeys.{IsRomQuad, none_keyed}
 use Rattle.sbp_world.proofs.Lists.RomLearns.{IsBrought, IsQuad, Knows, act_knows, done_can, expire_knows, first_knows, receive_knows, see_knows}
 use Rattle.sbp_world.proofs.Lists.RomNotes.{SentFair, fair_sent}
 use Rattle.sbp_world.proofs.Lists.RomRuns.{fair_after, fair_between}
-use Rattle.sbp_world.proofs.Hosts.ActLeft.{untrue}
+use Rattle.sbp_world.proofs.Common.{untrue, equal, equal_numbers}
 use Rattle.sbp_world.proofs.Hosts.Aimed.{own_called}
 use Rattle.sbp_world.proofs.Pointers.Written.{none_sent, older_asked, still_asked}
-use Rattle.sbp_world.proofs.Common.{equal, equal_numbers}
 
 -- ---- what a response brings
 

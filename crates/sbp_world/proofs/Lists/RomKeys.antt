@@ -10,8 +10,7 @@ use Rattle.config_rom.specs.Reading.{Tree, reading}
 use Rattle.config_rom.specs.Tree.{entries_from, entries_of, entry_at}
 use Rattle.config_rom.specs.Unit.{Directory, directories, first_unit, first_value, has_key, has_value, is_sbp, is_unit, names_unit, root_entries, sbp_unit_of, type_bits, unit_of}
 use Rattle.config_rom.proofs.Heads.{tree-of}
-use Rattle.sbp_world.proofs.Hosts.ActLeft.{untrue}
-use Rattle.sbp_world.proofs.Common.{equal, and_second}
+use Rattle.sbp_world.proofs.Common.{equal, and_second, untrue}
 
 -- a quadlet with this key has that value
 abbrev pub IsRomQuad : ℕ → Type 0

@@ -64,7 +64,7 @@ use Rattle.sbp_laws.specs.Hosts.{operation_of}
 use Rattle.sbp_initiator.proofs.Histories.Actions.{allowed}
 use Rattle.sbp_world.specs.Pointers.Moments.{manages as manages_in}
 use Rattle.sbp_world.proofs.Lists.RomKeys.{AreRomQuads, IsRomQuad, management_is}
-use Rattle.sbp_world.proofs.Hosts.ActLeft.{untrue}
+use Rattle.sbp_world.proofs.Common.{untrue}
 
 -- a session that is not out, or became stuck so, began with a login: MANAGEMENT_AGENT is known then
 abbrev pub knows_rom : Seat → Bool

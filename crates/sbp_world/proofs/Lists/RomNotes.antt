@@ -14,8 +14,7 @@ use Rattle.sbp_journal.specs.declared.cause.Judged.TheVariants as judgements
 use Rattle.sbp_journal.specs.declared.note.Note.{Note}
 use Rattle.sbp_journal.specs.declared.note.Note.TheVariants as notes
 use Rattle.sbp_world.proofs.Lists.RomCodes.{IsFair}
-use Rattle.sbp_world.proofs.Hosts.ActLeft.{untrue}
-use Rattle.sbp_world.proofs.Common.{none_is}
+use Rattle.sbp_world.proofs.Common.{none_is, untrue}
 
 abbrev pub IsFairNote : Note → Type 0
 IsFairNote (notes.Sent serial generation from to bytes) = from ≡ 0 → IsFair bytes

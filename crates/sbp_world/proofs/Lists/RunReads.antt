@@ -36,7 +36,7 @@ use Rattle.sbp_world.proofs.Lists.Passing.{PassAt, RunsNext}
 use Rattle.sbp_world.proofs.Lists.RunFits.{WasAsked}
 use Rattle.sbp_world.proofs.Lists.Runless.{IsRunBy}
 use Rattle.sbp_world.proofs.Lists.RunOutcomes.{IsSet, asked_so, goes, is_open, list_is, orb_is, request_is, runs, small}
-use Rattle.sbp_world.proofs.Lists.ManageTerms.{untrue}
+use Rattle.sbp_world.proofs.Common.{untrue}
 
 -- the ORB of a command is as it was appended
 pub as_appended : (command : Option Cmd) (request : Option Request) (slot : ℕ) (a : WasAsked command request slot) (orb : CommandOrb) → IsOrbOf command slot orb → IsAsAppended orb (request_of a.cmd)

@@ -48,17 +48,18 @@ use Rattle.sbp_world.proofs.Lists.EarlyLines.{end_early, first_early, line_early
 use Rattle.sbp_world.proofs.Lists.EarlyTurns.{Stood, leaves_hosts}
 use Rattle.sbp_world.proofs.Lists.Extends.{Extends, delivered_extends, extends_none}
 use Rattle.sbp_world.proofs.Lists.Kept.{Kept, keeps}
-use Rattle.sbp_world.proofs.Lists.OpenTurns.{listing_up, up_state}
+use Rattle.sbp_world.proofs.Lists.OpenTurns.{listing_up}
 use Rattle.sbp_world.proofs.Lists.Pointed.{all_take}
 use Rattle.sbp_world.proofs.Lists.Takings.{AllTake}
 use Rattle.sbp_world.proofs.Lists.Passes.{AllFacts, Facts, Grown, Hosts, More, MoreFacts, all_heard, line_keeps, ready}
 use Rattle.sbp_world.proofs.Lists.RunSites.{site_after, site_between}
 use Rattle.sbp_world.proofs.Lists.Sites.{Site}
 use Rattle.sbp_world.proofs.Lists.Stays.{ready_now}
-use Rattle.sbp_world.proofs.Lists.Named.{no}
 use Rattle.sbp_world.proofs.Lists.Turned.{IsOne, Turned, line_turned}
 use Rattle.sbp_world.proofs.Lists.Turns.{Ready}
 use Rattle.sbp_world.proofs.Lists.JoinLaws.{moments_same, lines_same}
+use Rattle.sbp_world.proofs.Lists.Stands.{no}
+use Rattle.sbp_world.proofs.Hosts.Cores.{not_so as up_state}
 
 -- ---- a history that goes on
 pub said_more : (old new : List Note) (past : List Moment) (e : Extends old new) → map said new ++ past ≡ map said e.more ++ (map said old ++ past)

@@ -21,10 +21,10 @@ use Rattle.sbp_laws.specs.Targets.{Agent, Reply, Target, agent_at, agent_over, c
 use Rattle.sbp_laws.specs.Terms.{lists}
 use Rattle.sbp_world.specs.Agents.Crews.{agent_in}
 use Rattle.sbp_world.proofs.Lists.ManageSends.{sent_terms}
-use Rattle.sbp_world.proofs.Lists.ManageTerms.{untrue}
 use Rattle.sbp_world.proofs.Lists.OpenCuts.{is_up}
 use Rattle.sbp_world.proofs.Lists.RepliesStayUp.{lost_up, reply_up}
 use Rattle.sbp_world.proofs.Lists.SendsLast.{AllSends}
+use Rattle.sbp_world.proofs.Common.{untrue}
 
 -- ---- an agent
 abbrev UpStays : (before now : Agent) → Type 0

@@ -14,8 +14,8 @@ use Rattle.mgmt_agent.specs.Decisions.{decide, decide_function, effect_of, left_
 use Rattle.mgmt_agent.specs.Machine.{cut_response}
 use Rattle.mgmt_agent.specs.Statuses.{function_of}
 use Rattle.orb_layout.specs.declared.management.ManagementOrb.{ManagementOrb}
-use Rattle.sbp_world.proofs.Lists.ManageTerms.{untrue}
 use Rattle.sbp_world.proofs.Lists.OpenedOrbs.{EndsLists, ends_lists}
+use Rattle.sbp_world.proofs.Common.{untrue}
 
 abbrev IsQuiet : Outcome → Type 0
 IsQuiet outcome = outcome.response ≡ responses.Nothing

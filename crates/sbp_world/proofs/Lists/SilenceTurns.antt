@@ -45,9 +45,9 @@ use Rattle.sbp_world.proofs.Lists.LiveReplies.{IsDecidedOn, Replied, decides, re
 use Rattle.sbp_world.proofs.Lists.LiveRuns.{IsCored, base_of, goes_turned}
 use Rattle.sbp_world.proofs.Lists.LiveSteps.{id_in, own_of, zero_of}
 use Rattle.sbp_world.proofs.Lists.LiveTurns.{SameBus, TargetCall, TurnOf, by_clearing, by_own, by_sight, by_target, delivers, good, keeps, still}
-use Rattle.sbp_world.proofs.Lists.ManageTerms.{untrue}
 use Rattle.sbp_world.proofs.Lists.OpenedOrbs.{EndsLists, place_ends}
 use Rattle.sbp_world.proofs.Lists.SilenceDecides.{ends_quiet}
+use Rattle.sbp_world.proofs.Common.{untrue}
 
 -- a phase that writes a response is no other
 no_status : {A : Type 0} (fifo : ℕ) (phase : Phase) → phase ≡ phases.Response fifo → phase ≡ phases.Status → A

@@ -14,7 +14,6 @@ use Rattle.sbp_world.proofs.Agents.Management.Still.{hist}
 use Rattle.sbp_world.specs.Hosts.Runs.{more_deliveries}
 use Rattle.sbp_world.specs.Lists.Closes.{Always, AreUntaken, Under, WhereTameOrFew}
 use Rattle.sbp_world.specs.Lists.CutSlots.{AllCutApart, AreCutApart}
-use Rattle.sbp_world.proofs.Lists.DataHolds.{delivers}
 use Rattle.sbp_world.proofs.Lists.Joins.{Begins}
 use Rattle.sbp_world.proofs.Lists.Beside.{tame_or_few_before}
 use Rattle.sbp_world.proofs.Lists.Passing.{PassLaw}
@@ -26,6 +25,7 @@ use Rattle.sbp_world.proofs.Lists.TameWalks.{still_after, still_between}
 use Rattle.sbp_world.specs.Lists.FewLogins.{IsTameOrFew}
 use Rattle.sbp_world.proofs.Lists.UnrunTerms.{cut_stays}
 use Rattle.sbp_world.proofs.Lists.Walks.{Walks}
+use Rattle.sbp_world.proofs.Common.{delivers}
 
 apart_at : (wild : ℕ → Bool) (i : ℕ) → wild i ≡ false → (past : List Moment) → PassLaw wild past → Rises past → Begins i past → ((n k : ℕ) → ends past i n ≤ k → taken_at past i n k ≡ None) → AreCutApart past i
 apart_at wild i own past passes rises begins untaken later before is n k slot cut unended held current list number opened there =

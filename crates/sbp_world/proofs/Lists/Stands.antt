@@ -7,7 +7,7 @@ use Rattle.sbp_laws.specs.Lists.{Orb, TakenStatus, lowest_vacant, orb, prepared_
 use Rattle.sbp_laws.specs.Terms.{appends, lists}
 use Rattle.sbp_world.proofs.Lists.Passing.{PassLaw}
 
-no : false ≡ true → ⊥
+pub no : false ≡ true → ⊥
 no e = cc
 
 pub record Stands (prepared : ℕ → Option Orb) (slot n k : ℕ) : Type 0 where

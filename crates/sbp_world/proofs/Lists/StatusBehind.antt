@@ -48,7 +48,7 @@ use Rattle.sbp_world.specs.Lists.Opens.{AreOpened}
 use Rattle.sbp_world.specs.Lists.Statuses.{TakenSo}
 use Rattle.sbp_world.proofs.Lists.Generations.{moment_generation}
 use Rattle.sbp_world.proofs.Lists.Joins.{Begins}
-use Rattle.sbp_world.proofs.Lists.OpenTurns.{AreSeated, up_state}
+use Rattle.sbp_world.proofs.Lists.OpenTurns.{AreSeated}
 use Rattle.sbp_world.proofs.Lists.Passing.{PassLaw}
 use Rattle.sbp_world.proofs.Lists.Rises.{Rises}
 use Rattle.sbp_world.proofs.Lists.StatusBytes.{written_at}
@@ -59,6 +59,7 @@ use Rattle.sbp_world.proofs.Lists.StatusTurn.{Up}
 use Rattle.sbp_world.proofs.Lists.Stays.{ready_now}
 use Rattle.sbp_world.proofs.Lists.Turns.{Ready}
 use Rattle.sbp_world.proofs.Common.{moment_joined}
+use Rattle.sbp_world.proofs.Hosts.Cores.{not_so as up_state}
 
 -- what is known of a history behind a turn, of an initiator
 pub record Later (wild : ℕ → Bool) (i : ℕ) (now : List Moment) : Type 0 where

@@ -33,11 +33,12 @@ use Rattle.sbp_world.specs.Lists.Opens.{AreOpened, IsPointedBy}
 use Rattle.sbp_world.specs.Lists.Places.{IsFirst}
 use Rattle.sbp_world.proofs.Lists.OpenFresh.{never_new, writes_of}
 use Rattle.sbp_world.proofs.Lists.OpenOwners.{CameFrom, came_from}
-use Rattle.sbp_world.proofs.Lists.OpenTurns.{listing_up, up_state}
+use Rattle.sbp_world.proofs.Lists.OpenTurns.{listing_up}
 use Rattle.sbp_world.proofs.Lists.OpenWorlds.{taken}
 use Rattle.sbp_world.proofs.Lists.Sites.{Site}
 use Rattle.sbp_world.proofs.Lists.StatusTurn.{Acting, Up}
 use Rattle.sbp_world.proofs.Lists.StatusUps.{AllCaught, generation_is, lives_access, lives_open, up_access, up_open}
+use Rattle.sbp_world.proofs.Hosts.Cores.{not_so as up_state}
 
 module _ (wild : ℕ → Bool) (i : ℕ) (own : wild i ≡ false) (units logins : ℕ) (has : 0 < units) (start : List Disk) {past : List Moment} {lines : ℕ} (w : WorldState) (h : Holding units logins start past lines w) (site : Site start past w) (inside : i < length w.initiators) (calm : IsCalm (hist past w) i) (lists : OpenLists (hist past w) w) (opened : AreOpened (hist past w) w) (caught : AllCaught (hist past w) w) (pointers : (j : ℕ) → j < length w.initiators → PointersAt (hist past w) j) (first : AreFirsts (hist past w) w) (here : IsHere (hist past w) w i) where
   abbrev ms : List Moment

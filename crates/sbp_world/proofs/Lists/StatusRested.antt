@@ -36,7 +36,7 @@ use Rattle.sbp_world.proofs.Lists.Executes.{asked_of}
 use Rattle.sbp_world.proofs.Lists.JoinLaws.{begins_after, begins_between}
 use Rattle.sbp_world.proofs.Lists.Joins.{Begins}
 use Rattle.sbp_world.proofs.Lists.OpenListed.{is_named}
-use Rattle.sbp_world.proofs.Lists.OpenTurns.{listing_up, up_state}
+use Rattle.sbp_world.proofs.Lists.OpenTurns.{listing_up}
 use Rattle.sbp_world.proofs.Lists.RunOutcomes.{AreAsked}
 use Rattle.sbp_world.proofs.Lists.StatusBehind.{AllFree, At, OwnAt, Then}
 use Rattle.sbp_world.proofs.Lists.StatusCall.{AreRested, rests_has}
@@ -53,6 +53,7 @@ use Rattle.sbp_world.proofs.Lists.Beside.{tame_or_few_before}
 use Rattle.sbp_world.proofs.Lists.TameWalks.{still_after, still_between}
 use Rattle.sbp_world.proofs.Lists.Walks.{Step, Walks}
 use Rattle.sbp_world.proofs.Common.{delivers}
+use Rattle.sbp_world.proofs.Hosts.Cores.{not_so as up_state}
 
 -- ---- what is known of every run at a place
 pub record Grounds (ms : List Moment) (w : WorldState) : Type 0 where

@@ -56,7 +56,7 @@ use Rattle.sbp_world.proofs.Lists.Generations.{moment_generation}
 use Rattle.sbp_world.proofs.Lists.OpenCuts.{Here, Listing, Open, is_up}
 use Rattle.sbp_world.proofs.Lists.OpenDeliveries.{Points, delivery_open, lapse_open}
 use Rattle.sbp_world.proofs.Lists.OpenPlaces.{Has}
-use Rattle.sbp_world.proofs.Lists.OpenTurns.{Before, sound, up_state, begins}
+use Rattle.sbp_world.proofs.Lists.OpenTurns.{Before, sound, begins}
 use Rattle.sbp_world.proofs.Lists.StatusCall.{Acting, AreRested, Ends, IsFirst, Started, call_held, ends_of, quiets, rests_up}
 use Rattle.sbp_world.proofs.Lists.StatusCalls.{delivery_called, lapse_called}
 use Rattle.sbp_world.proofs.Lists.StatusDue.{Ours, late_step_of, point_small, reply_step_of, ring_small}
@@ -79,6 +79,7 @@ use Rattle.sbp_world.proofs.Lists.StatusBehind.{At, Then, after_of, inside_then,
 use Rattle.sbp_world.proofs.Lists.StatusRests.{Resting, sees as rest_sees, ticks as rest_ticks}
 use Rattle.sbp_world.proofs.Lists.StatusSteps.{none_wrote}
 use Rattle.sbp_world.proofs.Pointers.Ages.{seen_now}
+use Rattle.sbp_world.proofs.Hosts.Cores.{not_so as up_state}
 
 -- ---- the first notes of turns of the target
 pub judged_first : (i serial : ℕ) (j : Judged) (H : List Moment) → IsFirst i (said (judged_note serial j)) H

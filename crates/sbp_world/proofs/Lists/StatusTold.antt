@@ -22,13 +22,12 @@ use Rattle.sbp_world.specs.Worlds.{WorldState}
 use Rattle.sbp_world.proofs.Agents.Management.Still.{hist}
 use Rattle.sbp_world.specs.Lists.SlotsStay.{HasSlot}
 use Rattle.sbp_world.specs.Lists.Statuses.{SentSo}
-use Rattle.sbp_world.proofs.Lists.Later.{joined}
 use Rattle.sbp_world.proofs.Lists.OpenPlaces.{opened_here}
 use Rattle.sbp_world.proofs.Lists.Passing.{PassLaw}
 use Rattle.sbp_world.proofs.Lists.StatusMoments.{HasTaken, ends_grow}
 use Rattle.sbp_world.proofs.Lists.StatusPackets.{AreOf, EndSide, IsOf, one_end, or_before, told_end}
 use Rattle.sbp_world.proofs.Lists.StatusSlots.{IsUnseen, slot_on}
-use Rattle.sbp_world.proofs.Common.{itself}
+use Rattle.sbp_world.proofs.Common.{itself, moments_joined as joined}
 use Rattle.sbp_world.proofs.Lists.EndTells.{both_none}
 
 pub opened_initiator : (places : List (Option Holder)) (q : ℕ) (list : Option ℕ) → (holder_at (opened_step q list places) q).initiator ≡ (holder_at places q).initiator

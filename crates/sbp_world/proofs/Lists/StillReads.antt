@@ -24,10 +24,10 @@ use Rattle.sbp_world.proofs.Agents.Management.Still.{hist}
 use Rattle.sbp_world.specs.Lists.Along.{AreAlong, GoesAlong}
 use Rattle.sbp_world.specs.Lists.Needs.{IsCalm, IsOpenAt, OpenLists, initiator_in, is_open_at, machine_at}
 use Rattle.sbp_world.specs.Lists.OrbNames.{IsNamedBrought, IsStillBrought}
-use Rattle.sbp_world.proofs.Lists.ManageTerms.{untrue}
 use Rattle.sbp_world.proofs.Lists.OrbSteps.{Reads, holds_read}
 use Rattle.sbp_world.proofs.Lists.Sites.{Site, named_prepared}
 use Rattle.sbp_world.proofs.Lists.KeptPhases.{kept_idle}
+use Rattle.sbp_world.proofs.Common.{untrue}
 
 -- of each agent that has a list open of an initiator that injected no packets
 abbrev pub AreStill : List Disk → List Moment → WorldState → Type 0

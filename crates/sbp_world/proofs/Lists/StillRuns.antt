@@ -24,7 +24,6 @@ use Rattle.sbp_world.proofs.Lists.Courses.{EveryPlace, Keeps, at_between, at_lin
 use Rattle.sbp_world.proofs.Lists.LedRuns.{led_as_got}
 use Rattle.sbp_world.proofs.Lists.LinedAppends.{lined_appends, lined_between}
 use Rattle.sbp_world.proofs.Lists.LiveRuns.{goes_tame_or_few}
-use Rattle.sbp_world.proofs.Lists.ManageTerms.{untrue}
 use Rattle.sbp_world.proofs.Lists.OpenProved.{opens_law, nobody_needs}
 use Rattle.sbp_world.proofs.Lists.OrbWaits.{asked_everywhere, brought_everywhere}
 use Rattle.sbp_world.proofs.Lists.RunLaws.{along_law, order_run_law}
@@ -32,6 +31,7 @@ use Rattle.sbp_world.proofs.Lists.RunSites.{site_after, site_between}
 use Rattle.sbp_world.proofs.Lists.Runs.{KeptAfter, holds_at, kept_after}
 use Rattle.sbp_world.proofs.Lists.StillReads.{AreStill}
 use Rattle.sbp_world.proofs.Lists.StillTurns.{Ground, turn_still}
+use Rattle.sbp_world.proofs.Common.{untrue}
 
 abbrev wilds : ℕ → Bool
 wilds = λ i. true

@@ -60,7 +60,7 @@ use Rattle.sbp_world.proofs.Lists.LedRuns.{got_just}
 use Rattle.sbp_world.proofs.Lists.LinedAppends.{AllLined, LinedAt}
 use Rattle.sbp_world.proofs.Lists.Lines.{acts}
 use Rattle.sbp_world.proofs.Lists.ManageSends.{opened_terms}
-use Rattle.sbp_world.proofs.Lists.ManageTerms.{none_is, untrue}
+use Rattle.sbp_world.proofs.Lists.ManageTerms.{none_is}
 use Rattle.sbp_world.proofs.Lists.OpenTurns.{listing_up}
 use Rattle.sbp_world.proofs.Lists.OrbFolds.{AreReading, over_reads}
 use Rattle.sbp_world.proofs.Lists.OrbNotes.{GotBrings}
@@ -73,6 +73,7 @@ use Rattle.sbp_world.proofs.Lists.Sites.{Site, waiting}
 use Rattle.sbp_world.proofs.Lists.StillReads.{AreStill, IsHad, ahead_name, had_still, main_name, named_over, o, still_had}
 use Rattle.sbp_world.proofs.Lists.TurnReads.{Course, Gets, delivery_course, line_course, turn_over}
 use Rattle.sbp_world.proofs.Hosts.Hands.{line_stays as event_behind}
+use Rattle.sbp_world.proofs.Common.{untrue}
 
 -- ---- what is known of a place
 pub record Ground (start : List Disk) (ms : List Moment) (w : WorldState) : Type 0 where

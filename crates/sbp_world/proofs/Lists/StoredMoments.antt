@@ -21,12 +21,13 @@ use Rattle.sbp_world.specs.Lists.Stored.{Begins}
 use Rattle.sbp_world.proofs.Lists.BufferGets.{IsRead, read_of}
 use Rattle.sbp_world.proofs.Lists.BufferStores.{IsStoring, Stores, got_stores, note_same, nothing, stores}
 use Rattle.sbp_world.proofs.Lists.ManageGot.{IsWriting, writing_in}
-use Rattle.sbp_world.proofs.Lists.ManageTerms.{none_is, untrue}
+use Rattle.sbp_world.proofs.Lists.ManageTerms.{none_is}
 use Rattle.sbp_world.proofs.Lists.OpenedAside as aside
 use Rattle.sbp_world.proofs.Lists.Quiet.{IsQuiet}
 use Rattle.sbp_world.proofs.Lists.ServedTerms.{ignored_served, quiet_served}
 use Rattle.sbp_world.proofs.Lists.OrbFifos.{high_window}
 use Rattle.sbp_world.proofs.Lists.SlotShut.{IsApartTo}
+use Rattle.sbp_world.proofs.Common.{untrue}
 
 -- ---- a buffer
 set_there : {A : Type 0} (xs : List A) (k : ℕ) (x d : A) → k < length xs → slice_index_or (slice_set xs k x) k d ≡ x

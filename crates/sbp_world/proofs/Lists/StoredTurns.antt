@@ -56,12 +56,13 @@ use Rattle.sbp_world.proofs.Lists.LiveTaken.{IsOwnHandled, handled_open}
 use Rattle.sbp_world.proofs.Lists.ManageGot.{writing_in}
 use Rattle.sbp_world.proofs.Lists.ManageKnown.{write_of}
 use Rattle.sbp_world.proofs.Lists.ManageOwn.{AtHost, at_host}
-use Rattle.sbp_world.proofs.Lists.ManageTerms.{none_is, same_some, untrue}
+use Rattle.sbp_world.proofs.Lists.ManageTerms.{none_is, same_some}
 use Rattle.sbp_world.proofs.Lists.OrbsHeard.{asked_by_it, manages_is, served_once}
 use Rattle.sbp_world.proofs.Lists.OrbsInPlace.{IsRequest, of_request}
 use Rattle.sbp_world.proofs.Lists.ReplyTurns.{asks_it}
 use Rattle.sbp_world.proofs.Lists.ResponsePackets.{response_packet}
 use Rattle.sbp_world.proofs.Lists.BufferTurns.{place_small}
+use Rattle.sbp_world.proofs.Common.{untrue}
 
 -- ---- a login response is read at the front of bytes
 number_front : (out rest : List ℕ) → 4 ≤ length out → big_number 4 (out ++ rest) ≡ big_number 4 out

@@ -33,9 +33,10 @@ use Rattle.sbp_world.proofs.Lists.Running.{ends_with, later_unrun, none_ran, run
 use Rattle.sbp_world.specs.Lists.Along.{GoesAlong}
 use Rattle.sbp_world.proofs.Lists.Later.{had_next}
 use Rattle.sbp_world.proofs.Lists.Passing.{PassLaw, EndsNext, GoesOn, HasRun}
-use Rattle.sbp_world.proofs.Lists.Named.{IsTurn, as_read, ended_more, ended_other, no, order_ended, order_ran}
+use Rattle.sbp_world.proofs.Lists.Named.{IsTurn, as_read, ended_more, ended_other, order_ended, order_ran}
 use Rattle.sbp_world.proofs.Lists.StatusLosses.{present_is}
 use Rattle.sbp_world.proofs.Lists.OpenedCauses.{either as or_left, or_else}
+use Rattle.sbp_world.proofs.Lists.Stands.{no}
 
 -- what is known of the agent of a place, by who has it
 abbrev pub AgentAt : (ℕ → Bool) → List Moment → Holder → Machine → Type 0

@@ -36,9 +36,9 @@ use Rattle.sbp_world.proofs.Hosts.PointSees.{see_left}
 use Rattle.sbp_world.proofs.Hosts.Remaining.{gets_same, ignores_that_same, times_out_same}
 use Rattle.sbp_world.proofs.Hosts.SentMoments.{sending as sending_of, sent_now}
 use Rattle.sbp_world.proofs.Lists.Extends.{marked_fresh}
-use Rattle.sbp_world.proofs.Lists.Gots.{split}
 use Rattle.sbp_world.proofs.Lists.LiveTold.{AllAway, AwayFrom, IsAway, IsOwnPacket, hands_told, judged_away, none_told, one_told, posted_told}
 use Rattle.sbp_world.proofs.Lists.TurnCalls.{NoneSent}
+use Rattle.sbp_world.proofs.Common.{said_split as split}
 
 -- ---- notes that are none of the target
 module _ (i own : ℕ) (kept : List Kept) (serial : ℕ) (sending : Sending) (zero_from : sending.from ≡ 0) where

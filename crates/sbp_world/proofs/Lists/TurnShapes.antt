@@ -14,9 +14,9 @@ use Rattle.sbp_world.specs.Worlds.{Scene, begun, without_notes}
 use Rattle.sbp_world.specs.Hosts.Runs.{more_deliveries}
 use Rattle.sbp_world.proofs.Agents.Management.Still.{hist}
 use Rattle.sbp_world.proofs.Lists.Courses.{Goes, by_delivery, by_end, by_line, by_start}
-use Rattle.sbp_world.proofs.Lists.Gots.{split}
 use Rattle.sbp_world.proofs.Lists.SendsLast.{AllEffects, AllSends, Hands, Hears, IsStart, Shaped, acts, begins, delivery_hears, goes, hears, injects, keys, late, led, loses, one_comes, resets, sights, ticks, unheard}
 use Rattle.sbp_world.proofs.Lists.Turned.{IsOne}
+use Rattle.sbp_world.proofs.Common.{said_split as split}
 
 -- effects and packets behind some moments
 pub record Behind (base now : List Moment) : Type 0 where

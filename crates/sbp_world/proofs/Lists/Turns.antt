@@ -53,11 +53,11 @@ use Rattle.sbp_world.proofs.Lists.Lists.{laid}
 use Rattle.sbp_world.proofs.Lists.Looks.{Looks, kept_looks, looks_as}
 use Rattle.sbp_world.proofs.Lists.Presents.{lost_presents, replied_presents}
 use Rattle.sbp_world.proofs.Lists.Running.{as_run}
-use Rattle.sbp_world.proofs.Lists.Named.{no}
 use Rattle.sbp_world.proofs.Lists.Later.{had_next}
 use Rattle.sbp_world.specs.Lists.CutLists.{WasHad}
 use Rattle.sbp_world.proofs.Lists.Told.{AgentOn, Apart, Due, ListAt, Own}
 use Rattle.sbp_world.proofs.Lists.Passing.{PassLaw, GoesOn}
+use Rattle.sbp_world.proofs.Lists.Stands.{no}
 
 -- ---- the first note of a turn: the terms of the lists do not read it
 pub data First : Note → Type 0 where

@@ -21,12 +21,10 @@ use Rattle.sbp_laws.specs.Packets.{answer_in, answered_at, packet_at, receiver_i
 use Rattle.sbp_laws.specs.Turns.{event_of}
 use Rattle.sbp_world.proofs.Hosts.Carries.{IsNoAct}
 use Rattle.sbp_world.proofs.Hosts.Cores.{wire_is}
-use Rattle.sbp_world.proofs.Hosts.Prepares.{itself}
 use Rattle.sbp_world.proofs.Sessions.PlaceNotes.{is_packet}
 use Rattle.sbp_world.specs.Lists.Underway.{IsSame}
-use Rattle.sbp_world.proofs.Sessions.Buffers.{untrue}
 use Rattle.sbp_world.proofs.Lists.ManageFirsts.{pointer_operation}
-use Rattle.sbp_world.proofs.Common.{none_is}
+use Rattle.sbp_world.proofs.Common.{none_is, untrue, itself}
 
 -- ---- two hosts, one behind the other
 

@@ -18,13 +18,12 @@ use Rattle.sbp_laws.specs.Lists.{present_list}
 use Rattle.sbp_laws.specs.Served.{is_own, management_orb_of, place_held, place_written}
 use Rattle.sbp_laws.specs.Turns.{EachMoment, event_of}
 use Rattle.sbp_world.proofs.Hosts.Carries.{IsNoAct}
-use Rattle.sbp_world.proofs.Hosts.Prepares.{itself}
 use Rattle.sbp_world.proofs.Hosts.Remaining.{remains, serials_behind}
 use Rattle.sbp_world.proofs.Hosts.SentMoments.{count_now, serials_from}
 use Rattle.sbp_world.proofs.Sessions.PlaceNotes.{is_packet, note_places, sent_places}
 use Rattle.sbp_world.specs.Lists.Underway.{AreUnderway, IsSame, IsUnderway, OperationsLast, WasUnderway, underway_orb}
 use Rattle.sbp_world.proofs.Lists.UnderwayHosts.{Acts, Had, action_acts, begins, carries_on, note_keeps, same_self, same_then, sent_keeps}
-use Rattle.sbp_world.proofs.Common.{none_is}
+use Rattle.sbp_world.proofs.Common.{none_is, itself}
 
 -- ---- what an initiator sends for its actions
 

@@ -12,7 +12,6 @@ use Rattle.sbp_initiator.specs.declared.state.InitiatorState.{InitiatorState}
 use Rattle.sbp_journal.specs.Outgoings.{empty_outbox}
 use Rattle.sbp_journal.specs.Run.{Moment, asked, said}
 use Rattle.sbp_journal.specs.Wire.{terms}
-use Rattle.sbp_journal.specs.declared.cause.Judged.TheVariants as judgements
 use Rattle.sbp_journal.specs.declared.event.Action.{Action}
 use Rattle.sbp_journal.specs.declared.event.Event.{Event}
 use Rattle.sbp_journal.specs.declared.event.Event.TheVariants as events
@@ -37,13 +36,12 @@ use Rattle.sbp_world.proofs.Hosts.Lasting.{Lasting, first_lasting, lasting_carri
 use Rattle.sbp_world.proofs.Hosts.Layered.{AreTame, expire_left, is_tame, receive_left}
 use Rattle.sbp_world.proofs.Hosts.OrbRuns.{Rowed, rows_known}
 use Rattle.sbp_world.proofs.Hosts.PointSees.{see_left}
-use Rattle.sbp_world.proofs.Hosts.Prepares.{itself}
 use Rattle.sbp_world.proofs.Hosts.Remaining.{serials}
-use Rattle.sbp_world.proofs.Sessions.PlaceNotes.{is_packet}
+use Rattle.sbp_world.proofs.Sessions.PlaceNotes.{is_packet, tame_packet}
 use Rattle.sbp_world.specs.Lists.Underway.{UnderwayLaw}
 use Rattle.sbp_world.proofs.Lists.UnderwayMoments.{RequestsAt, operations_last}
-use Rattle.sbp_world.proofs.Sessions.Buffers.{untrue}
 use Rattle.sbp_world.proofs.Sessions.PlaceRuns.{judged_packet}
+use Rattle.sbp_world.proofs.Common.{untrue, itself}
 
 abbrev Each : ℕ → List Moment → Type 0
 Each i past = EachMoment (RequestsAt i) past
@@ -53,10 +51,6 @@ Each i past = EachMoment (RequestsAt i) past
 plain : (note : Note) (past : List Moment) (i : ℕ) → is_packet note ≡ false → RequestsAt i (said note) past
 plain (notes.Sent serial generation from to bytes) past i e = untrue (sym e)
 plain _ past i e = tt
-
-tame_plain : (note : Note) → is_tame note ≡ true → is_packet note ≡ false
-tame_plain (notes.Sent serial generation from to bytes) e = untrue e
-tame_plain _ e = refl
 
 apart : (note : Note) (past : List Moment) (i : ℕ) → is_apart i note ≡ true → RequestsAt i (said note) past
 apart (notes.Sent serial generation from to bytes) past i e = λ f action line. untrue (not_there from i e f)
@@ -73,7 +67,7 @@ quiet serial generation from to bytes past i n = λ f action line. untrue (no_li
 
 told_each : (told : List Side) (past : List Moment) (i : ℕ) → AreTame told → Each i past → Each i (behind told past)
 told_each [] past i t h = h
-told_each (sides.Own note ∷ later) past i t h = told_each later (said note ∷ past) i t.1 (plain note past i (tame_plain note t.0), h)
+told_each (sides.Own note ∷ later) past i t h = told_each later (said note ∷ past) i t.1 (plain note past i (tame_packet note t.0), h)
 told_each (_ ∷ later) past i t h = absurd t.0
 
 -- ---- what the lines of a run carry on

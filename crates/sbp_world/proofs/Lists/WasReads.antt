@@ -31,9 +31,10 @@ use Rattle.sbp_world.specs.Lists.OrbReads.{AnswersAt, IsBrought, SentAsGot}
 use Rattle.sbp_world.specs.Lists.SentReads.{AreSentBehind}
 use Rattle.sbp_world.proofs.Lists.Calm.{injects_before}
 use Rattle.sbp_world.proofs.Lists.Slots.{orb_slot}
-use Rattle.sbp_world.proofs.Lists.ManageTerms.{same_some, untrue}
+use Rattle.sbp_world.proofs.Lists.ManageTerms.{same_some}
 use Rattle.sbp_world.proofs.Lists.BufferGets.{fair_back}
 use Rattle.sbp_world.proofs.Lists.StatusLogins.{each_there}
+use Rattle.sbp_world.proofs.Common.{untrue}
 
 -- ---- a packet that was got was got
 got_on : (note : Note) (past : List Moment) (r : ℕ) → was_got past r ≡ true → was_got (said note ∷ past) r ≡ true

@@ -22,8 +22,8 @@ use Rattle.sbp_world.specs.Hosts.Rows.{present_in}
 use Rattle.sbp_world.specs.Hosts.Worlds.{IsHost}
 use Rattle.sbp_world.proofs.Hosts.Acts.{act_left}
 use Rattle.sbp_world.proofs.Hosts.Liners.{host_listed, number_call}
-use Rattle.sbp_world.proofs.Pointers.Ages.{untrue}
 use Rattle.sbp_world.proofs.Pointers.Showing.{IsShowing}
+use Rattle.sbp_world.proofs.Common.{untrue}
 
 pinned_by : (r : Result (Unit {0}) ListFault) (slots : SlotTable) (t : TicketParts) → (pin_at r slots t).1.present ≡ slots.present
 pinned_by (Err fault) slots t = refl

@@ -27,8 +27,7 @@ use Rattle.sbp_initiator.proofs.Histories.Actions.{Allowed, allowed}
 use Rattle.sbp_world.specs.Hosts.Core.{session_in}
 use Rattle.sbp_world.proofs.Hosts.Requested.{done_sends}
 use Rattle.sbp_world.specs.Pointers.Moments.{managed_write, manages, register_write}
-use Rattle.sbp_world.proofs.Pointers.Ages.{untrue}
-use Rattle.sbp_world.proofs.Common.{some_none, none_is}
+use Rattle.sbp_world.proofs.Common.{some_none, none_is, untrue}
 
 -- ---- which action was judged so
 

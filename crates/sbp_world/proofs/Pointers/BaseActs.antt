@@ -58,7 +58,6 @@ use Rattle.sbp_world.specs.Pointers.Bases.{AreUnrefused, is_seated, register_rea
 use Rattle.sbp_world.specs.Pointers.Moments.{IsResetting, is_state, names_answered, own_action, pointer_write, register_write, state_list}
 use Rattle.sbp_world.specs.Pointers.Pointers.{list_if, pointed_list}
 use Rattle.sbp_world.proofs.Pointers.ActShows.{act_showing}
-use Rattle.sbp_world.proofs.Pointers.Ages.{untrue}
 use Rattle.sbp_world.proofs.Pointers.Asks.{act_allowed, act_bytes, asks_for, live_session, ring_list, ring_wanted, ringing}
 use Rattle.sbp_world.proofs.Pointers.BaseSeats.{live_seated, seated_live}
 use Rattle.sbp_world.proofs.Pointers.BaseSteps.{act_carried, is_behind}
@@ -71,7 +70,7 @@ use Rattle.sbp_world.proofs.Pointers.Resetting.{asked_host, resetting_back, told
 use Rattle.sbp_world.proofs.Pointers.Sending.{names}
 use Rattle.sbp_world.proofs.Pointers.Steps.{ToldAs, append, append_present, links, links_still, silent, told_as}
 use Rattle.sbp_world.proofs.Pointers.Waits.{state_told}
-use Rattle.sbp_world.proofs.Common.{itself, cond_off, cond_on}
+use Rattle.sbp_world.proofs.Common.{itself, cond_off, cond_on, untrue}
 use Rattle.sbp_world.proofs.Pointers.Naming.{none_some}
 use Rattle.sbp_world.proofs.Pointers.Writing.{absurd_below}
 use Rattle.sbp_world.proofs.Hosts.PointActs.{has_list}

@@ -18,9 +18,9 @@ use Rattle.sbp_session.specs.declared.seat.Seat.TheVariants as seats
 use Rattle.sbp_world.specs.Hosts.Core.{session_in}
 use Rattle.sbp_world.proofs.Hosts.Knowing.{Sits}
 use Rattle.sbp_world.specs.Pointers.Bases.{is_seated}
-use Rattle.sbp_world.proofs.Pointers.Ages.{untrue}
 use Rattle.sbp_world.proofs.Pointers.Walks.{is_kept}
 use Rattle.sbp_world.proofs.Lists.Bases.{seated}
+use Rattle.sbp_world.proofs.Common.{untrue}
 
 -- ---- the response stays
 

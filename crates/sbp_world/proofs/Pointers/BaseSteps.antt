@@ -35,11 +35,11 @@ use Rattle.sbp_world.proofs.Hosts.PointerNotes.{pointer}
 use Rattle.sbp_world.proofs.Hosts.Remaining.{serials_behind}
 use Rattle.sbp_world.specs.Pointers.Moments.{MayStand, is_answered, is_state, names_answered, own_action, state_list}
 use Rattle.sbp_world.specs.Pointers.Pointers.{pointed_list}
-use Rattle.sbp_world.proofs.Pointers.Ages.{moment_closes, untrue}
+use Rattle.sbp_world.proofs.Pointers.Ages.{moment_closes}
 use Rattle.sbp_world.proofs.Pointers.BaseSeats.{kept_carried}
 use Rattle.sbp_world.proofs.Pointers.Naming.{Naming, none_some}
 use Rattle.sbp_world.proofs.Pointers.Sending.{names, sent_behind}
-use Rattle.sbp_world.proofs.Common.{cond_off}
+use Rattle.sbp_world.proofs.Common.{cond_off, untrue}
 
 -- ---- the response that is carried
 

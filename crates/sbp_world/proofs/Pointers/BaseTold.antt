@@ -26,11 +26,11 @@ use Rattle.sbp_world.proofs.Hosts.PointerNotes.{pointer}
 use Rattle.sbp_world.specs.Pointers.Bases.{AreUnrefused, is_refusal}
 use Rattle.sbp_world.specs.Pointers.Moments.{is_state, names_answered, own_action, state_list}
 use Rattle.sbp_world.specs.Pointers.Pointers.{list_if, pointed_list}
-use Rattle.sbp_world.proofs.Pointers.Ages.{untrue}
 use Rattle.sbp_world.proofs.Pointers.Resetting.{told_fades}
 use Rattle.sbp_world.proofs.Pointers.Naming.{none_some}
 use Rattle.sbp_world.proofs.Pointers.Showing.{neither}
 use Rattle.sbp_world.proofs.Pointers.Waits.{other}
+use Rattle.sbp_world.proofs.Common.{untrue}
 
 both : (a b : Bool) → a ≡ false → b ≡ false → (a || b) ≡ false
 both true b e f = untrue (sym e)

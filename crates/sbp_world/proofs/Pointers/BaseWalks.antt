@@ -27,12 +27,11 @@ use Rattle.sbp_session.specs.declared.seat.Seat.{Seat}
 use Rattle.sbp_world.specs.Hosts.Core.{operation_by, session_in, work_in}
 use Rattle.sbp_world.proofs.Hosts.Knowing.{Sits}
 use Rattle.sbp_world.specs.Pointers.Bases.{is_refusal, is_seated}
-use Rattle.sbp_world.proofs.Pointers.Ages.{untrue}
 use Rattle.sbp_world.proofs.Pointers.BaseSeats.{is_logout, is_reset_seen, kept_carried, kept_seated, moved_stays}
 use Rattle.sbp_world.proofs.Pointers.BaseTold.{closes_of, front_unclosed, front_unrefused, is_end, last_unclosed, last_unrefused, refuses_of}
 use Rattle.sbp_world.proofs.Pointers.PendHears.{SameList}
 use Rattle.sbp_world.proofs.Pointers.Walks.{expires, is_drop_note, is_kept, receives, unpin_same}
-use Rattle.sbp_world.proofs.Common.{itself}
+use Rattle.sbp_world.proofs.Common.{itself, untrue}
 
 -- a session that has a list, and the response that it carried before
 pub record Keeps (old now : Seat) : Type 0 where

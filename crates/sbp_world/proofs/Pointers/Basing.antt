@@ -12,7 +12,6 @@ use Rattle.sbp_journal.specs.Outgoings.{empty_outbox}
 use Rattle.sbp_journal.specs.Run.{Moment, asked, said}
 use Rattle.sbp_journal.specs.Transactions.{Sending}
 use Rattle.sbp_journal.specs.Wire.{Terms, terms}
-use Rattle.sbp_journal.specs.declared.cause.Judged.TheVariants as judgements
 use Rattle.sbp_journal.specs.declared.event.Event.{Event}
 use Rattle.sbp_journal.specs.declared.note.Note.{Note}
 use Rattle.sbp_journal.specs.declared.note.Note.TheVariants as notes
@@ -37,7 +36,6 @@ use Rattle.sbp_world.proofs.Hosts.Shown.{IsElsewhere, IsHeard, IsShown}
 use Rattle.sbp_world.specs.Pointers.Bases.{AreUnrefused, is_seated, register_read}
 use Rattle.sbp_world.specs.Pointers.Moments.{IsResetting, pointer_write, register_write, state_list}
 use Rattle.sbp_world.specs.Pointers.Pointers.{pointed_list}
-use Rattle.sbp_world.proofs.Pointers.Ages.{untrue}
 use Rattle.sbp_world.proofs.Pointers.BaseTold.{apart_pointed, closes_of, judged_pointed, judged_unrefused, pointed_told, refuses_of, sent_pointed, sent_state, unclosed_told, unrefused_told, so_none}
 use Rattle.sbp_world.proofs.Pointers.BaseWalks.{Keeps, expire_sits, expire_steady, receive_sits, receive_steady}
 use Rattle.sbp_world.proofs.Pointers.Guarded.{Guarded}
@@ -50,6 +48,7 @@ use Rattle.sbp_world.proofs.Pointers.Waits.{judged_count, judged_state, state_ap
 use Rattle.sbp_world.proofs.Pointers.Sending.{not_new}
 use Rattle.sbp_world.proofs.Hosts.Pointed.{judged_fit}
 use Rattle.sbp_world.proofs.Hosts.Knows.{seen_flag as flag_is}
+use Rattle.sbp_world.proofs.Common.{untrue, least}
 
 -- ---- what is carried on
 
@@ -106,9 +105,6 @@ module _ (past now : List Moment) (i : ℕ) (sent_same : (n : ℕ) → n ≤ (te
       reset = λ serial r response c. requested_on serial (register_write response.agent 0x04) (h.reset serial (back serial r) response (sym (steady serial r) ∙ c));
       states = λ u n serial l p response c. requested_on serial (register_read response.agent 0x00) (h.states (unrefused u) n serial (lists n l) (stated serial n p) response (sym (same u (list_some x.lists.slots.present n l)) ∙ c));
     }
-
-least : (a b : ℕ) → b ≡ a → a ≤ b
-least a b e = omega arith
 
 at_most : (a b c : ℕ) → a ≤ b → c ≡ b → a ≤ c
 at_most a b c l e = omega arith

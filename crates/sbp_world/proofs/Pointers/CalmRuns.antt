@@ -31,8 +31,8 @@ use Rattle.sbp_world.proofs.Wire.ToldBytes.{AreTold, happened_fits}
 use Rattle.sbp_world.specs.Hosts.Handing.{history}
 use Rattle.sbp_world.specs.Hosts.Runs.{IsRun, more_deliveries}
 use Rattle.sbp_world.proofs.Hosts.Runs.{are_told}
-use Rattle.sbp_world.proofs.Pointers.Ages.{untrue}
 use Rattle.sbp_world.proofs.Pointers.Calms.{AllCalm, IsCalm, acts_calm, delivers_calm, line_expires, line_sees, ticks}
+use Rattle.sbp_world.proofs.Common.{untrue}
 
 -- ---- deliveries
 

@@ -56,8 +56,8 @@ use Rattle.sbp_world.proofs.Hosts.Layered.{AreTame, expire_left, is_tame, receiv
 use Rattle.sbp_world.proofs.Hosts.Liners.{own_notes}
 use Rattle.sbp_world.proofs.Hosts.PointSees.{see_left}
 use Rattle.sbp_world.proofs.Hosts.TargetTells as target_tell
-use Rattle.sbp_world.proofs.Pointers.Ages.{untrue}
 use Rattle.sbp_world.proofs.Pointers.Quiet.{AreQuiet, IsQuiet, expire_quiet, receive_quiet, see_quiet}
+use Rattle.sbp_world.proofs.Common.{untrue}
 
 abbrev pub Calm : Moment → List Moment → Type 0
 Calm (said (notes.Sent serial generation from to bytes)) past = (i : ℕ) → from ≡ suc i → (terms past).injected serial ≡ false → IsNoAct i (event_of past) → IsQuiet bytes

@@ -46,7 +46,7 @@ use Rattle.sbp_initiator.specs.Refusals.{ends_list}
 use Rattle.sbp_initiator.specs.Seeing.{all_end, interrupted, reset_told, resets_told, see_step, seen_as, states_end}
 use Rattle.sbp_initiator.specs.States.{counts_for, ending_of, is_orb_of, operation_in, status_in}
 use Rattle.sbp_initiator.specs.Histories.Drops.{ends_the_list}
-use Rattle.sbp_world.proofs.Pointers.Ages.{untrue}
+use Rattle.sbp_world.proofs.Common.{untrue}
 
 -- ---- a drop of the list of an initiator
 

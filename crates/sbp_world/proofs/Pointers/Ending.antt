@@ -37,7 +37,7 @@ use Rattle.sbp_world.proofs.Hosts.Cores.{got_told}
 use Rattle.sbp_world.proofs.Hosts.Pointing.{called_of, pointing_of, under_way_now}
 use Rattle.sbp_world.proofs.Hosts.Shown.{IsHeard, IsShown}
 use Rattle.sbp_world.specs.Pointers.Moments.{Answers, MayEnd, by_reset, by_state, by_status, is_cutting, turn_of}
-use Rattle.sbp_world.proofs.Pointers.Ages.{got_closes, untrue}
+use Rattle.sbp_world.proofs.Pointers.Ages.{got_closes}
 use Rattle.sbp_world.proofs.Pointers.Waits.{AskedFor, Asks, is_cared}
 use Rattle.sbp_world.proofs.Pointers.Dropping.{drops_of, may_drop, receive_drops}
 use Rattle.sbp_world.proofs.Pointers.Finds.{closed_over, closes_at, reset_ends}
@@ -47,6 +47,7 @@ use Rattle.sbp_world.proofs.Pointers.Resetting.{Resets, made_reset}
 use Rattle.sbp_world.proofs.Pointers.Showing.{IsShowing}
 use Rattle.sbp_world.proofs.Pointers.Statuses.{GotOr, no_drop, request_got, was_got}
 use Rattle.sbp_world.proofs.Pointers.WaitActs.{made_state as makes_state}
+use Rattle.sbp_world.proofs.Common.{untrue}
 
 pub other_number : (i j number : ℕ) → number ≡ i → (j == i) ≡ false → (number == j) ≡ false
 other_number i j number e f = grind (arith, nat_tests)

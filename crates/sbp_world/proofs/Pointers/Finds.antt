@@ -24,9 +24,9 @@ use Rattle.sbp_initiator.specs.Histories.Pointing.{IsReset, PointingAfter, Under
 use Rattle.sbp_initiator.proofs.Histories.Lives.{of_same}
 use Rattle.sbp_initiator.proofs.Histories.Purposes.{kind_in}
 use Rattle.sbp_world.proofs.Hosts.Lives.{At, Called, at_life}
-use Rattle.sbp_world.proofs.Pointers.Ages.{untrue}
 use Rattle.sbp_world.proofs.Pointers.Pends.{IfEnding, Pend}
 use Rattle.sbp_world.proofs.Pointers.PendHears.{Ending, IfClosed, IfExpired}
+use Rattle.sbp_world.proofs.Common.{untrue}
 
 -- ---- it was under way
 

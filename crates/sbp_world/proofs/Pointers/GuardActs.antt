@@ -31,13 +31,13 @@ use Rattle.sbp_world.specs.Hosts.Rows.{present_in}
 use Rattle.sbp_world.proofs.Hosts.Appends.{lowest_is}
 use Rattle.sbp_world.proofs.Hosts.Readings.{read_law}
 use Rattle.sbp_world.specs.Pointers.Moments.{MayAppend, is_cutting}
-use Rattle.sbp_world.proofs.Pointers.Ages.{untrue}
 use Rattle.sbp_world.proofs.Pointers.Guarded.{firsts}
 use Rattle.sbp_world.proofs.Pointers.Passing.{Stand}
 use Rattle.sbp_world.proofs.Pointers.PendActs.{Places}
 use Rattle.sbp_world.proofs.Pointers.Pends.{Pend}
 use Rattle.sbp_world.proofs.Pointers.Steps.{AreLinks, ToldAs, append, append_operation, append_present, append_session, append_slot, links, links_stand, links_still, silent, told_as}
 use Rattle.sbp_world.proofs.Hosts.Hosted.{working, worked, cuts_same}
+use Rattle.sbp_world.proofs.Common.{untrue}
 
 -- ---- the operation under way
 

@@ -54,7 +54,7 @@ use Rattle.sbp_world.proofs.Hosts.Pointing.{asked_generation, called_of, wrote_i
 use Rattle.sbp_world.proofs.Hosts.Shown.{IsShown}
 use Rattle.sbp_world.proofs.Hosts.Telling.{action_law}
 use Rattle.sbp_world.specs.Pointers.Moments.{MayPoint, is_answered as is_answered_at, names_answered, MaySend, MayWrite, NonePoints, pointer_write, writes_bell, writes_enable, writes_management, writes_pointer, writes_reset}
-use Rattle.sbp_world.proofs.Pointers.Ages.{moment_closes, moment_generation, untrue}
+use Rattle.sbp_world.proofs.Pointers.Ages.{moment_closes, moment_generation}
 use Rattle.sbp_world.proofs.Pointers.Asks.{Asking, Cutting, act_allowed, act_bytes, asked_write, asks_enable, asks_for, asks_management, asks_reset, asks_ring, cutting, live_session, ring_list, ring_rings, ring_wanted, ringing}
 use Rattle.sbp_world.proofs.Pointers.GuardActs.{Told, action_told, cutting_is, none_underway}
 use Rattle.sbp_world.proofs.Pointers.GuardHears.{answered_split}
@@ -69,6 +69,7 @@ use Rattle.sbp_world.proofs.Pointers.WaitActs.{asking_asks, counts_now}
 use Rattle.sbp_world.proofs.Pointers.Waits.{Asks, counted_in, told_asks}
 use Rattle.sbp_world.proofs.Pointers.Steps.{ToldAs, told_apart, told_as, told_left}
 use Rattle.sbp_world.proofs.Hosts.PointActs.{has_list, named_on}
+use Rattle.sbp_world.proofs.Common.{untrue}
 
 -- What is known of an initiator as a line begins: the run terms are its rows, and what an action asks for is spelled in the bytes of its request.
 pub record Ready (past : List Moment) (i : ℕ) (s : InitiatorState) : Type 0 where

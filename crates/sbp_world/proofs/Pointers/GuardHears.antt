@@ -33,7 +33,6 @@ use Rattle.sbp_world.proofs.Hosts.PointerNotes.{Fit, pointer, tame_told}
 use Rattle.sbp_world.proofs.Hosts.Pointing.{called_of, pointing_of, wrote_is}
 use Rattle.sbp_world.proofs.Hosts.Shown.{IsHeard, IsShown}
 use Rattle.sbp_world.specs.Pointers.Moments.{MayDrop, MayEnd, NonePoints, turn_of}
-use Rattle.sbp_world.proofs.Pointers.Ages.{untrue}
 use Rattle.sbp_world.proofs.Pointers.Dropping.{drops_of, expire_drops, receive_drops}
 use Rattle.sbp_world.proofs.Pointers.Ending.{heard_ends, other_number}
 use Rattle.sbp_world.proofs.Pointers.Finds.{alone, if_closed, if_expired, is_pended, loosened, stayed}
@@ -45,6 +44,7 @@ use Rattle.sbp_world.proofs.Pointers.PendHears.{expire_pends, receive_pends}
 use Rattle.sbp_world.proofs.Pointers.Resetting.{ended_resets, judged_fades, note_fades, told_fades}
 use Rattle.sbp_world.proofs.Pointers.Showing.{expire_lasts, judged_present, lasts_showing, receive_lasts}
 use Rattle.sbp_world.proofs.Hosts.Knows.{seen_flag}
+use Rattle.sbp_world.proofs.Common.{untrue}
 
 -- ---- what counts as answered behind a call
 

@@ -21,7 +21,7 @@ use Rattle.sbp_world.proofs.Hosts.PointerNotes.{Fit, pointer, seen_fades_now, ta
 use Rattle.sbp_world.proofs.Hosts.PointSees.{see_left}
 use Rattle.sbp_world.proofs.Hosts.Pointing.{wrote_is}
 use Rattle.sbp_world.specs.Pointers.Moments.{MayDrop, by_sight}
-use Rattle.sbp_world.proofs.Pointers.Ages.{moment_closes, seen_now, untrue}
+use Rattle.sbp_world.proofs.Pointers.Ages.{moment_closes, seen_now}
 use Rattle.sbp_world.proofs.Pointers.GuardHears.{SawAs, anew, as_before, saw}
 use Rattle.sbp_world.proofs.Pointers.Dropping.{drops_of, see_drops}
 use Rattle.sbp_world.proofs.Pointers.WaitActs.{seen_asks}
@@ -31,6 +31,7 @@ use Rattle.sbp_world.proofs.Pointers.PendHears.{see_pends}
 use Rattle.sbp_world.proofs.Pointers.Resetting.{seen_resets}
 use Rattle.sbp_world.proofs.Pointers.Showing.{see_showing}
 use Rattle.sbp_world.proofs.Hosts.Knows.{seen_flag as flag_is}
+use Rattle.sbp_world.proofs.Common.{untrue}
 
 module _ (ready : Bool) (generation : ℕ) (past : List Moment) (i : ℕ) (s : InitiatorState) (h : Guarded ready past i s) where
   abbrev now : List Moment

@@ -40,7 +40,7 @@ use Rattle.sbp_world.proofs.Hosts.PointerNotes.{Fit, tame_told}
 use Rattle.sbp_world.proofs.Hosts.Pointing.{Points, asked_generation, called_of, under_way_now}
 use Rattle.sbp_world.proofs.Hosts.Shown.{IsShown}
 use Rattle.sbp_world.specs.Pointers.Moments.{NonePoints}
-use Rattle.sbp_world.proofs.Pointers.Ages.{got_closes, untrue}
+use Rattle.sbp_world.proofs.Pointers.Ages.{got_closes}
 use Rattle.sbp_world.proofs.Pointers.Dropping.{drops_of}
 use Rattle.sbp_world.proofs.Pointers.Finds.{closes_at, is_pended}
 use Rattle.sbp_world.proofs.Pointers.Pends.{Pend}
@@ -49,6 +49,7 @@ use Rattle.sbp_world.proofs.Pointers.Passing.{IsCurrent, Stand, current_goes, ju
 use Rattle.sbp_world.proofs.Pointers.Resetting.{Resets, still_resets, told_fades}
 use Rattle.sbp_world.proofs.Pointers.Showing.{IsShowing, told_present}
 use Rattle.sbp_world.proofs.Pointers.WaitActs.{none_is}
+use Rattle.sbp_world.proofs.Common.{untrue}
 
 -- Where ORB_POINTER counts as answered, the write that is named was; that is of the generation of its initiator; and each note stands as it may.
 pub record Kept (past : List Moment) (i : ℕ) (s : InitiatorState) : Type 0 where

@@ -41,7 +41,7 @@ use Rattle.sbp_world.proofs.Hosts.Pointing.{keeps_is, wrote_is}
 use Rattle.sbp_world.proofs.Hosts.Runs.{are_after}
 use Rattle.sbp_world.proofs.Hosts.Shown.{IsElsewhere}
 use Rattle.sbp_world.specs.Pointers.Moments.{MaySend}
-use Rattle.sbp_world.proofs.Pointers.Ages.{moment_closes, moment_generation, untrue}
+use Rattle.sbp_world.proofs.Pointers.Ages.{moment_closes, moment_generation}
 use Rattle.sbp_world.proofs.Pointers.GuardDoes.{Ready, does_guarded}
 use Rattle.sbp_world.proofs.Pointers.GuardHears.{expires_guarded, hears_guarded}
 use Rattle.sbp_world.proofs.Pointers.GuardSees.{sees_guarded}
@@ -54,6 +54,7 @@ use Rattle.sbp_world.proofs.Pointers.WaitActs.{first_asks}
 use Rattle.sbp_world.proofs.Pointers.Waits.{asked_apart, line_asks, sent_asks, state_apart, still_asks}
 use Rattle.sbp_world.proofs.Pointers.Spelled.{spelled_by}
 use Rattle.sbp_world.proofs.Pointers.Sending.{not_new}
+use Rattle.sbp_world.proofs.Common.{untrue}
 
 -- ---- what others tell and send
 

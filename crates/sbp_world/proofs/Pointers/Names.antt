@@ -13,7 +13,7 @@ use Rattle.sbp_laws.specs.Hosts.{Host, host_at, list_begins}
 use Rattle.sbp_world.specs.Hosts.Core.{Core, host_core}
 use Rattle.sbp_world.proofs.Hosts.Cores.{apart_core, ended_in, expired_told, got_told, op_told, reset_in, seen_told, stuck_told, taken_told}
 use Rattle.sbp_world.proofs.Hosts.PointerNotes.{got_fades_now, pointer, seen_fades_now, tame_told, timed_fades_now}
-use Rattle.sbp_world.proofs.Pointers.Ages.{untrue}
+use Rattle.sbp_world.proofs.Common.{untrue}
 
 -- a note may change what a host names
 abbrev pub renames : Note → Bool

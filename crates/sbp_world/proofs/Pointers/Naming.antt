@@ -18,8 +18,8 @@ use Rattle.sbp_world.specs.Hosts.Remaining.{Remains}
 use Rattle.sbp_world.proofs.Hosts.PointerNotes.{pointer}
 use Rattle.sbp_world.specs.Pointers.Moments.{pointer_write}
 use Rattle.sbp_world.specs.Pointers.Pointers.{IsNamed, begun_in, pointed_list}
-use Rattle.sbp_world.proofs.Pointers.Ages.{Closes, untrue}
-use Rattle.sbp_world.proofs.Common.{least}
+use Rattle.sbp_world.proofs.Pointers.Ages.{Closes}
+use Rattle.sbp_world.proofs.Common.{least, untrue, cond_off}
 
 pub none_some : {A : Type 0} {B : Type 0} {x : B} → None ≡ Some x → A
 none_some e = absurd (differ e)
@@ -46,7 +46,7 @@ pub record Points (past : List Moment) (i n serial : ℕ) : Type 0 where
 
 pub record Naming (past : List Moment) (i : ℕ) : Type 0 where
   pub each : (n serial : ℕ) → pointed_list past serial i ≡ Some n → Points past i n serial
-  pub order : (n m serial other : ℕ) → pointed_list past serial i ≡ Some n → pointed_list past other i ≡ Some m → serial < other → n < m
+  pub order : (n m serial cond_off : ℕ) → pointed_list past serial i ≡ Some n → pointed_list past cond_off i ≡ Some m → serial < cond_off → n < m
   pub named : (serial : ℕ) → pointer past i ≡ Some serial → IsNamed past i serial
   pub latest : (n : ℕ) → present_list past i ≡ Some n → suc n ≡ lists past i
   pub one : (n : ℕ) → n < lists past i → 0 < linked past i n
@@ -149,7 +149,7 @@ plain_follows p e r g c = record {
 pub plain_names : {past now : List Moment} {i : ℕ} → Plain past now i → pointer now i ≡ pointer past i → Follows past now i → Naming past i → Naming now i
 plain_names {past} {now} {i} p e f k = record {
   each = λ n serial w. points_on f n serial (k.each n serial (sym (p.writes serial) ∙ w));
-  order = λ n m serial other w v l. k.order n m serial other (sym (p.writes serial) ∙ w) (sym (p.writes other) ∙ v) l;
+  order = λ n m serial cond_off w v l. k.order n m serial cond_off (sym (p.writes serial) ∙ w) (sym (p.writes cond_off) ∙ v) l;
   named = λ serial w.
       let a = k.named serial (sym e ∙ w) in
       record { list = a.list; present = p.present ∙ a.present; is = p.writes serial ∙ a.is };
@@ -196,15 +196,11 @@ asked_plain line event past i = record { writes = λ s. refl; begun = refl; slot
 
 -- ---- a list that begins or ends, of another initiator
 
-other : {A : Type 0} (b : Bool) (x y : A) → b ≡ false → cond b x y ≡ y
-other true x y e = untrue (sym e)
-other false x y e = refl
-
 pub turned : (i j : ℕ) → (j == i) ≡ false → nat_eq i j ≡ false
 turned i j e = grind (arith, nat_tests)
 
 pub other_drop : (i j n : ℕ) (past : List Moment) → (j == i) ≡ false → Plain past (said (notes.Drop j n) ∷ past) i
-other_drop i j n past e = record { writes = λ s. refl; begun = refl; slot = λ m. refl; ages = λ m. refl; present = other (nat_eq i j) None (present_list past i) (turned i j e); links = λ m b. b }
+other_drop i j n past e = record { writes = λ s. refl; begun = refl; slot = λ m. refl; ages = λ m. refl; present = cond_off (nat_eq i j) None (present_list past i) (turned i j e); links = λ m b. b }
 
 other_linked : (b c : Bool) (x y : ℕ) → b ≡ false → 0 < y → 0 < cond b (cond c x y) y
 other_linked true c x y e h = untrue (sym e)
@@ -215,19 +211,19 @@ other_append i j n zero cdb buffer past e =
     let f = turned i j e in
     record {
       writes = λ s. refl;
-      begun = other (nat_eq i j) (suc (lists past j)) (lists past i) f;
-      slot = λ m. other (nat_eq i j) (cond (nat_eq m n) (lowest_vacant (slots past j)) (slot_at past i m 0)) (slot_at past i m 0) f;
-      ages = λ m. other (nat_eq i j) (cond (nat_eq m n) ((terms past).generation (suc j)) (begun_in past i m)) (begun_in past i m) f;
-      present = other (nat_eq i j) (Some n) (present_list past i) f;
+      begun = cond_off (nat_eq i j) (suc (lists past j)) (lists past i) f;
+      slot = λ m. cond_off (nat_eq i j) (cond (nat_eq m n) (lowest_vacant (slots past j)) (slot_at past i m 0)) (slot_at past i m 0) f;
+      ages = λ m. cond_off (nat_eq i j) (cond (nat_eq m n) ((terms past).generation (suc j)) (begun_in past i m)) (begun_in past i m) f;
+      present = cond_off (nat_eq i j) (Some n) (present_list past i) f;
       links = λ m b. other_linked (nat_eq i j) (nat_eq m n) 1 (linked past i m) f b;
     }
 other_append i j n (suc k) cdb buffer past e =
     let f = turned i j e in
     record {
       writes = λ s. refl;
-      begun = other (nat_eq i j) (cond (nat_eq (suc k) 0) (suc (lists past j)) (lists past j)) (lists past i) f;
-      slot = λ m. other (nat_eq i j) (cond (nat_eq m n) (cond (nat_eq 0 (suc k)) (lowest_vacant (slots past j)) (slot_at past i m 0)) (slot_at past i m 0)) (slot_at past i m 0) f;
-      ages = λ m. ap (λ (g : ℕ → ℕ → ℕ). g i m) (other (nat_eq (suc k) 0) (upd2 (begun_in past) j n ((terms past).generation (suc j))) (begun_in past) (let z : nat_eq (suc k) 0 ≡ false = grind (arith, nat_tests) in z));
-      present = other (nat_eq i j) (Some n) (present_list past i) f;
+      begun = cond_off (nat_eq i j) (cond (nat_eq (suc k) 0) (suc (lists past j)) (lists past j)) (lists past i) f;
+      slot = λ m. cond_off (nat_eq i j) (cond (nat_eq m n) (cond (nat_eq 0 (suc k)) (lowest_vacant (slots past j)) (slot_at past i m 0)) (slot_at past i m 0)) (slot_at past i m 0) f;
+      ages = λ m. ap (λ (g : ℕ → ℕ → ℕ). g i m) (cond_off (nat_eq (suc k) 0) (upd2 (begun_in past) j n ((terms past).generation (suc j))) (begun_in past) (let z : nat_eq (suc k) 0 ≡ false = grind (arith, nat_tests) in z));
+      present = cond_off (nat_eq i j) (Some n) (present_list past i) f;
       links = λ m b. b;
     }

@@ -22,9 +22,10 @@ use Rattle.sbp_world.proofs.Hosts.Layered.{AreTame, is_tame}
 use Rattle.sbp_world.proofs.Hosts.OrbTerms.{AreStill, is_left}
 use Rattle.sbp_world.proofs.Hosts.PointerNotes.{got_fades_now, opens, pointer, tame_told, timed_fades_now}
 use Rattle.sbp_world.specs.Pointers.Moments.{MayDrop, MayEnd, MayStand, NonePoints, turn_of}
-use Rattle.sbp_world.proofs.Pointers.Ages.{Closes, is_sight, moment_closes, moment_generation, untrue}
+use Rattle.sbp_world.proofs.Pointers.Ages.{Closes, is_sight, moment_closes, moment_generation}
 use Rattle.sbp_world.proofs.Pointers.Dropping.{drops_of, is_drop}
 use Rattle.sbp_world.proofs.Pointers.Names.{drop_none, here}
+use Rattle.sbp_world.proofs.Common.{untrue}
 
 -- ---- from one moment to a later one
 

@@ -32,9 +32,8 @@ use Rattle.sbp_initiator.specs.Acting.{act_step, append_step, asked_as, asked_fo
 use Rattle.sbp_initiator.specs.Commands.{asked_by, prepared_as, put_lists}
 use Rattle.sbp_initiator.proofs.Histories.Actions.{Allowed, Steps, allowed, allowed_layer, dummy_present, is_ok, link_does, list_same, low_does, manage_slots, pins_present, put_does, step_then}
 use Rattle.sbp_initiator.proofs.Histories.Effects.{HasMarks}
-use Rattle.sbp_world.proofs.Pointers.Ages.{untrue}
 use Rattle.sbp_world.proofs.Pointers.Pends.{Pend, Pends, listed_pends, moved_pends, unwritten_not}
-use Rattle.sbp_world.proofs.Common.{some_none}
+use Rattle.sbp_world.proofs.Common.{some_none, untrue}
 
 -- ---- a live session
 

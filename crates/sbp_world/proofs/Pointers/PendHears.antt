@@ -30,8 +30,8 @@ use Rattle.sbp_initiator.specs.Refusals.{ends_list}
 use Rattle.sbp_initiator.specs.States.{ending_of, is_list, is_orb_of, operation_in, status_in}
 use Rattle.sbp_initiator.specs.Receiving.{address_error, addressed, block_at, block_by, block_step, called, expire_step, expired_as, fifo_of, got_step, ignored_step, is_foreign, managed_for, present_for, quadlet_at, read_as, receive_step, received, request_step, serve_step, status_step, taken_as, written_as}
 use Rattle.sbp_initiator.specs.Seeing.{see_step, seen_as}
-use Rattle.sbp_world.proofs.Pointers.Ages.{untrue}
 use Rattle.sbp_world.proofs.Pointers.Pends.{IfEnding, Pend, dead_pends, for_pends, listed_pends, managed_pends, unwritten_not}
+use Rattle.sbp_world.proofs.Common.{untrue}
 
 -- ---- a status is taken, and a write is tried: the list that was present is
 

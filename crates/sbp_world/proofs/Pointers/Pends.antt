@@ -34,7 +34,7 @@ use Rattle.sbp_initiator.specs.States.{counts_for, is_list, is_unwritten, operat
 use Rattle.sbp_initiator.specs.Effects.{dropped_as, drop_list_step, end_step, end_own_for, end_own_step, then_step, with_answered, pointer_ended, doorbell_ended, fail_step, reset_ended, enable_ended, moves_session, moved, conflict_for, conflict_step, is_conflict, management_ended, response_of, good_event, good_word, drop_where, good_end, managed_step, fault_number, with_unit, with_rom, finish_rom, next_quad, asked_quad, ask_quad, is_address, rom_ended, with_dead, known_where, state_ended, ended_step, ended_for}
 use Rattle.sbp_initiator.proofs.Histories.Effects.{unpin_present}
 use Rattle.sbp_initiator.proofs.Histories.Stands.{failed_sticks, is_plain, plain_goes}
-use Rattle.sbp_world.proofs.Pointers.Ages.{untrue}
+use Rattle.sbp_world.proofs.Common.{untrue}
 
 -- `place` has the slot of the first ORB of each list; `pended` says whether ORB_POINTER was written and not answered as the call began.
 pub record Pends (pended : Bool) (place : ℕ → ℕ) (seat : Seat) (present : Option PresentList) (slot : ℕ) (mark : Pointing) (operation : Option Running) : Type 0 where

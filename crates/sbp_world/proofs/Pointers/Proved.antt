@@ -38,7 +38,6 @@ use Rattle.sbp_world.proofs.Hosts.Carried.{stands_between}
 use Rattle.sbp_world.proofs.Hosts.Pointing.{wrote_is}
 use Rattle.sbp_world.specs.Pointers.Moments.{MayAsk, MayStand}
 use Rattle.sbp_world.specs.Pointers.Pointers.{WritesLaw, begun_in, IsPointer, IsPointing, MomentsLaw, PointersAt, PointersLaw, pointed_list}
-use Rattle.sbp_world.proofs.Pointers.Ages.{untrue}
 use Rattle.sbp_world.proofs.Pointers.GuardActs.{cutting_is}
 use Rattle.sbp_world.proofs.Pointers.Written.{all_asked, all_writes}
 use Rattle.sbp_world.proofs.Pointers.CalmRuns.{calm_between, calm_of_runs}
@@ -49,6 +48,7 @@ use Rattle.sbp_world.proofs.Pointers.Guarding.{first_guarded, guarded_between, g
 use Rattle.sbp_world.proofs.Pointers.Naming.{Naming, none_some}
 use Rattle.sbp_world.proofs.Pointers.Sending.{names}
 use Rattle.sbp_world.proofs.Pointers.GuardDoes.{none_named}
+use Rattle.sbp_world.proofs.Common.{untrue}
 
 -- ---- what writes is a request to write
 

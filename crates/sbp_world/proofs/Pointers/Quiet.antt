@@ -50,8 +50,8 @@ use Rattle.bus_transactions.specs.Wire.{Reply}
 use Rattle.bus_transactions.proofs.Fits.{request_fits}
 use Rattle.bus_transactions.proofs.FitSteps.{goes, judges_same}
 use Rattle.label_table.specs.History as wire
-use Rattle.sbp_world.proofs.Pointers.Ages.{untrue}
 use Rattle.sbp_world.proofs.Pointers.Spelled.{read_canon, spelled_by}
+use Rattle.sbp_world.proofs.Common.{untrue}
 
 abbrev pub writes_in : Option Access → Bool
 writes_in None = false

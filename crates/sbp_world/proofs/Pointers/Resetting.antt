@@ -54,14 +54,12 @@ use Rattle.sbp_world.proofs.Hosts.Layered.{AreTame, is_tame}
 use Rattle.sbp_world.proofs.Hosts.Lives.{At, AskedAt, ask_at, asked_now, at_life, was_asked}
 use Rattle.sbp_world.proofs.Hosts.PointerNotes.{Fit, Told, tame_told}
 use Rattle.sbp_world.proofs.Hosts.Pointing.{asked_generation, called_of, pointing_of, sent_waits}
-use Rattle.sbp_world.proofs.Hosts.Prepares.{itself}
 use Rattle.sbp_world.proofs.Hosts.Shown.{IsShown}
 use Rattle.sbp_world.specs.Pointers.Moments.{IsResetting}
-use Rattle.sbp_world.proofs.Pointers.Ages.{untrue}
 use Rattle.sbp_world.proofs.Pointers.WaitActs.{makes_for, none_seen, see_old}
 use Rattle.sbp_world.proofs.Pointers.Waits.{Asks, is_cared, makes}
 use Rattle.sbp_world.proofs.Lists.ManageFirsts.{pointer_operation, acted_none}
-use Rattle.sbp_world.proofs.Common.{turned}
+use Rattle.sbp_world.proofs.Common.{turned, untrue, itself}
 
 pub record Resets (past : List Moment) (i target : ℕ) (layer : Layer Purpose) : Type 0 where
   pub first : (number act : ℕ) (kind : Kind) (serial : ℕ) → At layer target number (Some (purposes.AgentReset act)) → (terms past).held (transaction layer.generation (suc i) 0 number) ≡ waits kind serial → IsResetting past i serial

@@ -20,10 +20,11 @@ use Rattle.sbp_world.proofs.Hosts.PointerNotes.{pointer}
 use Rattle.sbp_world.proofs.Hosts.Remaining.{serials_behind, step as one_later}
 use Rattle.sbp_world.specs.Pointers.Moments.{MayPoint, MayStand, pointer_write}
 use Rattle.sbp_world.specs.Pointers.Pointers.{IsNamed, list_if, pointed_list}
-use Rattle.sbp_world.proofs.Pointers.Ages.{moment_closes, untrue}
+use Rattle.sbp_world.proofs.Pointers.Ages.{moment_closes}
 use Rattle.sbp_world.proofs.Pointers.Names.{pointer_same}
 use Rattle.sbp_world.proofs.Pointers.Naming.{Follows, Naming, Plain, Points, asked_plain, link_plain, none_some, not_anew, other_append, other_drop, plain, points_on}
-use Rattle.sbp_world.proofs.Pointers.Writing.{append_here, apart, ends, itself, plain_step, rises_by, same_or_less, some_is, stays_in}
+use Rattle.sbp_world.proofs.Pointers.Writing.{append_here, ends, plain_step, rises_by, some_is, stays_in}
+use Rattle.sbp_world.proofs.Common.{untrue, cond_off as apart, itself, least as same_or_less}
 
 -- ---- what a packet leaves of the name
 

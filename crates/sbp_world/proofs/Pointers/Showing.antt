@@ -32,13 +32,12 @@ use Rattle.sbp_world.specs.Hosts.Calls.{behind}
 use Rattle.sbp_world.proofs.Hosts.Carries.{is_apart}
 use Rattle.sbp_world.proofs.Hosts.Layered.{AreTame, is_tame}
 use Rattle.sbp_world.proofs.Hosts.OrbTerms.{AreStill, is_left}
-use Rattle.sbp_world.proofs.Pointers.Ages.{untrue}
 use Rattle.sbp_world.proofs.Pointers.Dropping.{drops_of, is_drop, more}
 use Rattle.sbp_world.proofs.Pointers.Passing.{AreApart, itself}
 use Rattle.sbp_world.proofs.Pointers.PendHears.{SameList}
 use Rattle.sbp_world.proofs.Pointers.Walks.{drops, ends, expires, is_drop_note, is_kept, receives}
 use Rattle.sbp_world.proofs.Pointers.WaitActs.{see_old}
-use Rattle.sbp_world.proofs.Common.{cond_off}
+use Rattle.sbp_world.proofs.Common.{cond_off, untrue}
 use Rattle.sbp_world.proofs.Pointers.Naming.{turned}
 
 -- each list that it has is the present one by the run

@@ -18,9 +18,8 @@ use Rattle.sbp_initiator.specs.Histories.Ends.{own}
 use Rattle.sbp_world.specs.Hosts.Calls.{behind}
 use Rattle.sbp_world.proofs.Hosts.OrbTerms.{AreLeft}
 use Rattle.sbp_world.specs.Pointers.Moments.{is_cutting}
-use Rattle.sbp_world.proofs.Pointers.Ages.{untrue}
 use Rattle.sbp_world.proofs.Pointers.Passing.{AreApart, Stand}
-use Rattle.sbp_world.proofs.Common.{same_number}
+use Rattle.sbp_world.proofs.Common.{same_number, untrue}
 
 -- the steps of this initiator's list but appends
 abbrev pub is_link : ℕ → Note → Bool

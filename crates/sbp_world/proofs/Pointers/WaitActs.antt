@@ -37,9 +37,8 @@ use Rattle.sbp_world.proofs.Hosts.PointerNotes.{Fit, Told, tame_told}
 use Rattle.sbp_world.proofs.Hosts.Pointing.{asked_generation, sent_waits}
 use Rattle.sbp_world.proofs.Hosts.Shown.{IsShown}
 use Rattle.sbp_world.specs.Pointers.Moments.{asked_in, is_state, names_answered, own_action, state_list}
-use Rattle.sbp_world.proofs.Pointers.Ages.{untrue}
 use Rattle.sbp_world.proofs.Pointers.Waits.{AskedFor, Asks, asked_sent, asked_told, counted_in, is_cared, makes, state_sent, state_told, still_asks}
-use Rattle.sbp_world.proofs.Common.{itself, cond_on, none_is as none_demand}
+use Rattle.sbp_world.proofs.Common.{itself, cond_on, none_is as none_demand, untrue}
 
 -- ---- what an action asks for
 

@@ -33,8 +33,7 @@ use Rattle.sbp_world.proofs.Hosts.PointerNotes.{Fit, opens, tame_told}
 use Rattle.sbp_world.proofs.Hosts.Pointing.{asked_generation, at_same, sent_waits}
 use Rattle.sbp_world.proofs.Hosts.Shown.{IsShown}
 use Rattle.sbp_world.specs.Pointers.Moments.{asked_in, state_list}
-use Rattle.sbp_world.proofs.Pointers.Ages.{untrue}
-use Rattle.sbp_world.proofs.Common.{cond_off, least}
+use Rattle.sbp_world.proofs.Common.{cond_off, least, untrue}
 
 -- what such a request is for, and the action that makes it
 abbrev pub is_cared : Purpose → Bool

@@ -12,22 +12,19 @@ use Rattle.sbp_laws.specs.Terms.{lists}
 use Rattle.sbp_world.proofs.Hosts.PointerNotes.{pointer}
 use Rattle.sbp_world.proofs.Hosts.Remaining.{remains, step}
 use Rattle.sbp_world.specs.Pointers.Moments.{MayAppend, MayDrop, MayStand}
-use Rattle.sbp_world.proofs.Pointers.Ages.{is_sight, moment_closes, moment_generation, seen_now, untrue}
+use Rattle.sbp_world.proofs.Pointers.Ages.{is_sight, moment_closes, moment_generation, seen_now}
 use Rattle.sbp_world.proofs.Pointers.Names.{append_none, drop_none}
 use Rattle.sbp_world.specs.Pointers.Pointers.{begun_in}
 use Rattle.sbp_world.proofs.Pointers.Naming.{Follows, Naming, Plain, none_some, not_anew, plain_follows, plain_names, points_on}
-use Rattle.sbp_world.proofs.Common.{cond_on}
+use Rattle.sbp_world.proofs.Common.{cond_on, untrue, cond_off, itself, least}
 
 -- ---- a moment that leaves lists and writes
-
-pub same_or_less : (a b : ℕ) → b ≡ a → a ≤ b
-same_or_less a b e = omega arith
 
 pub plain_step : (m : Moment) (past : List Moment) (i : ℕ) → SerialsCount (m ∷ past) → Plain past (m ∷ past) i → pointer (m ∷ past) i ≡ pointer past i → (terms past).generation (suc i) ≤ (terms (m ∷ past)).generation (suc i) → Naming past i → Naming (m ∷ past) i
 plain_step m past i c p e g k = plain_names p e (plain_follows p e (step m past c) g (moment_closes m past)) k
 
 pub stays_in : (m : Moment) (past : List Moment) (i : ℕ) → is_sight (suc i) m ≡ false → (terms past).generation (suc i) ≤ (terms (m ∷ past)).generation (suc i)
-stays_in m past i e = same_or_less _ _ (moment_generation (suc i) m past e)
+stays_in m past i e = least _ _ (moment_generation (suc i) m past e)
 
 -- a generation that is seen is no earlier one
 pub rises_by : (past : List Moment) (i node generation : ℕ) → MayStand i (said (notes.Seen node generation)) past → (b : Bool) → (node == suc i) ≡ b → (terms past).generation (suc i) ≤ (terms (said (notes.Seen node generation) ∷ past)).generation (suc i)
@@ -38,13 +35,6 @@ rises_by past i node generation s true e =
     let l = s e in omega arith
 
 -- ---- a list begins
-
-pub itself : (i : ℕ) → nat_eq i i ≡ true
-itself i = grind (arith, nat_tests)
-
-pub apart : {A : Type 0} (b : Bool) (x y : A) → b ≡ false → cond b x y ≡ y
-apart true x y e = untrue (sym e)
-apart false x y e = refl
 
 pub some_is : {A : Type 0} (a b : A) → Some a ≡ Some b → a ≡ b
 some_is a b e = cc
@@ -74,7 +64,7 @@ module _ (i n : ℕ) (cdb : List ℕ) (buffer : NoteBuffer) (past : List Moment)
   first_slot : (m : ℕ) → m < lists past i → slot_at first i m 0 ≡ slot_at past i m 0
   first_slot m l =
       cond_on (nat_eq i i) (cond (nat_eq m n) (lowest_vacant (slots past i)) (slot_at past i m 0)) (slot_at past i m 0) (itself i)
-      ∙ apart (nat_eq m n) (lowest_vacant (slots past i)) (slot_at past i m 0) (below_not m n (subst (λ x. m < x) (sym next_list) l))
+      ∙ cond_off (nat_eq m n) (lowest_vacant (slots past i)) (slot_at past i m 0) (below_not m n (subst (λ x. m < x) (sym next_list) l))
 
   abbrev age : ℕ
   age = (terms past).generation (suc i)
@@ -82,7 +72,7 @@ module _ (i n : ℕ) (cdb : List ℕ) (buffer : NoteBuffer) (past : List Moment)
   first_ages : (m : ℕ) → m < lists past i → begun_in first i m ≡ begun_in past i m
   first_ages m l =
       cond_on (nat_eq i i) (cond (nat_eq m n) age (begun_in past i m)) (begun_in past i m) (itself i)
-      ∙ apart (nat_eq m n) age (begun_in past i m) (below_not m n (subst (λ x. m < x) (sym next_list) l))
+      ∙ cond_off (nat_eq m n) age (begun_in past i m) (below_not m n (subst (λ x. m < x) (sym next_list) l))
 
   first_age : (m : ℕ) → nat_eq m n ≡ true → begun_in first i m ≡ age
   first_age m e =
@@ -94,7 +84,7 @@ module _ (i n : ℕ) (cdb : List ℕ) (buffer : NoteBuffer) (past : List Moment)
   first_follows : Follows past first i
   first_follows = record {
     remains = step (said (notes.Append i n zero cdb buffer)) past c;
-    rises = same_or_less _ _ refl;
+    rises = least _ _ refl;
     closed = λ m e. e;
     more = (let e = first_lists in omega arith);
     slot = first_slot;
@@ -137,11 +127,11 @@ later_name false host k = refl
 later_plain : (i n k : ℕ) (cdb : List ℕ) (buffer : NoteBuffer) (past : List Moment) → present_list past i ≡ Some n → Plain past (said (notes.Append i n (suc k) cdb buffer) ∷ past) i
 later_plain i n k cdb buffer past e = record {
   writes = λ s. refl;
-  begun = cond_on (nat_eq i i) (cond (nat_eq (suc k) 0) (suc (lists past i)) (lists past i)) (lists past i) (itself i) ∙ apart (nat_eq (suc k) 0) (suc (lists past i)) (lists past i) (not_first k);
+  begun = cond_on (nat_eq i i) (cond (nat_eq (suc k) 0) (suc (lists past i)) (lists past i)) (lists past i) (itself i) ∙ cond_off (nat_eq (suc k) 0) (suc (lists past i)) (lists past i) (not_first k);
   slot = λ m.
       cond_on (nat_eq i i) (cond (nat_eq m n) (cond (nat_eq 0 (suc k)) (lowest_vacant (slots past i)) (slot_at past i m 0)) (slot_at past i m 0)) (slot_at past i m 0) (itself i)
       ∙ same_slot (nat_eq m n) (nat_eq 0 (suc k)) (lowest_vacant (slots past i)) (slot_at past i m 0) (none_first k);
-  ages = λ m. ap (λ (g : ℕ → ℕ → ℕ). g i m) (apart (nat_eq (suc k) 0) _ (begun_in past) (not_first k));
+  ages = λ m. ap (λ (g : ℕ → ℕ → ℕ). g i m) (cond_off (nat_eq (suc k) 0) _ (begun_in past) (not_first k));
   present = cond_on (nat_eq i i) (Some n) (present_list past i) (itself i) ∙ sym e;
   links = λ m b. b;
 }
@@ -160,7 +150,7 @@ later_plain i n k cdb buffer past e = record {
 pub append_here : (i n k : ℕ) (cdb : List ℕ) (buffer : NoteBuffer) (past : List Moment) → SerialsCount past → MayAppend past i n k → Naming past i → Naming (said (notes.Append i n k cdb buffer) ∷ past) i
 append_here i n zero cdb buffer past c a k = begins i n cdb buffer past c a k
 append_here i n (suc m) cdb buffer past c a k =
-    plain_step (said (notes.Append i n (suc m) cdb buffer)) past i c (later_plain i n m cdb buffer past (a.later (let x : 0 < suc m = omega arith in x))) (later_name (nat_eq i i) (host_at past i) m) (same_or_less _ _ refl) k
+    plain_step (said (notes.Append i n (suc m) cdb buffer)) past i c (later_plain i n m cdb buffer past (a.later (let x : 0 < suc m = omega arith in x))) (later_name (nat_eq i i) (host_at past i) m) (least _ _ refl) k
 
 -- ---- a list ends
 
@@ -174,9 +164,9 @@ module _ (i n : ℕ) (past : List Moment) (c : SerialsCount past) (d : MayDrop p
   drop_follows : Follows past dropped i
   drop_follows = record {
     remains = step (said (notes.Drop i n)) past c;
-    rises = same_or_less _ _ refl;
+    rises = least _ _ refl;
     closed = λ m e. e;
-    more = same_or_less _ _ refl;
+    more = least _ _ refl;
     slot = λ m l. refl;
     ages = λ m l. refl;
     anew = λ m a b. absurd (not_anew m a b refl);

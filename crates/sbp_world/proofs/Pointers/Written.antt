@@ -18,11 +18,11 @@ use Rattle.sbp_world.proofs.Hosts.Carries.{IsNoAct}
 use Rattle.sbp_world.proofs.Hosts.Held.{sent_new, sent_old}
 use Rattle.sbp_world.specs.Pointers.Moments.{IsWritten, MayAsk, MaySend, MayStand, MayWrite, asked_in, own_action, writes_bell, writes_enable, writes_management, writes_pointer, writes_reset}
 use Rattle.sbp_world.specs.Pointers.Pointers.{IsWrite, of_bell, of_enable, of_management, of_pointer, of_reset, pointed_list}
-use Rattle.sbp_world.proofs.Pointers.Ages.{is_leaving, moment_sent, untrue}
+use Rattle.sbp_world.proofs.Pointers.Ages.{is_leaving, moment_sent}
 use Rattle.sbp_world.proofs.Pointers.Calms.{AllCalm, Calm}
 use Rattle.sbp_world.proofs.Pointers.Quiet.{writes_in}
 use Rattle.sbp_world.proofs.Pointers.Sending.{written_now}
-use Rattle.sbp_world.proofs.Common.{itself, cond_off, cond_on}
+use Rattle.sbp_world.proofs.Common.{itself, cond_off, cond_on, untrue}
 
 -- ---- each write is asked for in the line of an action
 

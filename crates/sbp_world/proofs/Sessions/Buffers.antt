@@ -24,9 +24,7 @@ use Rattle.sbp_journal.specs.Addresses.{Access}
 use Rattle.sbp_laws.specs.Hosts.{stored_in}
 use Rattle.sbp_world.specs.Sessions.Holding.{AreBuffers}
 use Rattle.sbp_world.proofs.Sessions.Places.{Stand}
-
-pub untrue : {A : Type 0} → false ≡ true → A
-untrue e = absurd (let no : false ≡ true = e in cc)
+use Rattle.sbp_world.proofs.Common.{untrue}
 
 -- the buffers are those of a memory whose places stand
 pub buffers_stand : (responses : List (List ℕ)) (m n : Memory) → Stand m n → AreBuffers responses m → AreBuffers responses n

@@ -1,5 +1,5 @@
 -- In every run the login of an initiator's host is the response that its session carries, and its response buffers are those in its memory.
-use Rattle.std.proofs.Common.{◌≡◌, ◌∙◌, refl, sym, ap, subst, ℕ, ◌==◌, Bool, true, false, List, Option, Some, None, Result, Ok, Err}
+use Rattle.std.proofs.Common.{◌≡◌, ◌∙◌, refl, sym, ap, subst, ℕ, ◌==◌, Bool, false, List, Option, Some, None, Result, Ok, Err}
 use Rattle.async_packet.specs.Labels.{LabelParts}
 use Rattle.async_packet.specs.declared.fault.PacketFault.{PacketFault}
 use Rattle.async_packet.specs.Packet.{Packet, lock, lock_response, read_block, read_block_response, read_quadlet, read_quadlet_response, write_block, write_quadlet, write_response}
@@ -29,9 +29,6 @@ use Rattle.sbp_world.specs.Sessions.Holding.{AreBuffers}
 use Rattle.sbp_world.proofs.Sessions.Buffers.{buffers_stand}
 use Rattle.sbp_world.proofs.Sessions.Gears.{Gear, gear_at}
 use Rattle.sbp_world.proofs.Sessions.Mild.{Mild}
-
-pub untrue : {A : Type 0} → false ≡ true → A
-untrue e = absurd (let no : false ≡ true = e in cc)
 
 pub none_is : {A : Type 0} (response : LoginResponse) → None ≡ Some response → A
 none_is response e = absurd (let no : None ≡ Some response = e in cc)

@@ -66,8 +66,9 @@ use Rattle.sbp_world.proofs.Sessions.Buffers.{at_far, buffers_stand, stored_far,
 use Rattle.sbp_world.proofs.Sessions.Gears.{Gear, gear_at, gear_of, got_stays, got_stores, is_mild, stores}
 use Rattle.sbp_world.proofs.Sessions.Mild.{Mild, calls, drops, ends_mild, ends_moved, is_old, refused_mild, responds, still, takes, tells}
 use Rattle.sbp_world.proofs.Sessions.Places.{take_places, unpin_places}
-use Rattle.sbp_world.proofs.Sessions.Holding.{Leaves, Own, leaves_mild, mild_self, none_is, own_gear, response_access, untrue, whole_of}
+use Rattle.sbp_world.proofs.Sessions.Holding.{Leaves, Own, leaves_mild, mild_self, none_is, own_gear, response_access, whole_of}
 use Rattle.sbp_world.proofs.Agents.Management.Hearing.{answers_none}
+use Rattle.sbp_world.proofs.Common.{untrue}
 
 -- ---- the place of a login is the same one
 

@@ -60,7 +60,7 @@ pub note_places : (note : Note) (past : List Moment) (i m : ℕ) → is_packet n
 note_places (notes.Sent serial generation from to bytes) past i m e = untrue (sym e)
 note_places _ past i m e = refl
 
-tame_packet : (note : Note) → is_tame note ≡ true → is_packet note ≡ false
+pub tame_packet : (note : Note) → is_tame note ≡ true → is_packet note ≡ false
 tame_packet (notes.Sent serial generation from to bytes) e = untrue e
 tame_packet _ e = refl
 

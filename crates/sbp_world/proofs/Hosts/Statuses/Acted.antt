@@ -26,9 +26,9 @@ use Rattle.sbp_world.proofs.Hosts.Carries.{Carries, Does}
 use Rattle.sbp_world.proofs.Hosts.Liners.{host_listed}
 use Rattle.sbp_world.proofs.Hosts.Numbers.{act_number}
 use Rattle.sbp_world.proofs.Hosts.OrbRuns.{Rowed, orbs_carried}
-use Rattle.sbp_world.proofs.Hosts.Statuses.Folds.{untrue}
 use Rattle.sbp_world.proofs.Hosts.Statuses.Housed.{expires_on, hears_on, listed_tells, no_abort, noted_on, stale_on}
 use Rattle.sbp_world.proofs.Hosts.HostRows.{host_sees as sees_on, line_behind}
+use Rattle.sbp_world.proofs.Common.{untrue}
 
 -- ---- an abort that is done asks for something
 

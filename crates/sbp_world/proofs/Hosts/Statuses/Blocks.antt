@@ -16,8 +16,7 @@ use Rattle.rbc_command.specs.declared.sense.Sense.{Sense}
 use Rattle.sbp_journal.specs.Run.{Moment}
 use Rattle.sbp_laws.specs.Lists.{named_in}
 use Rattle.sbp_laws.specs.StatusLaw.{if_waits, taking_of}
-use Rattle.sbp_world.proofs.Hosts.Statuses.Folds.{untrue}
-use Rattle.sbp_world.proofs.Common.{and_second}
+use Rattle.sbp_world.proofs.Common.{and_second, untrue}
 use Rattle.sbp_world.proofs.Hosts.Brings.{pick_read}
 
 -- ---- a block that is read

@@ -41,8 +41,9 @@ use Rattle.sbp_world.specs.Hosts.Rows.{name}
 use Rattle.sbp_world.proofs.Hosts.Answering.{no_fifo, some_fifo}
 use Rattle.sbp_world.specs.Hosts.Statuses.Taking.{is_place_fifo}
 use Rattle.sbp_world.proofs.Hosts.Statuses.Blocks.{command_is, managed_kind, placed_none, unsolicited_none}
-use Rattle.sbp_world.proofs.Hosts.Statuses.Folds.{is_calm, untrue}
+use Rattle.sbp_world.proofs.Hosts.Statuses.Folds.{is_calm}
 use Rattle.sbp_world.proofs.Hosts.Statuses.Waits.{place, prepared, waits_so}
+use Rattle.sbp_world.proofs.Common.{untrue}
 
 abbrev pub AreCalm : List Note → Type 0
 AreCalm ns = AllByRecursion (λ note. is_calm note ≡ true) ns

@@ -20,12 +20,12 @@ use Rattle.sbp_world.specs.Histories.{history_of}
 use Rattle.sbp_world.specs.Runs.{Run}
 use Rattle.sbp_world.specs.Hosts.Runs.{IsRun}
 use Rattle.sbp_world.proofs.Hosts.Deliveries.{deliveries_law, some_same}
-use Rattle.sbp_world.proofs.Hosts.Prepares.{itself}
 use Rattle.sbp_world.specs.Hosts.Statuses.Finished.{FinishedLaw, IsTakenHere, OnceTakenLaw}
 use Rattle.sbp_world.specs.Hosts.Statuses.Taking.{TakenOf, TakesDue, of_one}
 use Rattle.sbp_world.proofs.Hosts.Statuses.Insides.{Inside}
 use Rattle.sbp_world.proofs.Hosts.Statuses.Ranges.{InsideIn, run_inside}
 use Rattle.sbp_world.proofs.Hosts.Statuses.Runs.{taking_law}
+use Rattle.sbp_world.proofs.Common.{itself}
 
 -- ---- a list of takings, at most one of them due
 

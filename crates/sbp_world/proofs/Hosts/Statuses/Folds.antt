@@ -23,15 +23,9 @@ use Rattle.sbp_laws.specs.Terms.{takes}
 use Rattle.sbp_laws.specs.Turns.{EachMoment, EachTurn, EachTurnBefore}
 use Rattle.sbp_world.specs.Hosts.Calls.{behind, by_side}
 use Rattle.sbp_world.proofs.Hosts.Carries.{is_apart}
-use Rattle.sbp_world.proofs.Hosts.Prepares.{itself}
 use Rattle.sbp_world.proofs.Hosts.Shown.{IsElsewhere, NotTo}
 use Rattle.sbp_world.specs.Hosts.Statuses.Taking.{IsTakenBy, TakenOf, Takings, TakesDue, of_one}
-
-pub untrue : {A : Type 0} → false ≡ true → A
-untrue e = absurd (differ e)
-  where
-    differ : false ≡ true → ⊥
-    differ e = cc
+use Rattle.sbp_world.proofs.Common.{untrue, itself}
 
 -- ---- notes that take nothing of an initiator, and say of no packet that it was got
 

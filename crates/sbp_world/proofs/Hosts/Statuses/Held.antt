@@ -39,17 +39,17 @@ use Rattle.sbp_world.proofs.Hosts.Carries.{Carries, Does, Tells}
 use Rattle.sbp_world.proofs.Hosts.Cores.{got_told}
 use Rattle.sbp_world.proofs.Hosts.Hosted.{Cored, cored_carried, first_cored}
 use Rattle.sbp_world.proofs.Hosts.OrbRuns.{Rowed}
-use Rattle.sbp_world.proofs.Hosts.Prepares.{itself}
 use Rattle.sbp_world.proofs.Hosts.Shown.{IsHeard}
 use Rattle.sbp_world.specs.Hosts.Statuses.Taking.{IsTakenBy, Spells, is_place_fifo, of_one}
 use Rattle.sbp_world.proofs.Hosts.Statuses.Acted.{host_carried}
 use Rattle.sbp_world.proofs.Hosts.Statuses.Brings.{Took}
-use Rattle.sbp_world.proofs.Hosts.Statuses.Folds.{Counted, apart_on, asked_on, count_of, due_at, got_on, silent_behind, silent_on, taken_on, untrue}
+use Rattle.sbp_world.proofs.Hosts.Statuses.Folds.{Counted, apart_on, asked_on, count_of, due_at, got_on, silent_behind, silent_on, taken_on}
 use Rattle.sbp_world.proofs.Hosts.Statuses.Hearing.{Hears, hears_so, ignored_silent, ignores, others_silent, takes_none, takes_one}
 use Rattle.sbp_world.proofs.Hosts.Statuses.Housed.{got_access}
 use Rattle.sbp_world.proofs.Hosts.Statuses.Quiet.{AreCalmSides, act_calm, all_silent, expire_calm, own_calm, see_calm}
 use Rattle.sbp_world.proofs.Hosts.Runs.{first_host}
 use Rattle.sbp_world.proofs.Sessions.BlockNotes.{gets_sent as sent_stays}
+use Rattle.sbp_world.proofs.Common.{untrue, itself}
 
 -- ---- a status that is taken
 

@@ -46,11 +46,11 @@ use Rattle.sbp_world.specs.Hosts.Handing.{AreNotes, AreOthers, IsOther}
 use Rattle.sbp_world.proofs.Hosts.Calling.{IsOwn}
 use Rattle.sbp_world.proofs.Hosts.Hands.{second_tells, sight_tells, target_tells}
 use Rattle.sbp_world.proofs.Hosts.Liners.{own_notes}
-use Rattle.sbp_world.proofs.Hosts.Prepares.{itself}
 use Rattle.sbp_world.proofs.Hosts.TargetTells as target_tell
-use Rattle.sbp_world.proofs.Hosts.Statuses.Folds.{AreSilent, untrue}
+use Rattle.sbp_world.proofs.Hosts.Statuses.Folds.{AreSilent}
 use Rattle.sbp_world.proofs.Hosts.Statuses.Hearing.{others_silent}
 use Rattle.sbp_world.proofs.Hosts.Statuses.Quiet.{AreCalmSides, IsCalmSide, act_calm, expire_calm, see_calm}
+use Rattle.sbp_world.proofs.Common.{untrue, itself}
 
 -- the statuses that are taken are of the first initiators, so many of them
 abbrev pub Inside : ℕ → List Note → Type 0

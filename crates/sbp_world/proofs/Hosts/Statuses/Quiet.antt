@@ -34,7 +34,8 @@ use Rattle.sbp_world.proofs.Hosts.KnowEnds.{Points}
 use Rattle.sbp_world.proofs.Hosts.KnowHears.{IfExpires}
 use Rattle.sbp_initiator.proofs.Histories.Purposes.{IfFor}
 use Rattle.sbp_world.proofs.Hosts.Statuses.Brings.{AreCalm}
-use Rattle.sbp_world.proofs.Hosts.Statuses.Folds.{AreSilent, IsSilentSide, calm_silent, is_calm, untrue}
+use Rattle.sbp_world.proofs.Hosts.Statuses.Folds.{AreSilent, IsSilentSide, calm_silent, is_calm}
+use Rattle.sbp_world.proofs.Common.{untrue}
 
 abbrev pub IsCalmSide : Side → Type 0
 IsCalmSide (sides.Own note) = is_calm note ≡ true

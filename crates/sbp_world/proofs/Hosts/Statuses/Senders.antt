@@ -59,9 +59,8 @@ use Rattle.sbp_world.specs.Hosts.Statuses.Senders.{IsOfTarget, RestLaw, SendersL
 use Rattle.sbp_world.specs.Hosts.Statuses.Taking.{IsTakenBy, Spells, is_place_fifo}
 use Rattle.sbp_world.proofs.Hosts.Statuses.Brings.{ignored_got}
 use Rattle.sbp_world.proofs.Hosts.Statuses.Finished.{finished_law}
-use Rattle.sbp_world.proofs.Hosts.Statuses.Folds.{untrue}
 use Rattle.sbp_world.proofs.Hosts.Statuses.Hearing.{served}
-use Rattle.sbp_world.proofs.Common.{none_is}
+use Rattle.sbp_world.proofs.Common.{none_is, untrue}
 use Rattle.sbp_world.proofs.Lists.StatusKnown.{writes_no_rom}
 use Rattle.sbp_world.proofs.Sessions.BlockNotes.{gets_sent as sent_stays}
 
