@@ -36,7 +36,6 @@ ghost use Rattle.turn_laws.specs.Pushes.{PushesLaw};
 ghost use Rattle.turn_laws.specs.Silent.{SilentLaw};
 ghost use Rattle.turn_laws.specs.Statuses.{StatusesLaw};
 ghost use Rattle.turn_laws.specs.TargetRequests.{TargetRequestsLaw};
-ghost use Rattle.turn_laws.specs.Together.{TurnsLaw};
 ghost use Rattle.turn_laws.specs.Told.{ToldLaw};
 ghost use Rattle.turn_laws.specs.UnderWay.{AfterLaw, RomsWaitLaw, TargetWaitsLaw};
 ghost use Rattle.turn_laws.specs.Unserved.{UnservedLaw};
@@ -395,10 +394,4 @@ pub fn requests_are_sent_where_due()
 #[tactic(auto, using(crate::proofs::Asked::asked_law))]
 pub fn requests_are_asked_for()
     ensures { AskedLaw }
-{}
-
-/// All.
-#[tactic(auto, using(crate::proofs::Together::turns_law))]
-pub fn all_together()
-    ensures { TurnsLaw }
 {}
