@@ -17,6 +17,7 @@ use Rattle.turn_laws.proofs.Judgements.{judgement_run_law}
 use Rattle.turn_laws.proofs.LoginRuns.{login_run_law}
 use Rattle.turn_laws.proofs.Pushes.{pushes_law}
 use Rattle.turn_laws.proofs.Once.{once_law}
+use Rattle.turn_laws.proofs.OwnCases.{reads_end_law}
 use Rattle.turn_laws.proofs.Requests.{requests_run_law}
 use Rattle.turn_laws.proofs.RomRuns.{after_law}
 use Rattle.turn_laws.proofs.RunEnds.{runs_end_law}
@@ -56,6 +57,7 @@ turns_law = record {
     runs_end = runs_end_law.after_lines line run is some most size;
     pushes = pushes_law.after_lines line run is some most size;
     told = told_law.after_lines line run is some most size;
+    operations = reads_end_law.after_lines line run is some most size;
   };
   between = λ line run is some most size next deliveries told may. record {
     judgement = judgement_run_law.between line run is some most size next deliveries told may;
@@ -85,5 +87,6 @@ turns_law = record {
     runs_end = runs_end_law.between line run is some most size next deliveries told may;
     pushes = pushes_law.between line run is some most size next deliveries told may;
     told = told_law.between line run is some most size next deliveries told may;
+    operations = reads_end_law.between line run is some most size next deliveries told may;
   };
 }

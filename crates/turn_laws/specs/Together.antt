@@ -18,6 +18,7 @@ use Rattle.turn_laws.specs.Failures.{FailsWhereDue}
 use Rattle.turn_laws.specs.Ends.{EndsWhereDue}
 use Rattle.turn_laws.specs.Faults.{DiesBeforeFaults}
 use Rattle.turn_laws.specs.Once.{DiesOnce}
+use Rattle.turn_laws.specs.Operations.{StandsWhereReadsEnd}
 use Rattle.turn_laws.specs.Pushes.{PushesWhereDue}
 use Rattle.turn_laws.specs.Runs.{OfEveryRun}
 use Rattle.turn_laws.specs.Silent.{EndsHeard}
@@ -44,6 +45,7 @@ pub record LawfulInTurns (start : List Disk) (past : List Moment) : Type 0 where
   pub runs_end : EachTurn (EndsAsRead start) past
   pub pushes : EachTurn (PushesWhereDue start) past
   pub told : EachTurn (TellsByRow start) past
+  pub operations : EachTurn StandsWhereReadsEnd past
 
 abbrev pub TurnsLaw : Type 0
 TurnsLaw = OfEveryRun LawfulInTurns
