@@ -167,6 +167,9 @@ pub mod OwnBlocks
 pub mod OwnActs
 pub mod Timely
 pub mod OwnTurns
+pub mod OwnRoms
+pub mod OwnAgentReads
+pub mod OwnEnded
 pub mod OwnCases
 pub mod SentPackets
 pub mod FoundRows

@@ -108,7 +108,7 @@ says_none Expired n present reads acts z = refl
 says_none NoLabel n present reads acts z = refl
 
 -- the list that a read counts for
-counts_same : (list : Option ℕ) (present : Option PresentList) → is_present list (present_in present) ≡ counts_for present list
+pub counts_same : (list : Option ℕ) (present : Option PresentList) → is_present list (present_in present) ≡ counts_for present list
 counts_same None present = refl
 counts_same (Some n) None = refl
 counts_same (Some n) (Some list) = refl

@@ -36,16 +36,17 @@ use Rattle.sbp_world.specs.Lines.{weight_in}
 use Rattle.sbp_world.specs.Packets.{target_left}
 use Rattle.sbp_world.specs.Wire.Wires.{layers_of}
 use Rattle.sbp_world.specs.Worlds.{Scene, WorldState, initiator_at}
-use Rattle.sbp_world.proofs.Common.{untrue}
-use Rattle.turn_laws.proofs.Calls.{Brings, Cases, calls, injects, loses, refuses, refuses_action, resets, sets_key}
+use Rattle.turn_laws.proofs.Calls.{Brings, calls, injects, loses, refuses, refuses_action, resets, sets_key}
 use Rattle.turn_laws.proofs.Handed.{handed}
 use Rattle.turn_laws.proofs.Judgements.{row_there}
+use Rattle.turn_laws.proofs.KnownRuns.{KnowingCases, of_every_known}
 use Rattle.turn_laws.proofs.OwnActs.{AreQuiet, act_quiet, quiet_none}
+use Rattle.turn_laws.proofs.OwnEnded.{lapses_due, responses_due}
 use Rattle.turn_laws.proofs.OwnNotes.{target_none}
-use Rattle.turn_laws.proofs.OwnTurns.{got_due, late_sender, same_resets, seen_due}
+use Rattle.turn_laws.proofs.OwnTurns.{got_due, late_due, same_resets, seen_due}
 use Rattle.turn_laws.proofs.Places.{Place}
-use Rattle.turn_laws.proofs.Timely.{Timely, of_timely_turns}
-use Rattle.turn_laws.specs.Operations.{OperationsStand, NoneEndsLaw, StandsWhereNoneEnds}
+use Rattle.turn_laws.proofs.Timely.{Timely, untimed}
+use Rattle.turn_laws.specs.Operations.{OperationsStand, ReadsEndLaw, StandsWhereReadsEnd}
 
 line_stands : (line : ℕ) (s : Scene) (past : List Moment) (event : Event) (rest : List Note) → Brings line s event rest → OperationsStand (turn past (asked line event) rest)
 line_stands line s past event rest (calls is_event c) = refl
@@ -104,26 +105,28 @@ module _ (units ready : ℕ) (start : List Disk) where
       → OperationsStand (turn (hist past s.world) (asked line (events.Act i action)) (handed (i + 1) (weight_in action) outbox w))
   act_stands past s line i action outbox state w e = quiet_none (i + 1) (weight_in action) outbox w (subst (λ (r : Option ℕ × Turn). AreQuiet r.1.0.sides) e (act_quiet action (initiator_at s.world i)))
 
-  -- ---- where no transaction of an initiator ends
-  pub none_ends_cases : Cases units ready start (Timely StandsWhereNoneEnds)
-  none_ends_cases = record {
-    heard = λ past s serial again run one found zero_to may others here behind judged timely none.
+  -- ---- where no transaction of an initiator ends but a read of a ROM or of AGENT_STATE
+  pub reads_end_cases : KnowingCases units ready start (Timely StandsWhereReadsEnd)
+  reads_end_cases = record {
+    heard = λ past s serial again run one found zero_to may others here behind judged k timely none.
         target_none _ _ others ∙ sym (to_target (hist past s.world) serial (as_sending one) (was_sent s.world here.holds.sound.stands serial one found) zero_to _);
-    heard_own = λ past s serial again one i found to_is inside own here behind noted timely none.
+    heard_own = λ past s serial again one i found to_is inside own here behind noted k timely none.
         let there : one.to ≤ length s.world.initiators = omega (arith, to_is, inside) in
         let old = initiator_at s.world i in
-        got_due units ready start past s here i inside serial one found to_is _ (here.holding i inside).responses none noted.judged (row_there s.world here.holds.sound.stands serial one found there old.layer (ap (layers_of s.world) to_is));
-    late = λ past s serial request done t found node_is e others here behind judged timely none. target_none t.outbox _ others ∙ sym (lapse_none past s here serial request done t found node_is e);
-    late_own = λ past s serial request i outbox state found node_is inside e own here behind judged timely none. untrue (sym none ∙ late_sender units ready start past s here i inside serial request found node_is (s.world) outbox state e);
-    sees = λ past s others here behind judged timely none. target_none _ _ others;
-    sees_own = λ past s i inside own here behind judged timely none. seen_due units ready start past s here i inside (same_resets units ready start past s here i inside timely) _;
-    ticks = λ past s others here behind judged timely none. target_none _ _ others;
-    ends = λ past s done here behind timely none. end_stands (hist past s.world) done;
-    acts = λ past s line i action outbox state inside e own here behind timely none. act_stands past s line i action outbox state _ e;
-    lines = λ past s line event rest behind brings fresh here there timely none. line_stands line s (hist past s.world) event rest brings;
+        got_due units ready start past s here i inside serial one found to_is _ (here.holding i inside).responses
+        (λ none. responses_due units ready start past s here k i inside serial again one found to_is _ timely none) none noted.judged (row_there s.world here.holds.sound.stands serial one found there old.layer (ap (layers_of s.world) to_is));
+    late = λ past s serial request done t found node_is e others here behind judged k timely none. target_none t.outbox _ others ∙ sym (lapse_none past s here serial request done t found node_is e);
+    late_own = λ past s serial request i outbox state found node_is inside e own here behind judged k timely none.
+        late_due units ready start past s here i inside serial request found node_is _ (lapses_due units ready start past s here k i inside serial request found node_is _ timely none) outbox state e;
+    sees = λ past s others here behind judged k timely none. target_none _ _ others;
+    sees_own = λ past s i inside own here behind judged k timely none. seen_due units ready start past s here i inside (same_resets units ready start past s here i inside timely) _;
+    ticks = λ past s others here behind judged k timely none. target_none _ _ others;
+    ends = λ past s done here behind k timely none. end_stands (hist past s.world) done;
+    acts = λ past s line i action outbox state inside e own here behind k timely none. act_stands past s line i action outbox state _ e;
+    lines = λ past s line event rest behind brings fresh here there k timely none. line_stands line s (hist past s.world) event rest brings;
     begins = λ line initiators is_ready timely none. refl;
   }
 
--- in each turn in which no transaction of an initiator ends
-pub none_ends_law : NoneEndsLaw
-none_ends_law = of_timely_turns (λ start. StandsWhereNoneEnds) (λ units ready start has. none_ends_cases units ready start)
+-- in each turn in which no transaction of an initiator ends but a read of a ROM or of AGENT_STATE
+pub reads_end_law : ReadsEndLaw
+reads_end_law = untimed (λ start. StandsWhereReadsEnd) (of_every_known (λ start. Timely StandsWhereReadsEnd) (λ units ready start has. reads_end_cases units ready start))

@@ -9,7 +9,7 @@ use Rattle.sbp_journal.specs.declared.side.Side.{Side}
 use Rattle.sbp_journal.specs.declared.side.Side.TheVariants as sides
 use Rattle.sbp_laws.specs.Hosts.{StateRead, Underway}
 use Rattle.sbp_laws.specs.NoteKinds.{is_operation_note, of_kind}
-use Rattle.sbp_laws.specs.Operations.{End, drop_note, end_notes, reset_op, reset_ops, reset_reads}
+use Rattle.sbp_laws.specs.Operations.{End, drop_note, end_notes, reset_op, reset_ops, reset_reads, stuck_note}
 use Rattle.sbp_world.specs.Hosts.Handing.{AreOthers, IsOther}
 use Rattle.sbp_world.specs.Telling.{told as told_one}
 use Rattle.sbp_world.specs.Worlds.{WorldState}
@@ -74,8 +74,17 @@ ends_kept i None present = refl
 ends_kept i (Some end) present =
     both (drop_note i end.drops present) (notes.Op i end.operation end.word ∷ []) ∙ ap (λ ns. ns ++ (notes.Op i end.operation end.word ∷ [])) (drops_kept i end.drops present)
 
+sticks_kept : (i : ℕ) (stuck : Bool) → Ops (stuck_note i stuck) ≡ stuck_note i stuck
+sticks_kept i true = refl
+sticks_kept i false = refl
+
 pub end_kept : (i : ℕ) (end : Option End) (present : Option ℕ) → Ops (end_notes i end present) ≡ end_notes i end present
 end_kept i end present = ends_kept i end present
+
+pub reply_kept : (i : ℕ) (end : Option End) (present : Option ℕ) (stuck : Bool) → Ops (end_notes i end present ++ stuck_note i stuck) ≡ end_notes i end present ++ stuck_note i stuck
+reply_kept i end present stuck =
+    both (end_notes i end present) (stuck_note i stuck)
+    ∙ ap (λ ns. ns ++ Ops (stuck_note i stuck)) (ends_kept i end present) ∙ ap (λ ns. end_notes i end present ++ ns) (sticks_kept i stuck)
 
 reads_kept : (i : ℕ) (reads : List StateRead) → Ops (reset_reads i reads) ≡ reset_reads i reads
 reads_kept i [] = refl

@@ -1,5 +1,5 @@
 -- In each turn in which no transaction of an initiator ends the notes of operations, lists and sessions are those that are due.
-use Rattle.std.proofs.Common.{[], arith, ◌+◌, ◌<◌, ◌∙◌, ◌∷◌, ◌≡◌, ◌≤◌, ◌&&◌, ◌++◌, Bool, Err, List, None, Ok, Option, Result, Some, ap, false, is_some, length, nat_eq, not, refl, subst, suc, sym, true, ℕ}
+use Rattle.std.proofs.Common.{[], arith, ◌+◌, ◌<◌, ◌∙◌, ◌∷◌, ◌≡◌, ◌≤◌, ◌++◌, Bool, Err, List, None, Ok, Option, Result, Some, ap, false, length, nat_eq, not, refl, subst, suc, sym, true, ℕ}
 use Rattle.async_packet.specs.Labels.{LabelParts}
 use Rattle.async_packet.specs.Packet.{Packet}
 use Rattle.async_packet.specs.Reading.{reading}
@@ -13,6 +13,7 @@ use Rattle.label_table.specs.Judging.{by_request}
 use Rattle.label_table.specs.Layer.{Finding, Layer, expiring_step, judging_step, of_again, of_generation, of_grammar, of_label, of_request, of_response, seeing_step}
 use Rattle.label_table.specs.declared.reply.ReplyKind.{ReplyKind}
 use Rattle.label_table.specs.declared.reply.Stale.{Stale}
+use Rattle.orb_layout.specs.Replies.{Expired}
 use Rattle.orb_list.specs.Lists.{ListState, drop_lists}
 use Rattle.orb_list.specs.Table.{drop_for, drop_step}
 use Rattle.orb_list.specs.declared.list.PresentList.{PresentList}
@@ -23,28 +24,28 @@ use Rattle.sbp_bus.specs.Generations.{id_of}
 use Rattle.sbp_bus.specs.Packets.{judged_note}
 use Rattle.sbp_bus.specs.Requests.{find}
 use Rattle.sbp_bus.specs.declared.requests.Request.{Request}
-use Rattle.sbp_initiator.specs.Effects.{Turn as Call}
-use Rattle.sbp_initiator.specs.Receiving.{expire_step, expired_as, receive_step, received, request_step, respond_step}
+use Rattle.sbp_initiator.specs.Effects.{Turn as Call, ended_for}
+use Rattle.sbp_initiator.specs.Receiving.{called, expire_step, expired_as, receive_step, received, request_step, respond_step}
 use Rattle.sbp_initiator.specs.Seeing.{see_step, seen_as}
+use Rattle.sbp_initiator.specs.declared.purpose.Ending.TheVariants as endings
 use Rattle.sbp_initiator.specs.declared.purpose.Purpose.{Purpose}
 use Rattle.sbp_initiator.specs.declared.state.InitiatorState.{InitiatorState}
 use Rattle.sbp_initiator.proofs.Histories.Over.{sound}
-use Rattle.sbp_initiator.proofs.Histories.Purposes.{kind_in}
 use Rattle.sbp_journal.specs.Addresses.{Access}
 use Rattle.sbp_journal.specs.Outgoings.{OutboxState, empty_outbox}
 use Rattle.sbp_journal.specs.Run.{Moment, said}
 use Rattle.sbp_journal.specs.Transactions.{Kind, Sending, Transaction, asked_as, asked_by, begun_by, between, part_of, request as request_part}
-use Rattle.sbp_journal.specs.Wire.{Terms, terms}
+use Rattle.sbp_journal.specs.Wire.{Terms, terms, waits}
 use Rattle.sbp_journal.specs.declared.cause.Judged.{Judged}
 use Rattle.sbp_journal.specs.declared.cause.Judged.TheVariants as judgements
 use Rattle.sbp_journal.specs.declared.note.Note.TheVariants as notes
 use Rattle.sbp_laws.specs.Hosts.{Host, host_at}
 use Rattle.sbp_laws.specs.Lists.{present_list}
-use Rattle.sbp_laws.specs.Operations.{at_initiator, drop_note, end_by_write, end_notes, got_notes, host_notes, reset_ops, seen_notes}
-use Rattle.sbp_laws.specs.Packets.{access_at, access_in, answered_at, packet_at, packet_in, receiver_in, sender_in, spelled_by}
+use Rattle.sbp_laws.specs.Operations.{at_initiator, drop_note, end_by_answer, end_by_write, end_notes, gets_stuck, got_notes, host_notes, reply_notes, reset_ops, seen_notes}
+use Rattle.sbp_laws.specs.Packets.{access_at, access_in, answer_in, answer_of, answered_at, packet_at, packet_in, receiver_in, sender_in, spelled_by}
 use Rattle.sbp_world.proofs.Common.{untrue}
 use Rattle.sbp_world.proofs.Agents.CrewFirsts.{access_there}
-use Rattle.sbp_world.proofs.Agents.Management.Hearing.{IsAnswer, answers, answers_none}
+use Rattle.sbp_world.proofs.Agents.Management.Hearing.{answers_none}
 use Rattle.sbp_world.proofs.Agents.Management.Holding.{past_terms, was_sent}
 use Rattle.sbp_world.proofs.Agents.Management.Still.{hist}
 use Rattle.sbp_world.proofs.Hosts.Knows.{may_see}
@@ -68,9 +69,10 @@ use Rattle.sbp_world.proofs.Hosts.Shows.{shown_now}
 use Rattle.turn_laws.proofs.FoundRows.{Asks, RowFor}
 use Rattle.turn_laws.proofs.Handed.{handed}
 use Rattle.turn_laws.proofs.OwnBlocks.{Expected, answer_silent, request_tells}
-use Rattle.turn_laws.proofs.OwnNotes.{Ops, own_are, sight_kept}
+use Rattle.turn_laws.proofs.OwnEnds.{Says}
+use Rattle.turn_laws.proofs.OwnNotes.{Ops, own_are, reply_kept, sight_kept}
 use Rattle.turn_laws.proofs.OwnStates.{AreReset, sight_due}
-use Rattle.turn_laws.specs.Operations.{ends_own, of_initiator}
+use Rattle.turn_laws.specs.Operations.{ends_own}
 use Rattle.turn_laws.proofs.Places.{HasCalls, Place}
 use Rattle.turn_laws.proofs.ReadsCarried.{resets_of}
 use Rattle.turn_laws.proofs.ReadsUnderWay.{AreTimely, Waiting, waits_now}
@@ -133,7 +135,7 @@ module _ (units ready : ℕ) (start : List Disk) (past : List Moment) (s : Scene
   number_is : old.number ≡ i
   number_is = (here.hosts i inside).number
 
-  drops : (drop_lists old.lists).0 ≡ present
+  pub drops : (drop_lists old.lists).0 ≡ present
   drops = drops_present old.lists ∙ sym (here.hosts i inside).rows.fits.present
 
   called_layer : Called old.layer
@@ -151,13 +153,13 @@ module _ (units ready : ℕ) (start : List Disk) (past : List Moment) (s : Scene
     abbrev q : Sending
     q = as_sending one
 
-    was_it : wire.sent serial ≡ Some q
+    pub was_it : wire.sent serial ≡ Some q
     was_it = was_sent s.world stands serial one found
 
     abbrev heard : Judged × Call
     heard = receive_step one.generation one.bytes empty_outbox old
 
-    abbrev IsDue : Judged × Call → Type 0
+    abbrev pub IsDue : Judged × Call → Type 0
     IsDue r = Ops (handed (suc i) 0 r.1.0 w) ≡ host_notes (said (judged_note serial r.0)) ms
 
     got_is : host_notes (said (notes.Got serial)) ms ≡ got_notes i host present wire (answered_at wire serial) serial
@@ -197,26 +199,24 @@ module _ (units ready : ℕ) (start : List Disk) (past : List Moment) (s : Scene
           expected access law judgements.Got = sym law
           expected access law (judgements.Ignored cause) = refl
 
-    -- a response
-    module _ (p : Packet) (label : LabelParts) (purpose : Option Purpose) (e : (judging_step old.layer one.generation one.bytes).0 ≡ of_response p label purpose) (judged : AreJudged (said (notes.Got serial) ∷ ms)) where
-      read : reading one.bytes ≡ Ok p
-      read = read_in old.layer one.generation one.bytes p label purpose e
+    -- a response, which answers this request: what is told as that ends is due
+    module _ (p : Packet) (label : LabelParts) (purpose : Option Purpose) (e : (judging_step old.layer one.generation one.bytes).0 ≡ of_response p label purpose) (own : ℕ) (answers : answered_at wire serial ≡ Some own) where
+      response_law : host_notes (said (notes.Got serial)) ms ≡ reply_notes old.number host present (access_at wire own) own (answer_of p)
+      response_law =
+          got_is ∙ ap (λ x. got_notes i host present wire x serial) answers
+          ∙ ap (λ x. reply_notes i host present (access_at wire own) own (answer_in x)) (packet_is p (read_in old.layer one.generation one.bytes p label purpose e))
+          ∙ ap (λ n. reply_notes n host present (access_at wire own) own (answer_of p)) (sym number_is)
 
-      a : IsAnswer wire serial q p
-      a = answers wire serial q p was_it read (kind_in old.layer one.generation one.bytes p label purpose e) (judged.0 q was_it)
-
-      -- so its transaction ends
-      closes_own : ends_own (said (notes.Got serial)) wire ≡ true
-      closes_own =
-          ap (λ so. of_initiator (receiver_in so) && is_some (answered_at wire serial)) was_it
-          ∙ ap (λ n. of_initiator (Some n) && is_some (answered_at wire serial)) to_is
-          ∙ ap (λ (x : Option ℕ). is_some x) a.answered
+      pub answer_tells : (t : Call) → Says empty_outbox t (reply_notes old.number host present (access_at wire own) own (answer_of p)) → Ops (handed (suc i) 0 t.0 w) ≡ host_notes (said (notes.Got serial)) ms
+      answer_tells t says =
+          own_are (suc i) 0 t.0 w (reply_notes old.number host present (access_at wire own) own (answer_of p)) says
+          ∙ reply_kept old.number (end_by_answer host own (answer_of p) present) present (gets_stuck host (access_at wire own) (answer_of p)) ∙ sym response_law
 
     abbrev Judgement : Judged × Call → Type 0
     Judgement r = AreJudged (said (judged_note serial r.0) ∷ ms)
 
     -- what a response brings is due
-    abbrev Responds : Type 0
+    abbrev pub Responds : Type 0
     Responds =
         (p : Packet) (label : LabelParts) (purpose : Option Purpose) (l : Layer Purpose) → judging_step old.layer one.generation one.bytes ≡ (of_response p label purpose, l)
         → AreJudged (said (notes.Got serial) ∷ ms) → IsDue (received (of_response p label purpose, l) one.bytes empty_outbox old)
@@ -234,19 +234,15 @@ module _ (units ready : ℕ) (start : List Disk) (past : List Moment) (s : Scene
         let turn : Call = (empty_outbox, record old { layer = l }) in silent (respond_step p one.bytes rcode [] turn).0 (answer_silent p one.bytes rcode [] turn)
     heard_by buffers responds (of_request p, l) e row j = request_due buffers p row l
 
-    -- where no transaction ends
+    -- where no other request of it ends than the latest read of a ROM
     abbrev EndsNone : Judged → Type 0
-    EndsNone judged = ends_own (said (judged_note serial judged)) wire ≡ false
+    EndsNone judged = ends_own (said (judged_note serial judged)) ms ≡ false
 
-    pub got_due : AreBuffers host.responses old.lists.memory → EndsNone heard.0 → Judgement heard → RowFor wire q old.layer.node (judging_step old.layer one.generation one.bytes) → IsDue heard
+    pub got_due : AreBuffers host.responses old.lists.memory → (EndsNone judgements.Got → Responds) → EndsNone heard.0 → Judgement heard → RowFor wire q old.layer.node (judging_step old.layer one.generation one.bytes) → IsDue heard
     unfolding receive_step
-    got_due buffers none judged row = by (judging_step old.layer one.generation one.bytes) refl row judged none
-      where
-        by : (x : Finding Purpose × Layer Purpose) → judging_step old.layer one.generation one.bytes ≡ x → RowFor wire q old.layer.node x → Judgement (received x one.bytes empty_outbox old) → EndsNone (received x one.bytes empty_outbox old).0 → IsDue (received x one.bytes empty_outbox old)
-        by x e row j none =
-            heard_by buffers
-            (λ p label purpose l f k. untrue (sym (subst (λ y. EndsNone (received y one.bytes empty_outbox old).0) (sym e ∙ f) none) ∙ closes_own p label purpose (ap (λ (r : Finding Purpose × Layer Purpose). r.0) f) k))
-            x e row j
+    got_due buffers responds none judged row =
+        heard_by buffers (λ p label purpose l e j. responds (subst (λ (y : Finding Purpose × Layer Purpose). EndsNone (received y one.bytes empty_outbox old).0) e none) p label purpose l e j)
+        (judging_step old.layer one.generation one.bytes) refl row judged
 
   -- ---- a sight
   inside_there : suc i ≤ length s.world.initiators
@@ -296,10 +292,10 @@ module _ (units ready : ℕ) (start : List Disk) (past : List Moment) (s : Scene
 
     -- the request that waits under the label is this one
     module _ (purpose : Option Purpose) (l : Layer Purpose) (e : expiring_step old.layer old.target request.label ≡ (Ok purpose, l)) where
-      there : At old.layer old.target number purpose
+      pub there : At old.layer old.target number purpose
       there = expires_at old.layer old.target request.label purpose called_layer (ap (λ (r : Result (Option Purpose) Stale × Layer Purpose). r.0) e)
 
-      waiting : Waiting (wire.held v)
+      pub waiting : Waiting (wire.held v)
       waiting =
           waits_now (wire.held v) there.kind
           (ap (λ g. shape_of (wire.held (transaction g (suc i) 0 number))) (sym shown.generation) ∙ sym (shown.states number) ∙ ap shape there.state)
@@ -320,16 +316,34 @@ module _ (units ready : ℕ) (start : List Disk) (past : List Moment) (s : Scene
           ∙ ap (λ n. wire.current (transaction request.label.generation request.node n number)) (sym (latest.aimed (omega (arith, node_is))))
           ∙ latest.current_is
 
-      from_is : sender_in (wire.sent serial) ≡ Some (suc i)
+      pub from_is : sender_in (wire.sent serial) ≡ Some (suc i)
       from_is =
           ap (λ n. sender_in (wire.sent n)) (sym serial_is) ∙ ap sender_in awaited.sent
           ∙ ap Some (sender_is awaited.packet v number waiting.kind awaited.part awaited.begun)
 
-    -- it was one of its own
-    late_from : (r : Result (Option Purpose) Stale × Layer Purpose) → expiring_step old.layer old.target request.label ≡ r → (expired_as r empty_outbox old).0 ≡ true → sender_in (wire.sent serial) ≡ Some (suc i)
-    late_from (Ok purpose, l) e f = from_is purpose l e
-    late_from (Err stale, l) e f = untrue f
+      pub held_is : wire.held (transaction old.layer.generation (suc i) 0 number) ≡ waits waiting.kind serial
+      held_is = ap (λ g. wire.held (transaction g (suc i) 0 number)) shown.generation ∙ waiting.is ∙ ap (waits waiting.kind) serial_is
 
-    pub late_sender : (outbox : OutboxState) (state : InitiatorState) → expire_step request.label empty_outbox old ≡ (true, (outbox, state)) → ends_own (said (notes.TimedOut serial)) wire ≡ true
+      late_law : host_notes (said (notes.TimedOut serial)) ms ≡ reply_notes old.number host present (access_at wire serial) serial Expired
+      late_law =
+          ap (λ so. at_initiator so (λ j. reply_notes j (host_at ms j) (present_list ms j) (access_at wire serial) serial Expired)) from_is
+          ∙ ap (λ n. reply_notes n host present (access_at wire serial) serial Expired) (sym number_is)
+
+      -- what is told as it lapses is due
+      pub lapse_tells : (t : Call) → Says empty_outbox t (reply_notes old.number host present (access_at wire serial) serial Expired) → Ops (handed (suc i) 0 t.0 w) ≡ host_notes (said (notes.TimedOut serial)) ms
+      lapse_tells t says =
+          own_are (suc i) 0 t.0 w (reply_notes old.number host present (access_at wire serial) serial Expired) says
+          ∙ reply_kept old.number (end_by_answer host serial Expired present) present (gets_stuck host (access_at wire serial) Expired) ∙ sym late_law
+
+    -- what a request that lapses brings is due
+    abbrev pub Lapses : Type 0
+    Lapses = (purpose : Option Purpose) (l : Layer Purpose) → expiring_step old.layer old.target request.label ≡ (Ok purpose, l)
+        → Ops (handed (suc i) 0 (ended_for purpose endings.Expired empty_outbox (called (record old { layer = l }))).0 w) ≡ host_notes (said (notes.TimedOut serial)) ms
+
+    late_by : Lapses → (r : Result (Option Purpose) Stale × Layer Purpose) → expiring_step old.layer old.target request.label ≡ r → (outbox : OutboxState) (state : InitiatorState) → expired_as r empty_outbox old ≡ (true, (outbox, state)) → Ops (handed (suc i) 0 outbox w) ≡ host_notes (said (notes.TimedOut serial)) ms
+    late_by lapses (Ok purpose, l) e outbox state f = ap (λ (r : Bool × Call). Ops (handed (suc i) 0 r.1.0 w)) (sym f) ∙ lapses purpose l e
+    late_by lapses (Err stale, l) e outbox state f = untrue (ap (λ (r : Bool × Call). r.0) f)
+
+    pub late_due : Lapses → (outbox : OutboxState) (state : InitiatorState) → expire_step request.label empty_outbox old ≡ (true, (outbox, state)) → Ops (handed (suc i) 0 outbox w) ≡ host_notes (said (notes.TimedOut serial)) ms
     unfolding expire_step
-    late_sender outbox state f = ap of_initiator (late_from (expiring_step old.layer old.target request.label) refl (ap (λ (r : Bool × Call). r.0) f))
+    late_due lapses outbox state f = late_by lapses (expiring_step old.layer old.target request.label) refl outbox state f

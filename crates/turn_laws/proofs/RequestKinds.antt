@@ -100,13 +100,13 @@ demand_fits actions.Low s = tt
 demand_fits actions.Link s = tt
 
 -- ---- the kind of a request, by what it asks for
-abbrev kind_if : (is_lock is_write is_block : Bool) → Kind
+abbrev pub kind_if : (is_lock is_write is_block : Bool) → Kind
 kind_if true w b = locking
 kind_if false true b = writing
 kind_if false false true = reading_block
 kind_if false false false = reading_quadlet
 
-abbrev kind_of : Option Access → Option Kind
+abbrev pub kind_of : Option Access → Option Kind
 kind_of None = None
 kind_of (Some a) = Some (kind_if a.is_lock a.is_write a.is_block)
 
@@ -126,7 +126,7 @@ body_kind (wants.Read offset) = refl
 body_kind (wants.Write offset value) = refl
 body_kind (wants.Point offset orb) = refl
 
-bytes_kind : (bytes : List ℕ) (label : ℕ) (kind : Kind) → part_of bytes ≡ request label kind → kind_of (access_in_bytes bytes) ≡ Some kind
+pub bytes_kind : (bytes : List ℕ) (label : ℕ) (kind : Kind) → part_of bytes ≡ request label kind → kind_of (access_in_bytes bytes) ≡ Some kind
 bytes_kind bytes label kind e = by (reading bytes) refl
   where
     by : (r : Result Packet PacketFault) → reading bytes ≡ r → kind_of (access_in (spelled_by r)) ≡ Some kind

@@ -38,7 +38,7 @@ use Rattle.sbp_initiator.specs.declared.purpose.Running.{Running}
 use Rattle.sbp_initiator.specs.declared.state.InitiatorState.{InitiatorState}
 use Rattle.sbp_journal.specs.Outgoings.{empty_outbox}
 use Rattle.sbp_journal.specs.Run.{Moment, said}
-use Rattle.sbp_journal.specs.Transactions.{Kind, Sending, Transaction, begun_by}
+use Rattle.sbp_journal.specs.Transactions.{Kind, Sending, Transaction, begun_by, reading_quadlet}
 use Rattle.sbp_journal.specs.Wire.{Terms, terms, waits}
 use Rattle.sbp_journal.specs.declared.cause.Cause.{Cause}
 use Rattle.sbp_journal.specs.declared.cause.Cause.TheVariants as causes
@@ -259,6 +259,68 @@ module _ (units ready : ℕ) (start : List Disk) (past : List Moment) (s : Scene
       by (Some r) g w = record { running = r; is = g; kind = rom_operation u r (operation_same u r w) f }
       by None g w = absurd (no_work u w)
 
+  -- ---- a request to its target that awaits an answer under a label
+  module _ (number : ℕ) (purpose : Option Purpose) (there : At old.layer old.target number purpose) (kind : Kind) (own : ℕ) (held_is : wire.held (own_of number) ≡ waits kind own) where
+    pub waits_here : IsAwaited wire (own_of number) kind own
+    waits_here = awaited (own_of number) kind own held_is
+
+    -- the latest read of a ROM
+    module _ (act : ℕ) (rom_is : purpose ≡ Some (purposes.Rom act)) where
+      at_rom : RomAt old.layer old.target number act
+      at_rom = subst (λ x. At old.layer old.target number x) rom_is there
+
+      pub under_rom : IsRom act old.operation
+      under_rom = h.one.runs number act at_rom
+
+      abbrev pub RunsRom : Option Underway → Type 0
+      RunsRom u = (is_rom u && is_latest u own) ≡ true
+
+      latest_by : (u : Option Underway) → host.operation ≡ u → work_of u ≡ work_in (Some under_rom.running) → RunsRom u
+      latest_by None f w = absurd (none_works under_rom.running w)
+      latest_by (Some u) f w =
+          ap (λ b. b && (u.latest == own)) (word_is u under_rom.running w under_rom.kind)
+          ∙ ap (λ n. n == own) (sym (h.tie number act at_rom u f) ∙ sym waits_here.current) ∙ same_number own
+
+      pub awaits_latest : RunsRom host.operation
+      awaits_latest = latest_by host.operation refl (work_is ∙ ap work_in under_rom.is)
+
+      pub awaits_quad : kind ≡ reading_quadlet
+      awaits_quad = h.kind number act at_rom kind own held_is
+
+    -- another request
+    module _ (other : (act : ℕ) → purpose ≡ Some (purposes.Rom act) → ⊥) where
+      other_by : (u : Underway) → host.operation ≡ Some u → (b c : Bool) → is_rom (Some u) ≡ b → (u.latest == own) ≡ c → (b && c) ≡ false
+      other_by u f false c g k = refl
+      other_by u f true false g k = refl
+      other_by u f true true g k = absurd (other r.running.act (sym there.is_for ∙ ap (purpose_for old.layer.peers old.target) (sym label_is) ∙ l.at.is_for))
+        where
+          r : Reading u
+          r = reads_own u f g
+
+          l : RomLabel old.layer old.target r.running.act
+          l = h.one.has r.running r.is r.kind
+
+          waiting : Waiting (wire.held (own_of l.number))
+          waiting = waits_now (wire.held (own_of l.number)) l.at.kind (sym (shown.states l.number) ∙ ap shape l.at.state)
+
+          waits_there : IsAwaited wire (own_of l.number) waiting.kind waiting.serial
+          waits_there = awaited (own_of l.number) waiting.kind waiting.serial waiting.is
+
+          serial_is : waiting.serial ≡ own
+          serial_is = waits_there.current ∙ h.tie l.number r.running.act l.at u f ∙ equal u.latest own k
+
+          packet_same : waits_there.packet ≡ waits_here.packet
+          packet_same = same_Some waits_there.packet waits_here.packet (sym waits_there.sent ∙ ap (λ n. wire.sent n) serial_is ∙ waits_here.sent)
+
+          label_is : l.number ≡ number
+          label_is =
+              ap (λ (x : Transaction). x.label)
+              (same_Some (own_of l.number) (own_of number) (sym waits_there.begun ∙ ap (λ x. begun_by x) packet_same ∙ waits_here.begun))
+
+      pub awaits_other : (u : Option Underway) → host.operation ≡ u → (is_rom u && is_latest u own) ≡ false
+      awaits_other None f = refl
+      awaits_other (Some u) f = other_by u f (is_rom (Some u)) (u.latest == own) refl refl
+
   -- ---- a packet that it hears
   module _ (serial : ℕ) (one : Sent) (found : found_sent serial s.world.store.kept ≡ Some one) (to_is : one.to ≡ suc i) where
     abbrev q : Sending
@@ -296,7 +358,7 @@ module _ (units ready : ℕ) (start : List Disk) (past : List Moment) (s : Scene
               goes_on.apart stands.wire generation one other stands.reached
               (ap (λ (t : Terms). t.ids generation one) (past_terms s.world stands) ∙ e ∙ sym (ap (λ (t : Terms). t.ids generation other) (past_terms s.world stands)))
 
-      there : At old.layer old.target label.number purpose
+      pub there : At old.layer old.target label.number purpose
       there = subst (λ n. At old.layer n label.number purpose) source_is closes
 
       pub held_is : wire.held (own_of label.number) ≡ waits a.waited a.own
@@ -307,78 +369,34 @@ module _ (units ready : ℕ) (start : List Disk) (past : List Moment) (s : Scene
           ∙ ap (λ n. wire.held (transaction one.generation one.to n (header_in p).label)) (sym from_is)
           ∙ a.held
 
-      waits_here : IsAwaited wire (own_of label.number) a.waited a.own
-      waits_here = awaited (own_of label.number) a.waited a.own held_is
-
       answered : (u : Option Underway) → got_quads (answered_at wire serial) wire serial u host.quads ≡ with_quad (answer_of p) (is_rom u && is_latest u a.own) host.quads
       answered u =
           ap (λ x. got_quads x wire serial u host.quads) a.answered ∙ ap (λ x. with_quad (answer_in x) (is_rom u && is_latest u a.own) host.quads) (packet_is p read)
 
+      -- of a read of a quadlet
+      pub quad_answers : a.waited ≡ reading_quadlet → IsRead (ending_of p) (answer_of p)
+      quad_answers quad =
+          quad_read (ending_of p) (answer_of p)
+          (subst (λ k. IsEndOf k (ending_of p) (answer_of p)) quad
+          (packet_ends p (read_small one.bytes bytes_are p read) (header_in p).label a.kind a.waited (sym (part_read one.bytes p read) ∙ a.part) a.alike))
+        where
+          bytes_are : AreBytes one.bytes
+          bytes_are = (stands.is.knows.ours serial q (ap (λ (t : Terms). t.sent serial) (past_terms s.world stands) ∙ was_it)).bytes
+
       -- of the latest read of a ROM
       module _ (act : ℕ) (rom_is : purpose ≡ Some (purposes.Rom act)) where
-        at_rom : RomAt old.layer old.target label.number act
-        at_rom = subst (λ x. At old.layer old.target label.number x) rom_is there
-
-        runs : IsRom act old.operation
-        runs = h.one.runs label.number act at_rom
-
         pub is_of_rom : IsRom act old.operation
-        is_of_rom = runs
+        is_of_rom = under_rom label.number purpose there a.waited a.own held_is act rom_is
 
-        abbrev pub RunsRom : Option Underway → Type 0
-        RunsRom u = (is_rom u && is_latest u a.own) ≡ true
-
-        latest_by : (u : Option Underway) → host.operation ≡ u → work_of u ≡ work_in (Some runs.running) → RunsRom u
-        latest_by None f w = absurd (none_works runs.running w)
-        latest_by (Some u) f w =
-            ap (λ b. b && (u.latest == a.own)) (word_is u runs.running w runs.kind)
-            ∙ ap (λ n. n == a.own) (sym (h.tie label.number act at_rom u f) ∙ sym waits_here.current) ∙ same_number a.own
-
-        pub latest : RunsRom host.operation
-        latest = latest_by host.operation refl (work_is ∙ ap work_in runs.is)
+        pub latest : (is_rom host.operation && is_latest host.operation a.own) ≡ true
+        latest = awaits_latest label.number purpose there a.waited a.own held_is act rom_is
 
         pub reads : IsRead (ending_of p) (answer_of p)
-        reads =
-            quad_read (ending_of p) (answer_of p)
-            (subst (λ k. IsEndOf k (ending_of p) (answer_of p)) (h.kind label.number act at_rom a.waited a.own held_is)
-            (packet_ends p (read_small one.bytes bytes_are p read) (header_in p).label a.kind a.waited (sym (part_read one.bytes p read) ∙ a.part) a.alike))
-          where
-            bytes_are : AreBytes one.bytes
-            bytes_are = (stands.is.knows.ours serial q (ap (λ (t : Terms). t.sent serial) (past_terms s.world stands) ∙ was_it)).bytes
+        reads = quad_answers (awaits_quad label.number purpose there a.waited a.own held_is act rom_is)
 
       -- of another request
-      module _ (other : (act : ℕ) → purpose ≡ Some (purposes.Rom act) → ⊥) where
-        other_by : (u : Underway) → host.operation ≡ Some u → (b c : Bool) → is_rom (Some u) ≡ b → (u.latest == a.own) ≡ c → (b && c) ≡ false
-        other_by u f false c g k = refl
-        other_by u f true false g k = refl
-        other_by u f true true g k = absurd (other r.running.act (sym there.is_for ∙ ap (purpose_for old.layer.peers old.target) (sym label_is) ∙ l.at.is_for))
-          where
-            r : Reading u
-            r = reads_own u f g
-
-            l : RomLabel old.layer old.target r.running.act
-            l = h.one.has r.running r.is r.kind
-
-            waiting : Waiting (wire.held (own_of l.number))
-            waiting = waits_now (wire.held (own_of l.number)) l.at.kind (sym (shown.states l.number) ∙ ap shape l.at.state)
-
-            waits_there : IsAwaited wire (own_of l.number) waiting.kind waiting.serial
-            waits_there = awaited (own_of l.number) waiting.kind waiting.serial waiting.is
-
-            serial_is : waiting.serial ≡ a.own
-            serial_is = waits_there.current ∙ h.tie l.number r.running.act l.at u f ∙ equal u.latest a.own k
-
-            packet_same : waits_there.packet ≡ waits_here.packet
-            packet_same = same_Some waits_there.packet waits_here.packet (sym waits_there.sent ∙ ap (λ n. wire.sent n) serial_is ∙ waits_here.sent)
-
-            label_is : l.number ≡ label.number
-            label_is =
-                ap (λ (x : Transaction). x.label)
-                (same_Some (own_of l.number) (own_of label.number) (sym waits_there.begun ∙ ap (λ x. begun_by x) packet_same ∙ waits_here.begun))
-
-        pub not_latest : (u : Option Underway) → host.operation ≡ u → (is_rom u && is_latest u a.own) ≡ false
-        not_latest None f = refl
-        not_latest (Some u) f = other_by u f (is_rom (Some u)) (u.latest == a.own) refl refl
+      pub not_latest : ((act : ℕ) → purpose ≡ Some (purposes.Rom act) → ⊥) → (u : Option Underway) → host.operation ≡ u → (is_rom u && is_latest u a.own) ≡ false
+      not_latest other u f = awaits_other label.number purpose there a.waited a.own held_is other u f
 
     -- ---- the first note of its turn
     module _ (k : KnownOf ms i old) where

@@ -141,6 +141,3 @@ untimed L law = record {
   between = λ line run r has small size next most told may. each_then (L run.start.disks) _ [] (timely_law.between line run r has small size next most told may)
       (law.between line run r has small size next most told may);
 }
-
-pub of_timely_turns : (L : List Disk → Turn → Type 0) → ((units ready : ℕ) (start : List Disk) → 0 < units → Cases units ready start (Timely (L start))) → OfEveryRun (λ start past. EachTurn (L start) past)
-of_timely_turns L cases = untimed L (of_every_run (λ start. Timely (L start)) cases)

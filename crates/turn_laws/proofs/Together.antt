@@ -18,6 +18,7 @@ use Rattle.turn_laws.proofs.LoginRuns.{login_run_law}
 use Rattle.turn_laws.proofs.PushTold.{push_told_law}
 use Rattle.turn_laws.proofs.Pushes.{pushes_law}
 use Rattle.turn_laws.proofs.Once.{once_law}
+use Rattle.turn_laws.proofs.OwnCases.{reads_end_law}
 use Rattle.turn_laws.proofs.Requests.{requests_run_law}
 use Rattle.turn_laws.proofs.RomRuns.{after_law}
 use Rattle.turn_laws.proofs.RunEnds.{runs_end_law}
@@ -58,6 +59,7 @@ turns_law = record {
     pushes = pushes_law.after_lines line run is some most size;
     told = told_law.after_lines line run is some most size;
     pushes_told = push_told_law.after_lines line run is some most size;
+    operations = reads_end_law.after_lines line run is some most size;
   };
   between = λ line run is some most size next deliveries told may. record {
     judgement = judgement_run_law.between line run is some most size next deliveries told may;
@@ -88,5 +90,6 @@ turns_law = record {
     pushes = pushes_law.between line run is some most size next deliveries told may;
     told = told_law.between line run is some most size next deliveries told may;
     pushes_told = push_told_law.between line run is some most size next deliveries told may;
+    operations = reads_end_law.between line run is some most size next deliveries told may;
   };
 }

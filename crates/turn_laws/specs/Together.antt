@@ -19,6 +19,7 @@ use Rattle.turn_laws.specs.Ends.{EndsWhereDue}
 use Rattle.turn_laws.specs.Faults.{DiesBeforeFaults}
 use Rattle.turn_laws.specs.Once.{DiesOnce}
 use Rattle.turn_laws.specs.PushTold.{TellsPushes}
+use Rattle.turn_laws.specs.Operations.{StandsWhereReadsEnd}
 use Rattle.turn_laws.specs.Pushes.{PushesWhereDue}
 use Rattle.turn_laws.specs.Runs.{OfEveryRun}
 use Rattle.turn_laws.specs.Silent.{EndsHeard}
@@ -46,6 +47,7 @@ pub record LawfulInTurns (start : List Disk) (past : List Moment) : Type 0 where
   pub pushes : EachTurn (PushesWhereDue start) past
   pub told : EachTurn (TellsByRow start) past
   pub pushes_told : EachTurn (TellsPushes start) past
+  pub operations : EachTurn StandsWhereReadsEnd past
 
 abbrev pub TurnsLaw : Type 0
 TurnsLaw = OfEveryRun LawfulInTurns

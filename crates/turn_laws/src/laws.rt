@@ -24,7 +24,7 @@ ghost use Rattle.turn_laws.specs.Judgement.{JudgementRunLaw};
 ghost use Rattle.turn_laws.specs.Login.{LoginRunLaw};
 ghost use Rattle.turn_laws.specs.ManagerRequests.{ManagerRequestsLaw};
 ghost use Rattle.turn_laws.specs.Once.{OnceLaw};
-ghost use Rattle.turn_laws.specs.Operations.{NoneEndsLaw};
+ghost use Rattle.turn_laws.specs.Operations.{ReadsEndLaw};
 ghost use Rattle.turn_laws.specs.Ordered.{OrderedLaw};
 ghost use Rattle.turn_laws.specs.OtherRequests.{OtherRequestsLaw};
 ghost use Rattle.turn_laws.specs.Packets.{PacketsLaw};
@@ -239,13 +239,15 @@ pub fn failures_have_rows()
     ensures { FailingLaw }
 {}
 
-/// In each turn in which no transaction of an initiator ends, whatever anybody injected, `op`, `drop` and `stuck`
-/// stand exactly where the rules of an initiator say. An operation ends by the status block of its management
-/// ORB, with its list where it ends lists. A reset that an initiator sees ends its operation and its reads of
-/// AGENT_STATE, in the order of their lines, and drops its list.
-#[tactic(auto, using(crate::proofs::OwnCases::none_ends_law))]
+/// In each turn in which no transaction of an initiator ends but a read of a ROM or of AGENT_STATE, whatever anybody
+/// injected, `op`, `drop` and `stuck` stand exactly where the rules of an initiator say. An operation ends by the
+/// status block of its management ORB, with its list where it ends lists. A `rom` operation ends by the answer to its
+/// latest read, with the ROM that it read or with an error, or as that read lapses. A read of AGENT_STATE ends with the
+/// state or with an error, and RESET drops the list that it says something of. A reset that an initiator sees ends its
+/// operation and its reads of AGENT_STATE, in the order of their lines, and drops its list.
+#[tactic(auto, using(crate::proofs::OwnCases::reads_end_law))]
 pub fn statuses_and_resets_end_operations()
-    ensures { NoneEndsLaw }
+    ensures { ReadsEndLaw }
 {}
 
 /// Behind each turn of every run, whatever anybody injected, an agent that is ACTIVE has its main request under way,
