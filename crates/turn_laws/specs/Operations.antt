@@ -10,6 +10,7 @@ use Rattle.sbp_laws.specs.Packets.{answered_at, receiver_in, sender_in}
 use Rattle.sbp_laws.specs.Turns.{EachTurn, Turn}
 use Rattle.turn_laws.specs.Runs.{OfEveryRun}
 
+-- the notes of the turn on operations, lists and sessions are those that the rules give
 abbrev pub OperationsStand : Turn → Type 0
 OperationsStand t = of_kind is_operation_note t.rest ≡ operation_notes t
 
@@ -24,7 +25,7 @@ abbrev pub reads_state : List StateRead → ℕ → Bool
 reads_state [] own = false
 reads_state (read ∷ reads) own = (read.serial == own) || reads_state reads own
 
--- a request is the latest read of a ROM, or a read of AGENT_STATE, which is none of the operation
+-- a request is the latest read of a ROM operation, or a read of AGENT_STATE that is not the latest request of the operation under way
 abbrev pub is_read : Host → ℕ → Bool
 is_read host own = (is_rom host.operation && is_latest host.operation own) || (reads_state host.reads own && not (is_latest host.operation own))
 
@@ -39,6 +40,7 @@ ends_own (said (notes.Got serial)) past = ends_other past (receiver_in ((terms p
 ends_own (said (notes.TimedOut serial)) past = ends_other past (sender_in ((terms past).sent serial)) (Some serial)
 ends_own moment past = false
 
+-- where no other transaction of an initiator ends than such a read
 abbrev pub StandsWhereReadsEnd : Turn → Type 0
 StandsWhereReadsEnd t = ends_own t.start t.past ≡ false → OperationsStand t
 
