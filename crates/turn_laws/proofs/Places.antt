@@ -20,6 +20,7 @@ use Rattle.sbp_world.specs.Hosts.Reads.{IsReadBy}
 use Rattle.sbp_world.specs.Hosts.Runs.{IsRun, more_deliveries}
 use Rattle.sbp_world.specs.Hosts.Worlds.{IsHost}
 use Rattle.sbp_world.specs.Lists.Contents.{AreAsked}
+use Rattle.sbp_world.specs.Lists.FewLogins.{IsCalmBeside}
 use Rattle.sbp_world.specs.Lists.Taken.{AreTaken}
 use Rattle.sbp_world.specs.Making.{ready_logins}
 use Rattle.sbp_world.specs.Runs.{AreEntries, Entry, Run, after, beginning}
@@ -48,10 +49,16 @@ use Rattle.sbp_world.proofs.Hosts.MemoryReads.{memory_law, memory_read}
 use Rattle.sbp_world.proofs.Hosts.OrbRuns.{Orbs, orbs_between, orbs_of_runs}
 use Rattle.sbp_world.proofs.Hosts.Runs.{count_after, count_between, run_law, are_told}
 use Rattle.sbp_world.proofs.Hosts.StepLaws.{step_law}
+use Rattle.sbp_world.proofs.Lists.Beside.{beside_before}
+use Rattle.sbp_world.proofs.Lists.Clauses.{open_lists_law}
 use Rattle.sbp_world.proofs.Lists.ContentAsked.{contents_law}
 use Rattle.sbp_world.proofs.Lists.Courses.{more_than_one}
+use Rattle.sbp_world.proofs.Lists.DataHeard.{AreOwnFor}
+use Rattle.sbp_world.proofs.Lists.DataLaws.{dry_by}
+use Rattle.sbp_world.proofs.Lists.ListsProved.{closing}
 use Rattle.sbp_world.proofs.Lists.OpenProved.{taken_lists_law}
 use Rattle.sbp_world.proofs.Lists.JoinLaws.{moments_same, lines_same}
+use Rattle.sbp_world.proofs.Lists.ShortLines.{short_law}
 use Rattle.turn_laws.proofs.OperationAsked.{asked_opens}
 use Rattle.turn_laws.proofs.ReadsCarried.{Paired, asked_paired, paired_between, paired_of_runs}
 use Rattle.sbp_world.proofs.Sessions.HoldingRuns.{holding_law}
@@ -99,6 +106,8 @@ pub record Place (units ready : ℕ) (start : List Disk) (past : List Moment) (s
   -- what its memory gives and refuses, and the ORBs in its places of management
   pub memory : (i : ℕ) → i < length s.world.initiators → IsReadBy (hist past s.world) i (initiator_at s.world i)
   pub placed : (i : ℕ) → i < length s.world.initiators → ArePlaces (hist past s.world) i (initiator_at s.world i)
+  -- the FIFOs of its live logins, where it injected no packets
+  pub owned : (i : ℕ) → i < length s.world.initiators → IsCalmBeside (hist past s.world) i → AreOwnFor s.world i
 
 -- an initiator uses one login number at most for each of its actions, and so one for each line
 few_logins : (ready : Bool) (past : List Moment) (i lines : ℕ) (s : InitiatorState) → Orbs ready past i s → s.counts.acts ≤ lines → lines + 1 ≤ 2 ^ 32 → s.counts.logins ≤ 2 ^ 32
@@ -164,6 +173,9 @@ module _ (line : ℕ) (run : Run) (few : run.initiators ≤ 4) (has : 0 < run.un
       holding = λ i b. subst (λ ms. HoldsLogin ms i (initiator_at here.world i)) same (holding_law.after_lines line front is_run i (inside i b));
       memory = λ i b. subst (λ ms. IsReadBy ms i (initiator_at here.world i)) same (memory_law.reads line front is_run i (inside i b));
       placed = λ i b. subst (λ ms. ArePlaces ms i (initiator_at here.world i)) same (placed_law.after_lines line front is_run i (inside i b));
+      owned = λ i b c.
+          let d = subst (λ ms. IsCalmBeside ms i) (sym same) c in
+          ((dry_by short_law).after_lines line front is_run has small size (closing.before open_lists_law line front is_run has small size d.1) d.1 i b d.0).0;
     }
 
     -- between deliveries of a line that follows
@@ -218,6 +230,8 @@ module _ (line : ℕ) (run : Run) (few : run.initiators ≤ 4) (has : 0 < run.un
               holding = λ i b. moved (λ ms. HoldsLogin ms i (initiator_at w i)) (holding_law.between line front is_run next most told m i (inside_there i b));
               memory = λ i b. moved (λ ms. IsReadBy ms i (initiator_at w i)) (memory_law.between line front is_run next most told m i (inside_there i b));
               placed = λ i b. moved (λ ms. ArePlaces ms i (initiator_at w i)) (placed_law.between line front is_run next most told m i (inside_there i b));
+              owned = λ i b. moved (λ ms. IsCalmBeside ms i → AreOwnFor w i) (λ c.
+                  ((dry_by short_law).between line front is_run has small size next most told m (closing.between open_lists_law line front is_run has small size next (more_deliveries most) d told m c.1) c.1 i b c.0).0);
             }
 
     -- as a line begins in which a node is called
@@ -253,4 +267,5 @@ module _ (line : ℕ) (run : Run) (few : run.initiators ≤ 4) (has : 0 < run.un
             holding = λ i b. (let k = p.holding i b in record { login = k.login; responses = k.responses });
             memory = λ i b. subst (λ ms. IsReadBy (asked next event ∷ ms) i (initiator_at here.world i)) same (begun_memory i (inside i b));
             placed = λ i b. are_places (asked next event ∷ hist past here.world) i (initiator_at here.world i) (λ place c. (p.placed i b).holds place c);
+            owned = λ i b c. (let own = p.owned i b (beside_before (asked next event ∷ []) (hist past here.world) i c) in λ place login e live to. own place login e live to);
           }
