@@ -32,7 +32,7 @@ use Rattle.turn_laws.proofs.Pass.{of_every_run}
 use Rattle.turn_laws.proofs.Places.{Place}
 
 -- the notes of a turn, the latest first, behind what stood before it
-behind_is : (rest old : List Note) (past : List Moment) → map said (reverse rest) ++ (map said old ++ past) ≡ map said (onto rest old) ++ past
+pub behind_is : (rest old : List Note) (past : List Moment) → map said (reverse rest) ++ (map said old ++ past) ≡ map said (onto rest old) ++ past
 behind_is [] old past = refl
 behind_is (note ∷ rest) old past =
     let before = map said old ++ past in

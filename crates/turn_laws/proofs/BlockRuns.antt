@@ -1,5 +1,5 @@
--- Each unsolicited status of the terms is a write of the block before each turn of every run: it is carried from place to place, beside whom one is pending to.
-use Rattle.std.proofs.Common.{arith, ◌≡◌, ◌∙◌, refl, sym, ap, subst, ℕ, suc, ◌+◌, ◌<◌, Bool, true, false, List, [], ◌∷◌, ◌++◌, map, Option, Some, Result, Ok}
+-- Each unsolicited status of the terms is a write of the block, to the FIFO of a login where its receiver injected nothing, before each turn of every run: it is carried from place to place, beside whom one is pending to.
+use Rattle.std.proofs.Common.{arith, ◌≡◌, ◌∙◌, refl, sym, ap, subst, ℕ, suc, ◌+◌, ◌<◌, Bool, true, false, List, [], ◌∷◌, ◌++◌, length, map, Option, Some, Result, Ok}
 use Rattle.std.proofs.Math.Nat.{suc-ne-zero}
 use Rattle.std.proofs.lemmas.Bool.Decides.{nat_tests}
 use Rattle.bus_transactions.specs.Packets.{SerialsCount}
@@ -40,6 +40,7 @@ use Rattle.sbp_world.specs.Making.{new_world}
 use Rattle.sbp_world.specs.Nodes.{told_seen, with_seen}
 use Rattle.sbp_world.specs.Settling.{settled_from}
 use Rattle.sbp_world.specs.Worlds.{Scene, WorldState, initiator_at, with_initiator, with_note, with_target, without_notes}
+use Rattle.sbp_world.proofs.Agents.Management.Delivery.{marked_generations}
 use Rattle.sbp_world.proofs.Agents.Management.Holding.{was_sent}
 use Rattle.sbp_world.proofs.Agents.Management.Still.{hist}
 use Rattle.sbp_world.proofs.Formed.{AreOwn}
@@ -53,14 +54,14 @@ use Rattle.turn_laws.proofs.Handed.{onto}
 use Rattle.turn_laws.proofs.LaterNotes.{owns_handed}
 use Rattle.turn_laws.proofs.LaterTerms.{Clean}
 use Rattle.turn_laws.proofs.Pass.{Begins, of_every_carried}
-use Rattle.turn_laws.proofs.PendingCalls.{Any, all_owned, blocks_kept}
+use Rattle.turn_laws.proofs.PendingCalls.{Fifos, all_owned, blocks_kept, sight_owned}
 use Rattle.turn_laws.proofs.PendingFirsts.{got_injected, late_injected}
 use Rattle.turn_laws.proofs.PendingHeard.{marked_same}
 use Rattle.turn_laws.proofs.PendingOwn.{all_leave, pushes_same, there_laws}
 use Rattle.turn_laws.proofs.PendingTerms.{ignored_same, upd_other}
 use Rattle.turn_laws.proofs.PendingTurns.{Kept, line_clean, note_clean}
 use Rattle.turn_laws.proofs.Places.{Place}
-use Rattle.turn_laws.proofs.PushBlocks.{AreBlocks, handed_blocks, line_blocks, moved_block, note_blocks}
+use Rattle.turn_laws.proofs.PushBlocks.{AreBlocks, calm_by, handed_blocks, line_blocks, moved_block, note_blocks}
 use Rattle.turn_laws.proofs.PushSerials.{Has, counted}
 use Rattle.turn_laws.proofs.SerialsStay.{IsNoSent}
 
@@ -76,6 +77,9 @@ module _ (units ready : ℕ) (has : 0 < units) (start : List Disk) (past : List 
 
   abbrev node : NodeState
   node = w.target
+
+  abbrev nodes : ℕ
+  nodes = length w.initiators
 
   -- ---- a packet is judged
   module _ (serial : ℕ) (one : Sent) (found : found_sent serial w.store.kept ≡ Some one) where
@@ -99,8 +103,9 @@ module _ (units ready : ℕ) (has : 0 < units) (start : List Disk) (past : List 
       heard_blocks media others there =
           let m = marked_same serial again (with_target X.1.node w) in
           blocks_kept units ready has start past s here (judged_note serial X.0) X.1.outbox V media (ap (λ ns. judged_note serial X.0 ∷ ns) m.1.1) there others
-          (subst (λ (n : NodeState). AllOwned Any n.layer X.1.outbox.packets) (sym m.0) (all_owned units ready has start past s here (receives run s.media.disks one.generation one.bytes)))
-          (judged_clean X.0) (judged_blocks X.0)
+          (subst (λ (n : NodeState). AllOwned (Fifos ms nodes V.generations) n.layer X.1.outbox.packets) (sym m.0)
+          (all_owned units ready has start past s here V.generations (marked_generations serial again (with_target X.1.node w)) (receives run s.media.disks one.generation one.bytes)))
+          (judged_clean X.0) (ap (λ xs. length xs) m.1.0) (judged_blocks X.0)
 
   -- ---- a transaction of the target times out
   module _ (serial : ℕ) (request : Request) (done : Unit {0}) (x : target.Scene) (e : expired request.peer request.label (target.scene node empty_outbox) ≡ (Ok done, x)) (others : AreOthers x.outbox.sides) where
@@ -110,8 +115,8 @@ module _ (units ready : ℕ) (has : 0 < units) (start : List Disk) (past : List 
     pub late_blocks : Place units ready start past (record { world = handed_out 0 0 x.outbox lapsed; media = s.media }) → AreBlocks start (hist past (handed_out 0 0 x.outbox lapsed))
     late_blocks there =
         blocks_kept units ready has start past s here (notes.TimedOut serial) x.outbox lapsed s.media refl there others
-        (subst (λ (y : target.Scene). AllOwned Any y.node.layer y.outbox.packets) (ap (λ (z : Result (Unit {0}) Stale × target.Scene). z.1) e) (all_owned units ready has start past s here (lets_expire request.peer request.label)))
-        (note_clean units ready has start past s here (notes.TimedOut serial) tt (late_injected (begun_in (t.sent serial)) t)) (note_blocks start ms b (notes.TimedOut serial) tt)
+        (subst (λ (y : target.Scene). AllOwned (Fifos ms nodes w.generations) y.node.layer y.outbox.packets) (ap (λ (z : Result (Unit {0}) Stale × target.Scene). z.1) e) (all_owned units ready has start past s here w.generations refl (lets_expire request.peer request.label)))
+        (note_clean units ready has start past s here (notes.TimedOut serial) tt (late_injected (begun_in (t.sent serial)) t)) refl (note_blocks start ms b (notes.TimedOut serial) tt)
 
   -- ---- it sees a generation, and a second passes
   module _ (x : target.Scene) (others : AreOthers x.outbox.sides) where
@@ -127,14 +132,14 @@ module _ (units ready : ℕ) (has : 0 < units) (start : List Disk) (past : List 
     pub sight_blocks : x ≡ alone (sees latest (id_of w.generations.latest 0)) node → Place units ready start past (record { world = handed_out 0 0 x.outbox v; media = s.media }) → AreBlocks start (hist past (handed_out 0 0 x.outbox v))
     sight_blocks is there =
         blocks_kept units ready has start past s here (notes.Seen 0 latest) x.outbox v s.media refl there others
-        (subst (λ (y : target.Scene). AllOwned Any y.node.layer y.outbox.packets) (sym is) (all_owned units ready has start past s here (sees latest (id_of w.generations.latest 0))))
-        (note_clean units ready has start past s here (notes.Seen 0 latest) tt refl) (note_blocks start ms b (notes.Seen 0 latest) tt)
+        (subst (λ (y : target.Scene). AllOwned (Fifos ms nodes v.generations) y.node.layer y.outbox.packets) (sym is) (sight_owned units ready has start past s here v.generations latest (id_of w.generations.latest 0)))
+        (note_clean units ready has start past s here (notes.Seen 0 latest) tt refl) refl (note_blocks start ms b (notes.Seen 0 latest) tt)
 
     pub tick_blocks : x ≡ alone ticks node → Place units ready start past (record { world = handed_out 0 0 x.outbox u; media = s.media }) → AreBlocks start (hist past (handed_out 0 0 x.outbox u))
     tick_blocks is there =
         blocks_kept units ready has start past s here notes.Tick x.outbox u s.media refl there others
-        (subst (λ (y : target.Scene). AllOwned Any y.node.layer y.outbox.packets) (sym is) (all_owned units ready has start past s here ticks))
-        (note_clean units ready has start past s here notes.Tick tt refl) (note_blocks start ms b notes.Tick tt)
+        (subst (λ (y : target.Scene). AllOwned (Fifos ms nodes w.generations) y.node.layer y.outbox.packets) (sym is) (all_owned units ready has start past s here w.generations refl ticks))
+        (note_clean units ready has start past s here notes.Tick tt refl) refl (note_blocks start ms b notes.Tick tt)
 
   -- ---- a call of an initiator
   module _ (from weight : ℕ) (other : from ≡ 0 → ⊥) (outbox : OutboxState) (v : WorldState) (own : AreOwn outbox.sides) where
@@ -183,7 +188,7 @@ module _ (units ready : ℕ) (has : 0 < units) (start : List Disk) (past : List 
           let small = (counted start first count.1).pushes r k_first in
           let next = count.0 in
           let q : Sending = record { generation = generation; from = from; to = to; bytes = bytes; injected = (terms first).injected serial } in
-          moved_block ((terms first).sent r) ((terms second).sent r)
+          moved_block first second (calm_by (said (notes.Sent serial generation from to bytes) ∷ []) first) ((terms first).sent r) ((terms second).sent r)
           (ap (λ f. f r) (sent_now first serial generation from to bytes) ∙ upd_other (terms first).sent serial r (Some q) (grind (arith, nat_tests)))
           (noted_line (notes.Injected serial) tt r k_first)
 

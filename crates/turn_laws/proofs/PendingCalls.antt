@@ -1,10 +1,10 @@
 -- What is carried of the target's unsolicited statuses is kept by each call of the target: each packet that it hands out has its row, and a row that is new is to a node that had none pending.
-use Rattle.std.proofs.Common.{arith, ◌≡◌, ◌∙◌, refl, sym, ap, subst, inl, inr, ◌⊎◌, ℕ, ◌<◌, ◌≤◌, true, false, List, [], ◌∷◌, length, Some}
+use Rattle.std.proofs.Common.{arith, ◌≡◌, ◌∙◌, refl, sym, ap, subst, inl, inr, ◌⊎◌, ℕ, suc, ◌<◌, ◌≤◌, true, false, List, [], ◌∷◌, length, Some}
 use Rattle.bus_transactions.specs.Rows.{awaits, kind_as, shape, shape_of}
 use Rattle.bus_transactions.specs.Wire.{transaction}
 use Rattle.bus_transactions.proofs.Facts.{AskedBy, asked_is, begun_asked}
 use Rattle.bus_transactions.proofs.Reaches.{goes_on}
-use Rattle.label_table.specs.Layer.{Layer}
+use Rattle.label_table.specs.Layer.{Layer, seeing_step}
 use Rattle.label_table.specs.Peers.{state_for}
 use Rattle.label_table.specs.declared.reply.ReplyKind.{ReplyKind}
 use Rattle.label_table.specs.declared.reply.ReplyKind.TheVariants as kinds
@@ -12,9 +12,9 @@ use Rattle.command_agent.specs.declared.step.Which.{Which}
 use Rattle.media_bay.specs.Unsolicited.{block}
 use Rattle.rbc_disk.specs.Disk.{Disk}
 use Rattle.rbc_disk.specs.Held.{Held as Media}
-use Rattle.sbp_bus.specs.Generations.{GenerationsState, id_of, topology_at}
+use Rattle.sbp_bus.specs.Generations.{GenerationsState, id_of, node_of, topology_at}
 use Rattle.sbp_journal.specs.Addresses.{Access}
-use Rattle.sbp_journal.specs.Outgoings.{OutboxState}
+use Rattle.sbp_journal.specs.Outgoings.{OutboxState, empty_outbox}
 use Rattle.sbp_journal.specs.Run.{Moment, said}
 use Rattle.sbp_journal.specs.Transactions.{Kind, Transaction, locking, part_of, reading_block, reading_quadlet, request, writing}
 use Rattle.sbp_journal.specs.Wire.{Terms, terms, waits}
@@ -22,15 +22,19 @@ use Rattle.sbp_journal.specs.declared.note.Note.{Note}
 use Rattle.sbp_journal.specs.declared.outbox.Outgoing.{Outgoing}
 use Rattle.sbp_laws.specs.Packets.{access_in_bytes, receiver_in}
 use Rattle.sbp_laws.specs.Targets.{for_agent, for_manager, for_nobody, over, purpose_of, target_at}
-use Rattle.sbp_target.specs.Calls.{Call, alone}
+use Rattle.sbp_target.specs.Calls.{Call, alone, sees}
 use Rattle.sbp_target.specs.Histories.Transactions.{IsUnderWay}
-use Rattle.sbp_target.specs.Nodes.{NodeState}
+use Rattle.sbp_target.specs.Nodes.{NodeState, scene}
+use Rattle.sbp_target.specs.Receiving.{seen}
 use Rattle.sbp_target.specs.Units.{is_pending as is_listed}
 use Rattle.sbp_target.specs.declared.purpose.Purpose.{Purpose}
 use Rattle.sbp_target.specs.declared.purpose.Purpose.TheVariants as purposes
 use Rattle.sbp_world.specs.Agents.Serials.{IsHanded}
 use Rattle.sbp_world.specs.Handing.{handed_out}
+use Rattle.sbp_target.proofs.Histories.Pass.{sees_by}
 use Rattle.sbp_world.specs.Hosts.Handing.{AreOthers}
+use Rattle.sbp_world.specs.Lists.FewLogins.{IsCalmBeside}
+use Rattle.sbp_world.specs.Lists.OwnLogins.{IsLoginFifo}
 use Rattle.sbp_world.specs.Worlds.{Scene, WorldState}
 use Rattle.sbp_world.proofs.Agents.Handed.{are_handed}
 use Rattle.sbp_world.proofs.Agents.Management.Holding.{known_id, past_terms}
@@ -48,7 +52,7 @@ use Rattle.turn_laws.proofs.LaterTerms.{Clean, Later, New, Own, Pushes, free_wai
 use Rattle.turn_laws.proofs.PendingKept.{AreSent, Id, Pending, Rows, Ties}
 use Rattle.turn_laws.proofs.PendingTurns.{Kept, small, turn_kept, turn_later}
 use Rattle.turn_laws.proofs.Places.{Place}
-use Rattle.turn_laws.proofs.PushBlocks.{AreBlocks, IsBlock, handed_blocks, request_access}
+use Rattle.turn_laws.proofs.PushBlocks.{AreBlocks, IsBlock, calm_by, calm_now, handed_blocks, request_access}
 use Rattle.turn_laws.proofs.PushOwners.{IsWrite, access_writes, nobodys_pushed, turn_before}
 use Rattle.turn_laws.proofs.PushSerials.{Has, pushes_are_nobodys}
 use Rattle.turn_laws.proofs.StatusRows.{Row}
@@ -77,22 +81,36 @@ pub record Joins (t u : Terms) (nodes : ℕ) (before later : List ℕ) (r : ℕ)
   pub not_before : is_listed (Id t to) before ≡ false
   pub is_later : is_listed (Id t to) later ≡ true
 
--- any FIFO
-abbrev pub Any : ℕ → ℕ → Type 0
-Any to offset = Unit {0}
+-- of an initiator that injected nothing, the FIFO of a login
+abbrev pub Fifos : List Moment → ℕ → GenerationsState → ℕ → ℕ → Type 0
+Fifos past nodes g to offset = (i : ℕ) → i < nodes → IsCalmBeside past i → node_of g 0 to ≡ Some (suc i) → IsLoginFifo offset
 
--- an unsolicited status is the block
-abbrev pub Pays : Purpose → List ℕ → Type 0
-Pays p bytes = p ≡ purposes.Unsolicited → (access : Access) → access_in_bytes bytes ≡ Some access → access.payload ≡ block
+-- an unsolicited status is the block, and goes to such a FIFO
+abbrev GoesTo : List Moment → ℕ → ℕ → Access → Type 0
+GoesTo past nodes to access = (i : ℕ) → i < nodes → IsCalmBeside past i → to ≡ suc i → IsLoginFifo access.offset
+
+abbrev Pays : List Moment → ℕ → ℕ → Purpose → List ℕ → Type 0
+Pays past nodes to p bytes =
+    p ≡ purposes.Unsolicited → (access : Access) → access_in_bytes bytes ≡ Some access → GoesTo past nodes to access × (access.payload ≡ block)
 
 -- each request has a row that belongs to somebody
-abbrev pub Owner : Layer Purpose → GenerationsState → ℕ → List ℕ → Type 0
-Owner layer g to bytes = (number : ℕ) (kind : Kind) → part_of bytes ≡ request number kind → (p : Purpose) × (IsUnderWay layer (Some p) (id_of (topology_at g 0) to) number × Pays p bytes)
+abbrev Owner : List Moment → ℕ → Layer Purpose → GenerationsState → ℕ → List ℕ → Type 0
+Owner past nodes layer g to bytes = (number : ℕ) (kind : Kind) → part_of bytes ≡ request number kind → (p : Purpose) × (IsUnderWay layer (Some p) (id_of (topology_at g 0) to) number × Pays past nodes to p bytes)
 
-leave_all : (layer : Layer Purpose) (g : GenerationsState) (packets : List Outgoing) → AllOwned Any layer packets → AllLeave (Owner layer g) 0 g packets
-leave_all layer g [] a = tt
-leave_all layer g (packet ∷ later) a =
-    ((λ to e number kind f. let o = a.0 number kind f in (o.purpose, (subst (λ id. IsUnderWay layer (Some o.purpose) id number) (sym (node_has (topology_at g 0) packet.to to e).id_is) o.row, λ u access is. (o.told u access is).1))), leave_all layer g later a.1)
+owner_of : (past : List Moment) (nodes : ℕ) (layer : Layer Purpose) (g : GenerationsState) (packet : Outgoing) → AllOwned (Fifos past nodes g) layer (packet ∷ []) → (to : ℕ) → node_of g 0 packet.to ≡ Some to → Owner past nodes layer g to packet.bytes
+owner_of past nodes layer g packet a to e number kind f =
+    let o = a.0 number kind f in
+    let row = subst (λ id. IsUnderWay layer (Some o.purpose) id number) (sym (node_has (topology_at g 0) packet.to to e).id_is) o.row in
+    (o.purpose, (row, λ u access is. let told = o.told u access is in (λ i l c same. told.0 i l c (e ∙ ap (λ n. Some n) same), told.1)))
+
+leave_all : (past : List Moment) (nodes : ℕ) (layer : Layer Purpose) (g : GenerationsState) (packets : List Outgoing) → AllOwned (Fifos past nodes g) layer packets → AllLeave (Owner past nodes layer g) 0 g packets
+leave_all past nodes layer g [] a = tt
+leave_all past nodes layer g (packet ∷ later) a = (owner_of past nodes layer g packet (a.0, tt), leave_all past nodes layer g later a.1)
+
+-- as a generation is seen, no packet is handed out
+sight_none : (generation id : ℕ) (node : NodeState) → (alone (sees generation id) node).outbox.packets ≡ []
+unfolding seen
+sight_none generation id node = sees_by (λ layer packets. packets ≡ []) (record { disowns = λ layer packets peer label h. h }) (seeing_step node.layer generation id) (scene node empty_outbox) refl
 
 module _ (units ready : ℕ) (has : 0 < units) (start : List Disk) (past : List Moment) (s : Scene) (here : Place units ready start past s) where
   abbrev w : WorldState
@@ -107,11 +125,21 @@ module _ (units ready : ℕ) (has : 0 < units) (start : List Disk) (past : List 
   abbrev nodes : ℕ
   nodes = length w.initiators
 
-  pub all_owned : (call : Call) → AllOwned Any (alone call node).node.layer (alone call node).outbox.packets
-  all_owned call = owned_here w here.holds has Any (λ place other is live. tt) call
+  abbrev CallOwned : GenerationsState → Call → Type 0
+  CallOwned g call = AllOwned (Fifos ms nodes g) (alone call node).node.layer (alone call node).outbox.packets
+
+  pub all_owned : (g : GenerationsState) → g ≡ w.generations → (call : Call) → CallOwned g call
+  all_owned g same call =
+      subst (λ g. CallOwned g call) (sym same)
+      (owned_here w here.holds has (Fifos ms nodes w.generations) (λ place login is live i l c to. here.owned i l c place login is live to) call)
+
+  pub sight_owned : (g : GenerationsState) (generation id : ℕ) → CallOwned g (sees generation id)
+  sight_owned g generation id =
+      let layer = (alone (sees generation id) node).node.layer in
+      subst (λ packets. AllOwned (Fifos ms nodes g) layer packets) (sym (sight_none generation id node)) tt
 
   -- ---- behind what a call of the target hands out
-  module _ (note : Note) (outbox : OutboxState) (v : WorldState) (media : Media) (fresh_is : v.fresh ≡ note ∷ w.fresh) (there : Place units ready start past (record { world = handed_out 0 0 outbox v; media = media })) (others : AreOthers outbox.sides) (owned : AllOwned Any v.target.layer outbox.packets) (clean : Clean (terms (said note ∷ ms))) where
+  module _ (note : Note) (outbox : OutboxState) (v : WorldState) (media : Media) (fresh_is : v.fresh ≡ note ∷ w.fresh) (there : Place units ready start past (record { world = handed_out 0 0 outbox v; media = media })) (others : AreOthers outbox.sides) (owned : AllOwned (Fifos ms nodes v.generations) v.target.layer outbox.packets) (clean : Clean (terms (said note ∷ ms))) where
     abbrev behind : WorldState
     behind = handed_out 0 0 outbox v
 
@@ -122,10 +150,10 @@ module _ (units ready : ℕ) (has : 0 < units) (start : List Disk) (past : List 
     now = hist past behind
 
     abbrev Q : ℕ → List ℕ → Type 0
-    Q to bytes = Owner v.target.layer v.generations to bytes
+    Q to bytes = Owner ms nodes v.target.layer v.generations to bytes
 
     plain : ArePlain Q 0 (handed 0 0 outbox v)
-    plain = others_handed Q 0 0 outbox v others (leave_all v.target.layer v.generations outbox.packets owned)
+    plain = others_handed Q 0 0 outbox v others (leave_all ms nodes v.target.layer v.generations outbox.packets owned)
 
     nobodys : (r : ℕ) → Has (Pushes start now) r → purpose_of (over (target_at start now)) r ≡ for_nobody
     nobodys r h = pushes_are_nobodys start now (laws_of past behind there.holds.sound.stands).serials r h
@@ -143,7 +171,7 @@ module _ (units ready : ℕ) (has : 0 < units) (start : List Disk) (past : List 
       label_is : x.label ≡ asks.label
       label_is = ap (λ (y : Transaction). y.label) asks.is
 
-      its : (p : Purpose) × (IsUnderWay v.target.layer (Some p) (id_of (topology_at v.generations 0) x.packet.to) asks.label × Pays p x.packet.bytes)
+      its : (p : Purpose) × (IsUnderWay v.target.layer (Some p) (id_of (topology_at v.generations 0) x.packet.to) asks.label × Pays ms nodes x.packet.to p x.packet.bytes)
       its = x.one asks.label asks.kind asks.part
 
       id_is : id_of (topology_at v.generations 0) x.packet.to ≡ Id (terms now) x.packet.to
@@ -173,19 +201,27 @@ module _ (units ready : ℕ) (has : 0 < units) (start : List Disk) (past : List 
       new_row : Row behind.target.layer (Id (terms now) x.packet.to) x.label
       new_row = row_by its.0 under
 
-      pays_by : (p : Purpose) → IsUnderWay behind.target.layer (Some p) (Id (terms now) x.packet.to) x.label → Pays p x.packet.bytes → (access : Access) → access_in_bytes x.packet.bytes ≡ Some access → access.payload ≡ block
+      pays_by : (p : Purpose) → IsUnderWay behind.target.layer (Some p) (Id (terms now) x.packet.to) x.label → Pays ms nodes x.packet.to p x.packet.bytes → (access : Access) → access_in_bytes x.packet.bytes ≡ Some access → GoesTo ms nodes x.packet.to access × (access.payload ≡ block)
       pays_by purposes.Unsolicited u pays access e = pays refl access e
       pays_by purposes.Management u pays access e = manager_not (sym ((handed_so purposes.Management u).operation refl) ∙ nobodys r h)
       pays_by (purposes.Agent place) u pays access e = let f = (handed_so (purposes.Agent place) u).agent place refl in agent_not place f.which (sym f.is ∙ nobodys r h)
 
-      new_block : IsBlock ((terms now).sent r)
-      new_block =
+      new_block : length v.initiators ≡ nodes → IsBlock now ((terms now).sent r)
+      new_block count =
           let a = request_access x.packet.bytes asks.label asks.kind asks.part in
-          record { packet = x.packet; is = x.sent; access = a.access; asks = a.is; payload = pays_by its.0 under its.1.1 a.access a.is }
+          let pays = pays_by its.0 under its.1.1 a.access a.is in
+          let top = subst (λ n. x.packet.to ≤ n) (ap (λ xs. length xs) (handed_alike 0 0 outbox v).initiators ∙ count) to_there in record {
+            packet = x.packet;
+            is = x.sent;
+            access = a.access;
+            asks = a.is;
+            payload = pays.1;
+            fifo = λ i c to. pays.0 i (subst (λ n. n ≤ nodes) to top) (calm_by (said note ∷ []) ms i (calm_now units ready has start past (note ∷ w.fresh) 0 0 outbox v media fresh_is there Q plain clean i c)) to;
+          }
 
     -- so each unsolicited status is the block
-    pub blocks_kept : AreBlocks start base → AreBlocks start now
-    blocks_kept b = handed_blocks units ready has start past (note ∷ w.fresh) 0 0 outbox v media fresh_is there Q plain clean b (λ r h z x. new_block r h x)
+    pub blocks_kept : length v.initiators ≡ nodes → AreBlocks start base → AreBlocks start now
+    blocks_kept count b = handed_blocks units ready has start past (note ∷ w.fresh) 0 0 outbox v media fresh_is there Q plain clean b (λ r h z x. new_block r h x count)
 
     -- what waits under a new row of one is an unsolicited status of the terms
     module _ (layer : Layer Purpose) where

@@ -52,6 +52,7 @@ use Rattle.sbp_world.specs.Hosts.Handing.{AreOthers}
 use Rattle.sbp_world.specs.Wire.Wires.{layers_of}
 use Rattle.sbp_world.specs.Worlds.{Scene, WorldState, with_note, with_target, without_notes}
 use Rattle.sbp_world.proofs.Agents.CrewLapse.{asked as lapse_asked}
+use Rattle.sbp_world.proofs.Agents.Management.Delivery.{marked_generations}
 use Rattle.sbp_world.proofs.Agents.Management.Holding.{good_of, past_terms, was_sent}
 use Rattle.sbp_world.proofs.Agents.Management.Still.{hist}
 use Rattle.sbp_world.proofs.Agents.Management.Calm.{AreQuiet}
@@ -60,7 +61,7 @@ use Rattle.sbp_world.proofs.Lists.SentOwned.{AllOwned}
 use Rattle.sbp_world.proofs.Wire.Asks.{upd_own}
 use Rattle.turn_laws.proofs.FoundLabels.{SameLabels, gets_same}
 use Rattle.turn_laws.proofs.LaterTerms.{Clean, Own, Pushes, free_waits}
-use Rattle.turn_laws.proofs.PendingCalls.{Any, all_owned, target_joins, target_kept}
+use Rattle.turn_laws.proofs.PendingCalls.{Fifos, all_owned, target_joins, target_kept}
 use Rattle.turn_laws.proofs.PendingEnded.{announced_rows, gone, row_back, row_kept, row_stays}
 use Rattle.turn_laws.proofs.PendingFirsts.{late_alike, late_injected, Beside, IsUnder, got_alike, got_frees, got_injected, got_sent, is_under, leaves_same, less_got, less_late, tied_at, tied_beside}
 use Rattle.turn_laws.proofs.PendingKept.{Backs, Keeps, Lists, Needs, AreTied, Id, Less, Pending, Pends, Remain, Rows, Ties, WaitsFor, first_kept, row_waits, rows_same, ties_of, under_state}
@@ -193,8 +194,9 @@ module _ (units ready : ℕ) (has : 0 < units) (start : List Disk) (past : List 
         abbrev marks : ((V judged).target ≡ X.1.node) × (((V judged).initiators ≡ w.initiators) × ((marked serial again (with_target X.1.node w)).fresh ≡ w.fresh))
         marks = marked_same serial again (with_target X.1.node w)
 
-        packets_owned : AllOwned Any (V judged).target.layer X.1.outbox.packets
-        packets_owned = subst (λ (n : NodeState). AllOwned Any n.layer X.1.outbox.packets) (sym marks.0) (all_owned units ready has start past s here (receives run s.media.disks one.generation one.bytes))
+        packets_owned : AllOwned (Fifos ms nodes (V judged).generations) (V judged).target.layer X.1.outbox.packets
+        packets_owned = subst (λ (n : NodeState). AllOwned (Fifos ms nodes (V judged).generations) n.layer X.1.outbox.packets) (sym marks.0)
+            (all_owned units ready has start past s here (V judged).generations (marked_generations serial again (with_target X.1.node w)) (receives run s.media.disks one.generation one.bytes))
 
         ties_first : Ties nodes (terms (First judged)) layer
         ties_first = ties_of nodes (terms (First judged)) layer tied_first
@@ -507,7 +509,7 @@ module _ (units ready : ℕ) (has : 0 < units) (start : List Disk) (past : List 
           (λ n number r. row_back good.lives lives request.peer request.label (λ q l. refl) node.layer layer good.mid.known h.known (Id t n) number r)
           (λ n number kind call r z. row_kept good.lives lives request.peer request.label (λ q l. refl) node.layer layer good.mid.known h.known (Id t n) number kind call r z) (λ n l why z. z)
           (late_remain _ _ asked.waits_there) k.once in
-          let owned = subst (λ (y : target.Scene). AllOwned Any y.node.layer y.outbox.packets) (ap (λ (z : Result (Unit {0}) Stale × target.Scene). z.1) e) (all_owned units ready has start past s here (lets_expire request.peer request.label)) in
+          let owned = subst (λ (y : target.Scene). AllOwned (Fifos ms nodes w.generations) y.node.layer y.outbox.packets) (ap (λ (z : Result (Unit {0}) Stale × target.Scene). z.1) e) (all_owned units ready has start past s here w.generations refl (lets_expire request.peer request.label)) in
           let clean = note_clean units ready has start past s here (notes.TimedOut serial) tt (late_injected (begun_in (t.sent serial)) t) in
           let ties = ties_of nodes (noted (notes.TimedOut serial) t) layer tied_late in
           let rows = announced_rows lives node.pending layer h.known x.node (still_announced lives node.pending x.node h.still) in (

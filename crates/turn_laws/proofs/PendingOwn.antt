@@ -62,7 +62,7 @@ use Rattle.turn_laws.proofs.Calls.{Brings, Stays, calls, injects, loses, refuses
 use Rattle.turn_laws.proofs.Handed.{onto}
 use Rattle.turn_laws.proofs.LaterNotes.{AllLeave, owns_handed}
 use Rattle.turn_laws.proofs.LaterTerms.{Grows, Own, Pushes, grown}
-use Rattle.turn_laws.proofs.PendingCalls.{Any, all_owned, target_kept}
+use Rattle.turn_laws.proofs.PendingCalls.{Fifos, all_owned, sight_owned, target_kept}
 use Rattle.turn_laws.proofs.PendingEnds.{forgets}
 use Rattle.turn_laws.proofs.PendingFirsts.{late_injected, Beside, none_pending, LeavesOwn, got_injected, own_gets, own_lapses, leaves_same, tied_beside}
 use Rattle.turn_laws.proofs.PendingKept.{AreTied, Id, Pending, Rows, Ties, rows_same, ties_of}
@@ -178,7 +178,7 @@ module _ (units ready : ℕ) (has : 0 < units) (start : List Disk) (past : List 
         let rows : Rows node.layer (alone ticks node).node.layer node.pending (alone ticks node).node.pending =
         subst (λ l. Rows node.layer l node.pending (alone ticks node).node.pending) (sym same.1) (subst (λ p. Rows node.layer node.layer node.pending p) (sym same.0) (rows_same node.layer node.pending)) in
         target_kept units ready has start past s here notes.Tick x.outbox u s.media refl there others
-        (subst (λ (y : target.Scene). AllOwned Any y.node.layer y.outbox.packets) (sym x_is) (all_owned units ready has start past s here ticks))
+        (subst (λ (y : target.Scene). AllOwned (Fifos ms nodes w.generations) y.node.layer y.outbox.packets) (sym x_is) (all_owned units ready has start past s here w.generations refl ticks))
         (note_clean units ready has start past s here notes.Tick tt refl) refl node.layer node.pending
         (beside_kept nodes start ms (said notes.Tick ∷ ms) node.layer node.pending (tied_here units ready has start past s here) k b (note_pushes start notes.Tick ms tt))
         (ties_of nodes (noted notes.Tick t) node.layer (tied_beside nodes t (noted notes.Tick t) (Pushes start ms) node.layer b (tied_here units ready has start past s here)))
@@ -216,8 +216,8 @@ module _ (units ready : ℕ) (has : 0 < units) (start : List Disk) (past : List 
         let past_of = ((holds stands.wire stands.reached).facts.honest r q (ap (λ (y : Terms). y.sent r) (past_terms w stands) ∙ e)).past in
         subst (λ (y : Terms). q.generation ≤ y.generation 0) (past_terms w stands) (subst (λ n. q.generation ≤ (terms stands.wire.past).generation n) f past_of)
 
-    packets_owned : AllOwned Any x.node.layer x.outbox.packets
-    packets_owned = subst (λ (y : target.Scene). AllOwned Any y.node.layer y.outbox.packets) (sym x_is) (all_owned units ready has start past s here (sees now own_id))
+    packets_owned : AllOwned (Fifos ms nodes v.generations) x.node.layer x.outbox.packets
+    packets_owned = subst (λ (y : target.Scene). AllOwned (Fifos ms nodes v.generations) y.node.layer y.outbox.packets) (sym x_is) (sight_owned units ready has start past s here v.generations now own_id)
 
     seen_kept : Place units ready start past Sighted → (layer : Layer Purpose) (pending : List ℕ) → Pending nodes z (Pushes start (said note ∷ ms)) layer pending → Ties nodes z layer → Rows layer x.node.layer pending x.node.pending → Kept start (hist past Sighted.world) Sighted
     seen_kept there layer pending base ties rows =

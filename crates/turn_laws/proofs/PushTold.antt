@@ -1,6 +1,7 @@
--- In each turn of every run an unsolicited status that an initiator gets at the FIFO of a login is told: it is a write of the block, and where it is not ignored its row tells.
-use Rattle.std.proofs.Common.{◌≡◌, ◌∙◌, refl, sym, ap, subst, inl, inr, ◌⊎◌, ℕ, suc, ◌==◌, ◌&&◌, ◌||◌, not, Bool, true, false, List, [], ◌∷◌, length, Some, None, Result, Ok, Err}
+-- In each turn of every run an unsolicited status that an initiator gets is told where this one injected nothing, or at the FIFO of a login: it is a write of the block, and where it is not ignored its row tells.
+use Rattle.std.proofs.Common.{arith, ◌≡◌, ◌∙◌, refl, sym, ap, subst, inl, inr, ◌⊎◌, ℕ, suc, ◌%◌, ◌==◌, ◌&&◌, ◌||◌, not, Bool, true, false, List, [], ◌∷◌, length, Some, None, Result, Ok, Err}
 use Rattle.std.specs.List.{list_any}
+use Rattle.std.proofs.lemmas.Bool.Decides.{nat_tests}
 use Rattle.std.proofs.lemmas.Option.{same_Some}
 use Rattle.async_packet.specs.Packet.{Packet, lock, lock_response, read_block, read_block_response, read_quadlet, read_quadlet_response, write_block, write_quadlet, write_response}
 use Rattle.async_packet.specs.Reading.{reading}
@@ -20,9 +21,11 @@ use Rattle.sbp_laws.specs.Agents.{target_before}
 use Rattle.sbp_laws.specs.JudgementLaw.{JudgesBy, Judges, by_judging, by_row, facts_at, facts_of, is_login_fifo, is_response, request_facts, verdict_of, verdict_on}
 use Rattle.sbp_laws.specs.MediaLaw.{is_told_note}
 use Rattle.sbp_laws.specs.NoteKinds.{of_kind}
-use Rattle.sbp_laws.specs.Packets.{access_in, access_in_bytes, packet_in, receiver_in, spelled_by}
+use Rattle.sbp_laws.specs.Packets.{access_at, access_in, access_in_bytes, packet_in, receiver_in, spelled_by}
 use Rattle.sbp_laws.specs.Targets.{Target, target_at}
 use Rattle.sbp_laws.specs.Turns.{Turn}
+use Rattle.sbp_world.specs.Lists.FewLogins.{IsCalmBeside}
+use Rattle.sbp_world.specs.Lists.OwnLogins.{IsLoginFifo}
 use Rattle.sbp_world.proofs.Common.{equal, untrue}
 use Rattle.turn_laws.specs.PushTold.{GetsPush, PushToldLaw, TellsPushes, is_at_login}
 use Rattle.turn_laws.specs.Told.{TellsByRow, is_telling, packet_tells, row_tells, told_by, told_of, told_to}
@@ -127,6 +130,15 @@ fifo_of offset e = by (is_fifo offset) e
     by true f = refl
     by false f = f
 
+-- the FIFO of a login number is one of a login
+login_at : (offset : ℕ) → IsLoginFifo offset → is_login_fifo offset ≡ true
+unfolding is_fifo
+login_at offset own =
+    let few = own.few in
+    let is = own.is in
+    let whole : offset % 0x20 ≡ 0 = omega (arith, is) in
+    grind (arith, nat_tests)
+
 -- ---- a turn
 module _ (start : List Disk) (t : Turn) (told : TellsByRow start t) (judges : Judges start t) (blocks : WereBlocks start t) (serial i : ℕ) (g : GetsPush start t serial i) where
   abbrev wire : Terms
@@ -135,7 +147,7 @@ module _ (start : List Disk) (t : Turn) (told : TellsByRow start t) (judges : Ju
   abbrev T : Target
   T = target_before start t
 
-  sent : IsBlock (wire.sent serial)
+  sent : IsBlock t.past (wire.sent serial)
   sent = blocks serial (subst (λ xs. Has xs serial) (ends_turn (Apart 0) refl (target_at start t.past)).pushes (any_has T.pushes serial g.is_push))
 
   abbrev q : Sending
@@ -148,7 +160,11 @@ module _ (start : List Disk) (t : Turn) (told : TellsByRow start t) (judges : Ju
   access = sent.access
 
   at_login : is_login_fifo access.offset ≡ true
-  at_login = sym (ap is_at_login (ap (λ so. access_in (packet_in so)) sent.is ∙ sent.asks)) ∙ g.at_login
+  at_login = by g.welcome
+    where
+      by : IsCalmBeside t.past i ⊎ (is_at_login (access_at wire serial) ≡ true) → is_login_fifo access.offset ≡ true
+      by (inl calm) = login_at access.offset (sent.fifo i calm to_is)
+      by (inr at) = sym (ap is_at_login (ap (λ so. access_in (packet_in so)) sent.is ∙ sent.asks)) ∙ at
 
   writes : IsWritten access × (is_response (part_of q.bytes) ≡ false)
   writes = written q.bytes access sent.asks sent.payload

@@ -365,8 +365,9 @@ pub fn initiators_are_told_by_the_row()
     ensures { ToldLaw }
 {}
 
-/// In each turn of every run, whatever anybody injected, in which an initiator gets a packet that the target sent as an
-/// unsolicited status, at an address of a FIFO of a login, `told` stands for this initiator, once, and for no other.
+/// In each turn of every run in which an initiator gets a packet that the target sent as an unsolicited status, `told`
+/// stands for this initiator, once, and for no other: where this initiator injected no packets, and no other did or few
+/// logins were given; and, whatever anybody injected, where the packet is for an address of a FIFO of a login.
 #[tactic(auto, using(crate::proofs::PushTold::push_told_law))]
 pub fn unsolicited_statuses_are_told()
     ensures { PushToldLaw }
