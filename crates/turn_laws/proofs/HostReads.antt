@@ -78,7 +78,7 @@ left_reads operations.AgentReset word host = refl
 left_reads operations.State word host = refl
 left_reads operations.Enable word host = refl
 
-ended_reads : (operation : Operation) (word : OpWord) (host : Host) → (op_ended operation word host).reads ≡ host.reads
+pub ended_reads : (operation : Operation) (word : OpWord) (host : Host) → (op_ended operation word host).reads ≡ host.reads
 ended_reads operations.State word host = refl
 ended_reads operations.Rom word host = left_reads operations.Rom word host
 ended_reads operations.Login word host = left_reads operations.Login word host
@@ -92,7 +92,7 @@ ended_reads operations.TargetReset word host = refl
 ended_reads operations.AgentReset word host = refl
 ended_reads operations.Enable word host = refl
 
-begins_reads : (k : ℕ) (host : Host) → (list_begins k host).reads ≡ host.reads
+pub begins_reads : (k : ℕ) (host : Host) → (list_begins k host).reads ≡ host.reads
 begins_reads zero host = refl
 begins_reads (suc k) host = refl
 
@@ -223,7 +223,7 @@ abbrev pub gone_by : Judged → List Moment → ℕ → Option ℕ
 gone_by judgements.Got past serial = answered_at (terms past) serial
 gone_by (judgements.Ignored cause) past serial = None
 
-got_by_reads : (own : Option ℕ) (wire : Terms) (serial : ℕ) (present : Option ℕ) (host : Host)
+pub got_by_reads : (own : Option ℕ) (wire : Terms) (serial : ℕ) (present : Option ℕ) (host : Host)
     → (got_by own wire serial present host).reads ≡ filter (λ (read : StateRead). not (is_gone own read.serial)) host.reads
 got_by_reads None wire serial present host = sym (all_kept host.reads)
 got_by_reads (Some own) wire serial present host = refl

@@ -167,6 +167,7 @@ pub mod OwnBlocks
 pub mod OwnActs
 pub mod Timely
 pub mod OwnTurns
+pub mod ReadsBeside
 pub mod OwnRoms
 pub mod OwnAgentReads
 pub mod OwnEnded

@@ -34,7 +34,7 @@ use Rattle.sbp_laws.specs.Operations.{host_notes, reply_notes}
 use Rattle.sbp_laws.specs.Packets.{access_at, access_in, access_in_bytes, answer_of, answered_at, packet_in, receiver_in}
 use Rattle.sbp_world.proofs.Agents.Management.Hearing.{IsAnswer}
 use Rattle.sbp_world.proofs.Agents.Management.Still.{hist}
-use Rattle.sbp_world.proofs.Common.{and_first, and_second, equal, untrue}
+use Rattle.sbp_world.proofs.Common.{equal, untrue}
 use Rattle.sbp_world.proofs.Hosts.Cores.{not_so}
 use Rattle.sbp_world.proofs.Hosts.KnowActs.{not_not}
 use Rattle.sbp_world.proofs.Hosts.Lives.{At}
@@ -57,6 +57,7 @@ use Rattle.turn_laws.proofs.OwnTurns.{Lapses, Responds}
 use Rattle.turn_laws.proofs.Places.{Place}
 use Rattle.turn_laws.proofs.MarkAnswers.{counts_same}
 use Rattle.turn_laws.proofs.ReadPairs.{AreZipped}
+use Rattle.turn_laws.proofs.ReadsBeside.{read_not_latest}
 use Rattle.turn_laws.proofs.ReadsUnderWay.{AreTimely, IsPair, one_transaction}
 use Rattle.turn_laws.proofs.RequestKinds.{bytes_kind, kind_if, kind_of}
 use Rattle.turn_laws.proofs.RomKnown as known
@@ -183,21 +184,17 @@ module _ (units ready : ℕ) (start : List Disk) (past : List Moment) (s : Scene
 
     other_ends : AreTimely ms → ((act : ℕ) → purpose ≡ Some (purposes.Rom act) → ⊥) → ((act : ℕ) (list : Option ℕ) → purpose ≡ Some (purposes.State act list) → ⊥) → is_read host own ≡ false
     other_ends timely not_rom not_state =
-        ap (λ b. b || (reads_state host.reads own && not (is_latest host.operation own))) (no_rom not_rom)
-        ∙ ap (λ b. b && not (is_latest host.operation own)) (none_listed host.reads (apart timely not_state))
+        ap (λ b. b || reads_state host.reads own) (no_rom not_rom) ∙ none_listed host.reads (apart timely not_state)
 
     -- a read of AGENT_STATE that it says is one, is under way by the terms
     module _ (act : ℕ) (list : Option ℕ) (state_is : purpose ≡ Some (purposes.State act list)) (said_so : is_read host own ≡ true) where
-      state_read : (reads_state host.reads own && not (is_latest host.operation own)) ≡ true
-      state_read =
-          sym (ap (λ b. b || (reads_state host.reads own && not (is_latest host.operation own))) (no_rom (λ other g. (let no : Some (purposes.State act list) ≡ Some (purposes.Rom other) = sym state_is ∙ g in cc))))
+      state_there : reads_state host.reads own ≡ true
+      state_there =
+          sym (ap (λ b. b || reads_state host.reads own) (no_rom (λ other g. (let no : Some (purposes.State act list) ≡ Some (purposes.Rom other) = sym state_is ∙ g in cc))))
           ∙ said_so
 
-      state_there : reads_state host.reads own ≡ true
-      state_there = and_first (reads_state host.reads own) (not (is_latest host.operation own)) state_read
-
       state_apart : is_latest host.operation own ≡ false
-      state_apart = not_so (is_latest host.operation own) (and_second (reads_state host.reads own) (not (is_latest host.operation own)) state_read)
+      state_apart = read_not_latest ms i own fit.serials state_there
 
       -- what is told as it ends is due
       state_says : AreTimely ms → (l : Layer Purpose) (ending : Ending) (answer : Answer) → IsRead ending answer → Says empty_outbox (ended_for (Some (purposes.State act list)) ending empty_outbox (called (record old { layer = l }))) (reply_notes old.number host (present_list ms i) (access_at wire own) own answer)

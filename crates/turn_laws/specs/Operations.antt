@@ -25,9 +25,9 @@ abbrev pub reads_state : List StateRead → ℕ → Bool
 reads_state [] own = false
 reads_state (read ∷ reads) own = (read.serial == own) || reads_state reads own
 
--- a request is the latest read of a ROM operation, or a read of AGENT_STATE that is not the latest request of the operation under way
+-- a request is the latest read of a ROM operation, or a read of AGENT_STATE
 abbrev pub is_read : Host → ℕ → Bool
-is_read host own = (is_rom host.operation && is_latest host.operation own) || (reads_state host.reads own && not (is_latest host.operation own))
+is_read host own = (is_rom host.operation && is_latest host.operation own) || reads_state host.reads own
 
 -- a request that ends is another one of this node, an initiator
 abbrev pub ends_other : List Moment → (node own : Option ℕ) → Bool
