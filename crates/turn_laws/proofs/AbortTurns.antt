@@ -101,7 +101,7 @@ module _ (start : List Disk) where
       later (inr n) = inr n.1
 
 -- ---- the first moment of a turn
-late_ids : (begun : Option Transaction) (t : Terms) (node : ℕ) → id_for (times_out begun t) 0 node ≡ id_for t 0 node
+pub late_ids : (begun : Option Transaction) (t : Terms) (node : ℕ) → id_for (times_out begun t) 0 node ≡ id_for t 0 node
 late_ids None t node = refl
 late_ids (Some transaction) t node = refl
 

@@ -26,6 +26,7 @@ use Rattle.sbp_world.proofs.Hosts.Carries.{IsNoAct}
 use Rattle.sbp_world.proofs.Hosts.Cores.{wire_is}
 use Rattle.sbp_world.proofs.Pointers.Sending.{off as and_off}
 use Rattle.turn_laws.proofs.Handed.{onto}
+use Rattle.std.proofs.lemmas.Bool.{not-true}
 
 -- the quadlets that were read, and the distance of MANAGEMENT_AGENT
 pub record Rom : Type 0 where
@@ -74,10 +75,6 @@ is_beside i (notes.Op j operation word) = not (j == i)
 is_beside i (notes.Sent serial generation from to bytes) = not (from == suc i)
 is_beside i note = true
 
-not_true : (b : Bool) → not b ≡ true → b ≡ false
-not_true true e = untrue e
-not_true false e = refl
-
 begins_rom : (k : ℕ) (host : Host) → rom_in (list_begins k host) ≡ rom_in host
 begins_rom zero host = refl
 begins_rom (suc k) host = refl
@@ -92,10 +89,10 @@ beside_rom (notes.Got serial) past i e = untrue e
 beside_rom (notes.Append j n k cdb buffer) past i e = same_if (nat_eq j i) (list_begins k (host_at past i)) (host_at past i) (begins_rom k (host_at past i))
 beside_rom (notes.Taken j n k status answer) past i e = same_if (nat_eq j i) _ (host_at past i) refl
 beside_rom (notes.Drop j n) past i e = same_if (nat_eq j i) (list_begins zero (host_at past i)) (host_at past i) refl
-beside_rom (notes.Op j operation word) past i e = off (nat_eq j i) (op_ended operation word (host_at past i)) (host_at past i) (not_true (nat_eq j i) e)
+beside_rom (notes.Op j operation word) past i e = off (nat_eq j i) (op_ended operation word (host_at past i)) (host_at past i) (not-true (nat_eq j i) e)
 beside_rom (notes.Stuck j) past i e = same_if (nat_eq j i) _ (host_at past i) refl
 beside_rom (notes.Sent serial generation from to bytes) past i e =
-    off ((nat_eq from (suc i)) && not ((known_host past i).wire.injected serial)) _ (host_at past i) (and_off (nat_eq from (suc i)) _ (not_true (nat_eq from (suc i)) e))
+    off ((nat_eq from (suc i)) && not ((known_host past i).wire.injected serial)) _ (host_at past i) (and_off (nat_eq from (suc i)) _ (not-true (nat_eq from (suc i)) e))
 beside_rom (notes.TimedOut serial) past i e = same_if (is_serial (sender_in ((known_host past i).wire.sent serial)) (suc i)) _ (host_at past i) refl
 beside_rom (notes.Seen node generation) past i e =
     let b = not (nat_eq generation ((known_host past i).wire.generation node)) in same_if (nat_eq node (suc i)) (reset_seen b (host_at past i)) (host_at past i) (reset_rom b (host_at past i))

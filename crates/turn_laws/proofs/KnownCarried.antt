@@ -26,8 +26,10 @@ use Rattle.sbp_world.specs.Worlds.{Scene, WorldState, initiator_at, with_initiat
 use Rattle.turn_laws.proofs.Calls.{Brings, calls, injects, loses, refuses, refuses_action, resets, sets_key}
 use Rattle.turn_laws.proofs.Handed.{handed, handed_fresh, note_of, notes_sent, notes_told, onto, packet_note}
 use Rattle.turn_laws.proofs.HostRoms.{AllBeside, AllOwn, Rom, all_both, beside_rom, is_beside, others_told, rest_rom, rom_at, sent_rom}
-use Rattle.turn_laws.proofs.RomKnown.{KnownOf, known_rom, own_notes}
+use Rattle.turn_laws.proofs.RomKnown.{KnownOf, known_rom}
 use Rattle.turn_laws.proofs.RomSmall.{IsSmallDistance}
+use Rattle.turn_laws.proofs.RomCarried.{apart}
+use Rattle.turn_laws.proofs.OwnNotes.{own_told}
 
 pub record KnownsOf (ms : List Moment) (w : WorldState) : Type 0 where
   pub each : (i : ℕ) → i < length w.initiators → KnownOf ms i (initiator_at w i)
@@ -78,9 +80,6 @@ module _ (i from : ℕ) (other : (from == suc i) ≡ false) where
   own_beside : (weight : ℕ) (outbox : OutboxState) (w : WorldState) → AllBeside i (notes_told weight outbox.sides w) → AllBeside i (handed from weight outbox w)
   own_beside weight outbox w o =
       let v = told_all weight outbox.sides w in all_both i (notes_told weight outbox.sides w) (notes_sent from outbox.packets v) o (sent_beside outbox.packets v)
-
-apart : (j : ℕ) → (0 == suc j) ≡ false
-apart j = grind (arith, nat_tests)
 
 -- ---- behind what is handed out: `v` is the world behind the first note, or as the line begins
 module _ (ms : List Moment) (w : WorldState) (k : KnownsOf ms w) (then : List Moment) (v : WorldState) where
@@ -140,7 +139,7 @@ module _ (ms : List Moment) (w : WorldState) (k : KnownsOf ms w) (then : List Mo
 
 -- what an initiator tells is beside every other one
 pub told_beside : (i j weight : ℕ) (ns : List Note) (outbox : OutboxState) (v : WorldState) → outbox.sides ≡ own ns → AllOwn i ns → (i == j) ≡ false → AllBeside j (notes_told weight outbox.sides v)
-told_beside i j weight ns outbox v e owned away = subst (AllBeside j) (sym (ap (λ xs. notes_told weight xs v) e ∙ own_notes weight ns v)) (others_told ns i j away owned)
+told_beside i j weight ns outbox v e owned away = subst (AllBeside j) (sym (ap (λ xs. notes_told weight xs v) e ∙ own_told weight ns v)) (others_told ns i j away owned)
 
 -- ---- behind a note of a line that settles, and behind a line that calls no node
 module _ (ms : List Moment) (w : WorldState) (k : KnownsOf ms w) where

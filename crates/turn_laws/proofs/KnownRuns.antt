@@ -90,6 +90,7 @@ use Rattle.turn_laws.proofs.RomReads.{LateOfRom, Learns, act_rom, expire_learns,
 use Rattle.turn_laws.proofs.RomRuns.{Carried as Roms, first_roms, rom_cases}
 use Rattle.turn_laws.proofs.RomSmall.{IsSmallDistance}
 use Rattle.turn_laws.proofs.RomTies.{RomOf}
+use Rattle.turn_laws.proofs.RomCarried.{apart}
 
 -- ---- an action tells notes of its list alone
 record LeavesRom (i : ℕ) (ns : List Note) : Type 0 where
@@ -116,9 +117,6 @@ some_demand e = cc
 
 no_packet : {p : Outgoing} → p ∷ [] ≡ [] → ⊥
 no_packet e = cc
-
-apart : (j : ℕ) → (0 == suc j) ≡ false
-apart j = grind (arith, nat_tests)
 
 sucs : (i j : ℕ) → (i == j) ≡ false → (suc i == suc j) ≡ false
 sucs i j e = grind (arith, nat_tests)

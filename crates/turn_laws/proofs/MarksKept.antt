@@ -26,7 +26,7 @@ use Rattle.sbp_journal.specs.declared.cause.Judged.{Judged}
 use Rattle.sbp_journal.specs.declared.cause.Judged.TheVariants as judgements
 use Rattle.sbp_journal.specs.declared.note.Note.{Note}
 use Rattle.sbp_laws.specs.Hosts.{StateRead, host_at}
-use Rattle.sbp_world.proofs.Common.{itself, least, untrue}
+use Rattle.sbp_world.proofs.Common.{itself, least, untrue, and_first}
 use Rattle.sbp_world.proofs.Hosts.PointerNotes.{Fit}
 use Rattle.sbp_world.proofs.Hosts.Shown.{IsHeard, IsShown}
 use Rattle.sbp_world.proofs.Pointers.Guarded.{Guarded, receive_got}
@@ -348,12 +348,8 @@ module _ (past : List Moment) (i : ℕ) (s : InitiatorState) (host : IsHost past
       by None f = untrue f
       by (Some list) f = refl
 
-  first_so : (a b : Bool) → (a && b) ≡ true → a ≡ true
-  first_so true b e = refl
-  first_so false b e = e
-
   purpose_live : (purpose : Purpose) (ending : Ending) → finds_dead purpose ending present ≡ true → is_some present ≡ true
-  purpose_live (purposes.State act list) (endings.Complete value) e = counts_some list (first_so (counts_for present list) (value == 3) e)
+  purpose_live (purposes.State act list) (endings.Complete value) e = counts_some list (and_first (counts_for present list) (value == 3) e)
   purpose_live (purposes.State act list) (endings.Refused rcode) e = untrue e
   purpose_live (purposes.State act list) endings.Expired e = untrue e
   purpose_live (purposes.Pointer list) ending e = untrue e
@@ -370,7 +366,7 @@ module _ (past : List Moment) (i : ℕ) (s : InitiatorState) (host : IsHost past
   waiting_live : (slot : ℕ) (t : TicketParts) → waiting (slot_in s.lists.slots.slots slot) ≡ Some t → is_some present ≡ true
   waiting_live slot t w =
       let so = waits_so past i s.lists.slots host.rows slot (past_slots s.lists.slots.slots slot t host.rows.fits.size w) t w in
-      sym (some_in present) ∙ ap is_some (sym host.rows.fits.present) ∙ listed_some (present_list past i) t.list (first_so _ _ (first_so _ _ so))
+      sym (some_in present) ∙ ap is_some (sym host.rows.fits.present) ∙ listed_some (present_list past i) t.list (and_first _ _ (and_first _ _ so))
 
   found_live : (slot : Option ℕ) → is_some (waiting_at s.lists.slots.slots slot) ≡ true → is_some present ≡ true
   found_live None e = untrue e
@@ -383,7 +379,7 @@ module _ (past : List Moment) (i : ℕ) (s : InitiatorState) (host : IsHost past
   brought_live : (b : Brought) → takes_dead b s ≡ true → is_some present ≡ true
   brought_live nothing e = untrue e
   brought_live unsolicited e = untrue e
-  brought_live (status block) e = found_live (slot_of block.orb) (first_so _ _ e)
+  brought_live (status block) e = found_live (slot_of block.orb) (and_first _ _ e)
 
   finding_live : (f : Finding Purpose) → finding_dead f s ≡ true → is_some present ≡ true
   finding_live (of_response p label None) e = untrue e

@@ -35,7 +35,6 @@ use Rattle.sbp_laws.specs.Packets.{access_at, access_in, access_in_bytes, answer
 use Rattle.sbp_world.proofs.Agents.Management.Hearing.{IsAnswer}
 use Rattle.sbp_world.proofs.Agents.Management.Still.{hist}
 use Rattle.sbp_world.proofs.Common.{equal, untrue}
-use Rattle.sbp_world.proofs.Hosts.Cores.{not_so}
 use Rattle.sbp_world.proofs.Hosts.KnowActs.{not_not}
 use Rattle.sbp_world.proofs.Hosts.Lives.{At}
 use Rattle.sbp_world.proofs.Hosts.PointerNotes.{Fit}

@@ -1,12 +1,11 @@
 -- At each place of a run a live login of the terms stands in the place that its initiator is found in on its unit.
-use Rattle.std.proofs.Common.{arith, ◌≡◌, ◌∙◌, refl, sym, ap, ℕ, suc, ◌+◌, ◌<◌, true, List, ◌∷◌, Option, Some, None}
+use Rattle.std.proofs.Common.{arith, ◌≡◌, ◌∙◌, sym, ap, ℕ, suc, ◌+◌, ◌<◌, true, List, ◌∷◌, Some}
 use Rattle.login_table.specs.Table.{Table, is_live, place_at}
 use Rattle.login_table.specs.declared.login.Login.{Login}
 use Rattle.rbc_disk.specs.Disk.{Disk}
 use Rattle.sbp_bus.specs.Places.{or_nobody}
 use Rattle.sbp_journal.specs.Run.{Moment, asked, said}
-use Rattle.sbp_journal.specs.Transactions.{Transaction}
-use Rattle.sbp_journal.specs.Wire.{Terms, begun_in, terms, times_out}
+use Rattle.sbp_journal.specs.Wire.{Terms, begun_in, terms}
 use Rattle.sbp_journal.specs.declared.event.Event.{Event}
 use Rattle.sbp_journal.specs.declared.event.Event.TheVariants as events
 use Rattle.sbp_journal.specs.declared.note.Note.TheVariants as notes
@@ -27,6 +26,7 @@ use Rattle.turn_laws.proofs.Announcing.{got_initiator, hearer_is, over_same}
 use Rattle.turn_laws.proofs.Calls.{Cases}
 use Rattle.turn_laws.proofs.Pass.{of_every_run}
 use Rattle.turn_laws.proofs.Places.{Place}
+use Rattle.turn_laws.proofs.AbortTurns.{late_ids}
 
 -- T is the target of the terms, and these are the terms before and behind the first note
 pub record IsPlaced (T : Target) (wire after : Terms) : Type 0 where
@@ -40,10 +40,6 @@ pub data IsCall (first : Moment) : Type 0 where
 
 abbrev pub ArePlaced : List Disk → Turn → Type 0
 ArePlaced start t = IsCall t.start → IsPlaced (target_before start t) (wire_before t) (wire_after t)
-
-late_ids : (o : Option Transaction) (t : Terms) (k : ℕ) → id_for (times_out o t) 0 k ≡ id_for t 0 k
-late_ids None t k = refl
-late_ids (Some u) t k = refl
 
 call_initiator : (first : Moment) → IsCall first → (ms : List Moment) (id : ℕ) → initiator_with (terms (first ∷ ms)) id ≡ initiator_with (terms ms) id
 call_initiator first (gets_it serial e) ms id = ap (λ m. initiator_with (terms (m ∷ ms)) id) e ∙ got_initiator serial ms id

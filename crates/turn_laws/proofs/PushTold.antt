@@ -36,6 +36,8 @@ use Rattle.turn_laws.proofs.PushBlocks.{IsBlock}
 use Rattle.turn_laws.proofs.PushSerials.{Apart, Has}
 use Rattle.turn_laws.proofs.SerialsStay.{ends_turn}
 use Rattle.turn_laws.proofs.Told.{told_law}
+use Rattle.std.proofs.lemmas.Bool.{and_from}
+use Rattle.sbp_world.proofs.Hosts.Replies.{same_access}
 
 -- ---- a member of a list
 any_has : (xs : List ℕ) (s : ℕ) → list_any (λ x. x == s) xs ≡ true → Has xs s
@@ -47,7 +49,7 @@ any_has (x ∷ xs) s e = by (λ g. any_has xs s g) (x == s) refl e
     by more false f g = inr (more g)
 
 -- ---- the block is written, and read as one
-whole_block : is_block block ≡ true
+pub whole_block : is_block block ≡ true
 unfolding block_head
 whole_block = refl
 
@@ -58,9 +60,6 @@ some_bytes e = absurd (let no = ap (λ (xs : List ℕ). length xs) e in cc)
 -- what asks so is a write of bytes
 abbrev IsWritten : Access → Type 0
 IsWritten access = (access.is_write ≡ true) × (access.is_block ≡ true)
-
-same_access : (a b : Access) → Some a ≡ Some b → a ≡ b
-same_access a b e = cc
 
 none_asks : {A : Type 0} (a : Access) → None ≡ Some a → A
 none_asks a e = absurd (let no : None ≡ Some a = e in cc)
@@ -119,10 +118,6 @@ row_not f none =
     subst (λ r. first_row ((not f.is_current, by_generation) ∷ (not f.is_for_node, by_grammar) ∷ (r && not f.is_awaited, by_label) ∷ (r, by_response) ∷ (f.is_repeated, by_again) ∷ []) by_request ≡ by_response → ⊥) (sym none)
     (no_response (not f.is_current) (not f.is_for_node) (not f.is_awaited) f.is_repeated)
 
-both : (a b : Bool) → a ≡ true → b ≡ true → (a && b) ≡ true
-both true b e f = f
-both false b e f = e
-
 fifo_of : (offset : ℕ) → is_login_fifo offset ≡ true → is_fifo offset ≡ true
 fifo_of offset e = by (is_fifo offset) e
   where
@@ -175,9 +170,9 @@ module _ (start : List Disk) (t : Turn) (told : TellsByRow start t) (judges : Ju
   facts_tell : ((Facts_to q.to).is_status && (Facts_to q.to).is_unsolicited) ≡ true
   facts_tell =
       subst (λ n. ((Facts_to n).is_status && (Facts_to n).is_unsolicited) ≡ true) (sym to_is)
-      (both (access.is_write && access.is_block && is_fifo access.offset) (is_login_fifo access.offset && is_block access.payload)
-      (both (access.is_write && access.is_block) (is_fifo access.offset) (both access.is_write access.is_block writes.0.0 writes.0.1) (fifo_of access.offset at_login))
-      (both (is_login_fifo access.offset) (is_block access.payload) at_login (ap is_block sent.payload ∙ whole_block)))
+      (and_from (access.is_write && access.is_block && is_fifo access.offset) (is_login_fifo access.offset && is_block access.payload)
+      (and_from (access.is_write && access.is_block) (is_fifo access.offset) (and_from access.is_write access.is_block writes.0.0 writes.0.1) (fifo_of access.offset at_login))
+      (and_from (is_login_fifo access.offset) (is_block access.payload) at_login (ap is_block sent.payload ∙ whole_block)))
 
   abbrev R : Row
   R = row_of (facts_of wire q)

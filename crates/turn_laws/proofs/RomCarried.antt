@@ -52,7 +52,7 @@ module _ (past : List Moment) (w : WorldState) (note : Note) (v : WorldState) (f
   pub noted_count : initiators (hist past v) ≡ initiators (hist past w)
   noted_count = ap (λ ns. initiators (map said ns ++ past)) fresh_is ∙ note_count 0 note (hist past w) (none 0)
 
-apart : (j : ℕ) → (0 == suc j) ≡ false
+pub apart : (j : ℕ) → (0 == suc j) ≡ false
 apart j = grind (arith, nat_tests)
 
 -- ---- behind what is handed out: `v` is the world behind the first note, or as the line begins

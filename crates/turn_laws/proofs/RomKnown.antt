@@ -51,7 +51,6 @@ use Rattle.sbp_journal.specs.declared.operation.Operation.TheVariants as operati
 use Rattle.sbp_journal.specs.declared.operation.OpWord.{OpWord}
 use Rattle.sbp_journal.specs.declared.operation.OpWord.TheVariants as words
 use Rattle.sbp_journal.specs.declared.outbox.Outgoing.{Outgoing}
-use Rattle.sbp_journal.specs.declared.side.Side.TheVariants as sides
 use Rattle.sbp_laws.specs.Hosts.{Host, Underway, host_at, is_latest, is_rom, with_quad}
 use Rattle.sbp_laws.specs.Packets.{answer_in, answer_of, answered_at, packet_at, packet_in, spelled_by}
 use Rattle.sbp_laws.specs.Turns.{event_of}
@@ -70,7 +69,7 @@ use Rattle.sbp_world.proofs.Pointers.Ending.{read_in}
 use Rattle.sbp_world.proofs.Pointers.Finds.{closes_at}
 use Rattle.sbp_world.specs.Hosts.Core.{Core, operation_by, work_in, work_of}
 use Rattle.sbp_world.specs.Sending.{sent}
-use Rattle.sbp_world.specs.Telling.{told, told_all}
+use Rattle.sbp_world.specs.Telling.{told_all}
 use Rattle.sbp_world.specs.Wire.Wires.{Stands}
 use Rattle.sbp_world.specs.Worlds.{Scene, WorldState, initiator_at}
 use Rattle.turn_laws.proofs.FoundRows.{Asks, RowFor}
@@ -85,6 +84,7 @@ use Rattle.turn_laws.proofs.RomReads.{HeardOfRom, IsShort, Learns, heard_quads, 
 use Rattle.turn_laws.proofs.ReadsUnderWay.{Waiting, waits_now}
 use Rattle.turn_laws.proofs.RomSmall.{IsSmallDistance, read_small as small_read}
 use Rattle.turn_laws.proofs.RomTies.{RomOf}
+use Rattle.turn_laws.proofs.OwnNotes.{own_told}
 
 -- what it has by what the terms have
 abbrev pub known_rom : Rom → Rom
@@ -123,10 +123,6 @@ told_known : (ns : List Note) (r : Rom) → known_rom (told_rom ns r) ≡ told_o
 told_known [] r = refl
 told_known (note ∷ later) r = told_known later (note_rom note r) ∙ ap (told_own later) (note_known note r)
 
-pub own_notes : (weight : ℕ) (ns : List Note) (w : WorldState) → notes_told weight (own ns) w ≡ ns
-own_notes weight [] w = refl
-own_notes weight (note ∷ later) w = ap (λ ns. note ∷ ns) (own_notes weight later (told weight (sides.Own note) w))
-
 -- its packets, in a line that is no action of it
 module _ (i from : ℕ) (past : List Moment) where
   one_sent : (to : Option ℕ) (packet : Outgoing) (w : WorldState) (old : List Note) → IsNoAct i (event_of past) → rom_at (map said (onto (packet_note to from packet w) old) ++ past) i ≡ rom_at (map said old ++ past) i
@@ -147,7 +143,7 @@ module _ (i : ℕ) (s : InitiatorState) (number : s.number ≡ i) (q : List ℕ)
   told_notes L = onto L.told v.fresh
 
   told_are : (L : Learns s q t) → notes_told weight t.0.sides v ≡ L.told
-  told_are L = ap (λ xs. notes_told weight xs v) L.sides ∙ own_notes weight L.told v
+  told_are L = ap (λ xs. notes_told weight xs v) L.sides ∙ own_told weight L.told v
 
   now_is : (L : Learns s q t) → IsNoAct i (event_of then) → rom_at (map said (onto (handed (suc i) weight t.0 v) v.fresh) ++ then) i ≡ told_rom L.told (rom_at (map said v.fresh ++ then) i)
   now_is L n =

@@ -1,9 +1,7 @@
 -- In each turn of the target a packet that nothing wants as it is sent goes to an initiator of which `unsolicited` is told in the turn; and no other turn has a packet of the target.
-use Rattle.std.proofs.Common.{arith, ◌≡◌, ◌∙◌, refl, sym, ap, subst, inl, inr, ◌⊎◌, ℕ, suc, ◌+◌, ◌<◌, ◌||◌, not, nat_eq, Bool, true, false, cond, List, [], ◌∷◌, ◌++◌, length, Option, Some}
+use Rattle.std.proofs.Common.{arith, ◌≡◌, ◌∙◌, refl, sym, ap, subst, inl, inr, ◌⊎◌, ℕ, suc, ◌+◌, ◌<◌, nat_eq, Bool, true, false, List, [], ◌∷◌, ◌++◌, length, Option, Some}
 use Rattle.std.proofs.Math.Nat.{suc-ne-zero}
 use Rattle.std.proofs.lemmas.Bool.Decides.{nat_tests}
-use Rattle.packet_store.specs.Kept.{is_flying}
-use Rattle.packet_store.specs.Stored.{deliver_step}
 use Rattle.rbc_disk.specs.Disk.{Disk}
 use Rattle.sbp_bus.specs.Packets.{judged_note}
 use Rattle.sbp_bus.specs.Places.{or_nobody}
@@ -62,6 +60,7 @@ use Rattle.turn_laws.proofs.Places.{Place}
 use Rattle.turn_laws.proofs.PushSerials.{Has}
 use Rattle.turn_laws.proofs.SentAnswers.{others_unsent}
 use Rattle.turn_laws.proofs.StatusHeralds.{IsHeard, Tells}
+use Rattle.sbp_world.proofs.Agents.Seats.{marked_same}
 
 -- ---- a note stands among these
 abbrev pub Stands : Note → List Note → Type 0
@@ -171,14 +170,6 @@ judged_id serial (judgements.Ignored cause) ms n =
     let g = ignored_same (t.sent serial) cause serial t in
     ap (λ (ids : ℕ → ℕ → ℕ). ids (u.generation 0) n) g.1.1.1.1.1 ∙ ap (λ (generation : ℕ → ℕ). t.ids (generation 0) n) g.1.0
 
--- what came leaves who has the places
-marked_places : (serial : ℕ) (again : Bool) (v : WorldState) → (marked serial again v).places ≡ v.places
-marked_places serial again v = by (again || not (is_flying serial v.store.kept))
-  where
-    by : (b : Bool) → (cond b v (record v { store = deliver_step v.store serial })).places ≡ v.places
-    by true = refl
-    by false = refl
-
 module _ (units ready : ℕ) (has : 0 < units) (start : List Disk) where
   module _ (past : List Moment) (s : Scene) (here : Place units ready start past s) (serial : ℕ) (judged : Judged) (outbox : OutboxState) (v : WorldState) (places : v.places ≡ s.world.places) where
     abbrev w : WorldState
@@ -245,7 +236,7 @@ module _ (units ready : ℕ) (has : 0 < units) (start : List Disk) where
             begins = refl;
             inner = handed_inner 0 0 x.1.outbox v (others_inner x.1.outbox.sides others);
             called = noted_behind (λ start ms. AllCalled start first rest ms) start note 0 x.1.outbox s.world v past (ap (λ ns. note ∷ ns) (marked_fresh serial again u))
-                (λ r h young. called_of past s here serial x.0 x.1.outbox v (marked_places serial again u) (terms (hist past (handed_out 0 0 x.1.outbox v))) r (kept.1 r h young));
+                (λ r h young. called_of past s here serial x.0 x.1.outbox v (marked_same serial again u) (terms (hist past (handed_out 0 0 x.1.outbox v))) r (kept.1 r h young));
           }),
           kept.0,
         );

@@ -1,5 +1,5 @@
 -- What the target sends in a turn of an agent, behind the response of the turn: the agent's requests, and others behind them.
-use Rattle.std.proofs.Common.{suc, ◌≡◌, ◌∙◌, refl, sym, ap, subst, ℕ, Bool, true, false, List, [], ◌∷◌, ◌++◌, append_assoc, is_some, drop, length, Option, Some, None, Ok}
+use Rattle.std.proofs.Common.{suc, ◌≡◌, ◌∙◌, refl, sym, ap, subst, ℕ, true, List, [], ◌∷◌, ◌++◌, append_assoc, is_some, drop, length, Option, Some, None, Ok}
 use Rattle.std.proofs.lemmas.Option.{same_Some}
 use Rattle.async_packet.specs.Packet.{Packet}
 use Rattle.async_packet.specs.Reading.{reading}
@@ -31,6 +31,7 @@ use Rattle.turn_laws.proofs.PushSends.{Pushes}
 use Rattle.turn_laws.proofs.SentOwn.{AreFor, AskFor}
 use Rattle.turn_laws.proofs.SentAnswers.{others_unsent, sends_behind, told_unsent}
 use Rattle.turn_laws.proofs.TurnWrites.{sent_generations}
+use Rattle.sbp_world.proofs.Agents.CrewFirsts.{current_by}
 
 -- these stand first, and go to one node
 pub record SendsOwn (start : List Disk) (t : Turn) (peer node : ℕ) (out : List Outgoing) : Type 0 where
@@ -140,10 +141,6 @@ module _ (start : List Disk) (t : Turn) (peer node : ℕ) (g : GenerationsState)
   sends_second one first to known p = own_of p.more (all_second start t g o w same others rest_is one first to known (out ++ p.more) p.is)
 
 -- ---- a packet that is got is of its node's generation
-current_by : (c n r a e : Bool) → may_get (row_of (record { is_current = c; is_for_node = n; is_response = r; is_awaited = a; is_repeated = e })) ≡ true → c ≡ true
-current_by true n r a e h = refl
-current_by false n r a e h = untrue h
-
 pub is_current : (t : Terms) (q : Sending) → may_get (row_of (facts_of t q)) ≡ true → (facts_of t q).is_current ≡ true
 is_current t q h = let f = facts_of t q in current_by f.is_current f.is_for_node f.is_response f.is_awaited f.is_repeated h
 

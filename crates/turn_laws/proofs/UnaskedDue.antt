@@ -3,9 +3,6 @@ use Rattle.std.proofs.Common.{arith, ◌≡◌, ◌∙◌, refl, sym, ap, subst,
 use Rattle.std.proofs.lemmas.Bool.Decides.{nat_tests}
 use Rattle.label_table.specs.Bodies.{Body}
 use Rattle.login_table.specs.declared.login.Login.{Login}
-use Rattle.media_bay.specs.Unsolicited.{block, is_block, reserved_zeros}
-use Rattle.media_bay.proofs.BlockLemmas.{reads_block}
-use Rattle.rbc_command.specs.SenseData.{sense}
 use Rattle.rbc_disk.specs.Disk.{Disk}
 use Rattle.sbp_journal.specs.Run.{Moment, said}
 use Rattle.sbp_journal.specs.Wire.{Terms}
@@ -35,17 +32,15 @@ use Rattle.turn_laws.proofs.RequestPackets.{Sound, begins_split}
 use Rattle.turn_laws.proofs.SentOwn.{AreFor}
 use Rattle.turn_laws.proofs.TargetHails.{Stands}
 use Rattle.turn_laws.proofs.TargetRequests.{AsksAll, pushes_behind}
+use Rattle.std.proofs.lemmas.Bool.{or_right}
+use Rattle.turn_laws.proofs.PushTold.{whole_block}
 
 -- ---- `unsolicited` stands before, and no packet behind it to the initiator
-or_true : (b c : Bool) → c ≡ true → (b || c) ≡ true
-or_true true c e = refl
-or_true false c e = e
-
 abbrev Unsent : Note → Type 0
 Unsent note = is_sent note ≡ false
 
 one_announced : (to : ℕ) (note : Note) (past : List Moment) → IsInner note → Unsent note → is_announced past to ≡ true → is_announced (said note ∷ past) to ≡ true
-one_announced to (notes.Unsolicited i) past h u e = or_true (suc i == to) (is_announced past to) e
+one_announced to (notes.Unsolicited i) past h u e = or_right (suc i == to) (is_announced past to) e
 one_announced to (notes.Sent serial generation from other bytes) past h u e = untrue (sym u)
 one_announced to (notes.Got serial) past h u e = absurd h
 one_announced to (notes.Ignored serial cause) past h u e = absurd h
@@ -86,14 +81,6 @@ other_sent to other serial generation from bytes past apart e =
         by : (c : Bool) → nat_eq a b ≡ c → c ≡ false
         by false g = refl
         by true g = absurd (f (let x : a ≡ b = grind (arith, nat_tests) in x))
-
--- the block is one
-block_is : is_block block ≡ true
-block_is = by (is_block block) (reads_block reserved_zeros refl)
-  where
-    by : (b : Bool) → cond b (Some (sense 6 0x28 0)) None ≡ Some (sense 6 0x28 0) → b ≡ true
-    by true e = refl
-    by false e = absurd (let no : None ≡ Some (sense 6 0x28 0) = e in cc)
 
 same_number : (i j : ℕ) → suc i ≡ suc j → i ≡ j
 same_number i j e = omega (arith, e)
@@ -202,7 +189,7 @@ module _ (t : Turn) where
         told more may [] k = absurd k
         told more may (notes.Sent serial generation from to bytes ∷ ns) k =
             let note = notes.Sent serial generation from to bytes in
-            let push : is_push (access_in_bytes bytes) ≡ true = ap is_push (access_in_body (push_body login) bytes k.0.1.1) ∙ block_is in
+            let push : is_push (access_in_bytes bytes) ≡ true = ap is_push (access_in_body (push_body login) bytes k.0.1.1) ∙ whole_block in
             (push_due login serial generation from to bytes past k.0.1.0 push (r.0 may), more ns (said note ∷ past) k.1 (ready_more serial generation from to name bytes past logins k.0.1.0 d.0 r.1))
         told more may (note ∷ ns) k = absurd k
 
