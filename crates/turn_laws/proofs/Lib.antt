@@ -222,13 +222,11 @@ pub mod TurnSends
 pub mod AgentSends
 pub mod IdleSends
 pub mod RequestPackets
-pub mod AgentRequests
 pub mod TargetRequests
 pub mod OtherRequests
 pub mod Requests
 pub mod TurnCounts
 pub mod ManagerRequests
-pub mod PushRequests
 pub mod Told
 pub mod ToldNotes
 pub mod PushBlocks

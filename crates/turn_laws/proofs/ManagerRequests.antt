@@ -45,7 +45,7 @@ use Rattle.sbp_laws.specs.Agents.{requests_to, target_before, wire_after, wire_b
 use Rattle.sbp_laws.specs.Agents as laws
 use Rattle.sbp_laws.specs.Management.{Call, answers, body_for, call_by, call_of, manager_turn, no_call, operator, operator_for, sent_in, source_node, start_in, start_of, started, starts}
 use Rattle.sbp_laws.specs.Packets.{finds_label, id_for, sender_in}
-use Rattle.sbp_laws.specs.SentRequests.{ArePackets, before_requests, behind_answer}
+use Rattle.sbp_laws.specs.SentRequests.{behind_answer}
 use Rattle.sbp_laws.specs.Targets.{Target, for_agent, for_manager, for_nobody, manager_step, over, target_at}
 use Rattle.sbp_laws.specs.Turns.{EachTurn, Turn, turn}
 use Rattle.target_base.specs.Addresses.{demand_of}
@@ -78,10 +78,8 @@ use Rattle.sbp_world.proofs.FitTarget.Manager.{managed_fits}
 use Rattle.sbp_world.proofs.FitTarget.Nodes.{IfBody, manager_body_fits}
 use Rattle.sbp_world.proofs.Lists.Extends.{marked_fresh}
 use Rattle.sbp_world.proofs.Wire.Holding.{KnownTo}
-use Rattle.turn_laws.specs.ManagerRequests.{ManagerAsks, ManagerRequestsLaw, WhereCalled}
 use Rattle.turn_laws.specs.Runs.{OfEveryRun}
 use Rattle.turn_laws.proofs.Calls.{Cases}
-use Rattle.turn_laws.proofs.EachTurns.{joined_law}
 use Rattle.turn_laws.proofs.Effects.{step_same}
 use Rattle.turn_laws.proofs.FailureDue.{late_body}
 use Rattle.turn_laws.proofs.FailureNotes.{call_is, own_late_calls}
@@ -98,7 +96,7 @@ use Rattle.turn_laws.proofs.Operators.{IsOperator, laws_name, operator_is, opera
 use Rattle.turn_laws.proofs.Pass.{of_every_run}
 use Rattle.turn_laws.proofs.Places.{Place}
 use Rattle.turn_laws.proofs.RequestLabels.{AreOf}
-use Rattle.turn_laws.proofs.RequestPackets.{IsReady, Sound, got_ready, late_ready, sound_law, turn_sends}
+use Rattle.turn_laws.proofs.RequestPackets.{Sound}
 use Rattle.turn_laws.proofs.SentAnswers.{none_due, reply_due}
 use Rattle.turn_laws.proofs.SentOwn.{AreFor}
 use Rattle.turn_laws.proofs.TurnSends.{SendsAll, all_alone, all_second, response_is}
@@ -473,16 +471,3 @@ operation_law = of_every_run OperationAsks (λ units ready start has. operation_
 module _ (start : List Disk) (t : Turn) (sound : Sound start t) where
   abbrev its : Target
   its = target_before start t
-
-  called : (call : Call) → IsReady t → AsksFor start t call → WhereCalled call (ArePackets (before_requests start t) 0 (behind_answer start t) (requests_for (wire_before t) (wire_after t) its call))
-  called no_call ready h = tt
-  called (answers answer) ready h = turn_sends start t sound ready 0 _ h
-  called (starts node orb) ready h = turn_sends start t sound ready 0 _ h
-
-  by_start : (x : Moment) → t.start ≡ x → OperationAsks start t → ManagerAsks start t
-  by_start (said (notes.Got serial)) e h = called (call_of its t) (got_ready start t sound serial e) h
-  by_start (said (notes.TimedOut serial)) e h = called (call_of its t) (late_ready start t sound serial e) h
-  by_start x e h = subst (λ y. let call = call_by y its (wire_before t) in WhereCalled call (ArePackets (before_requests start t) 0 (behind_answer start t) (requests_for (wire_before t) (wire_after t) its call))) (sym e) tt
-
-pub manager_requests_law : ManagerRequestsLaw
-manager_requests_law = joined_law Sound OperationAsks ManagerAsks (λ start t sound h. by_start start t sound t.start refl h) sound_law operation_law

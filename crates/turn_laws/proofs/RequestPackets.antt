@@ -16,7 +16,6 @@ use Rattle.sbp_laws.specs.SentRequests.{ArePackets, before_requests, behind_answ
 use Rattle.sbp_laws.specs.Turns.{EachTurn, Turn, effects_of, is_sent, sends_of}
 use Rattle.sbp_world.proofs.Common.{untrue}
 use Rattle.sbp_world.proofs.Wire.Starts.{laws_of}
-use Rattle.turn_laws.specs.AgentRequests.{BeginAs}
 use Rattle.turn_laws.specs.Runs.{OfEveryRun}
 use Rattle.turn_laws.proofs.AnswerRuns.{answered_law}
 use Rattle.turn_laws.proofs.BehindTurns.{behind_every_turn}
@@ -28,7 +27,7 @@ use Rattle.turn_laws.proofs.Pass.{of_every_run}
 use Rattle.turn_laws.proofs.PendingFirsts.{got_injected, late_injected}
 use Rattle.turn_laws.proofs.PendingTurns.{clean_here}
 use Rattle.turn_laws.proofs.PushSerials.{note_count}
-use Rattle.turn_laws.proofs.SentOwn.{AllOwn, AllStill, AreFor, asked_exactly, begin_as, effects_still, own_begun, sent_clean, still_terms, told_both}
+use Rattle.turn_laws.proofs.SentOwn.{AllOwn, AllStill, AreFor, asked_exactly, effects_still, sent_clean, still_terms, told_both}
 
 -- ---- before a turn no serial that was not sent is of an injected packet
 module _ (units ready : ℕ) (has : 0 < units) (start : List Disk) where
@@ -85,10 +84,6 @@ all_sends (note ∷ ns) = by (all_sends ns) (is_sent note) refl
 sends_first : (a b : List Note) → AllSends (a ++ b) → AllSends a
 sends_first [] b h = tt
 sends_first (note ∷ a) b h = (h.0, sends_first a b h.1)
-
-sends_behind : (a b : List Note) → AllSends (a ++ b) → AllSends b
-sends_behind [] b h = h
-sends_behind (note ∷ a) b h = sends_behind a b h.1
 
 sends_clean : (ns : List Note) (past : List Moment) → AllSends ns → Clean (terms past) → Clean (terms (once_told past ns))
 sends_clean [] past h c = c
@@ -163,19 +158,6 @@ module _ (start : List Disk) (t : Turn) (sound : Sound start t) (ready : IsReady
   module _ (node : ℕ) (wants : List Request) where
     pub turn_sends : AreFor node packets wants → ArePackets (before_requests start t) node packets wants
     turn_sends b = asked_exactly node packets wants (before_requests start t) clean_there (subst AllOwn whole sound.own) b
-
-    pub turn_begins : (own more : List Note) → packets ≡ own ++ more → AreFor node own wants → BeginAs (before_requests start t) node packets wants
-    turn_begins own more is b =
-        let past = before_requests start t in
-        let own_first = own_begun more (once_told past own) (subst AllOwn (whole ∙ (ap (once_told past) is ∙ told_both own more past)) sound.own) in
-        subst (λ ns. BeginAs past node ns wants) (sym is) (begin_as node own more wants past (asked_exactly node own wants past clean_there own_first b))
-
-    -- behind some of them the others are these
-    pub turn_ends : (own more : List Note) → packets ≡ own ++ more → AreFor node more wants → ArePackets (once_told (before_requests start t) own) node more wants
-    turn_ends own more is b =
-        let past = before_requests start t in
-        let sends : AllSends own = sends_first own more (subst AllSends is (sends_behind due packets (subst AllSends split (all_sends t.rest)))) in
-        asked_exactly node more wants (once_told past own) (sends_clean own past sends clean_there) (subst AllOwn (whole ∙ (ap (once_told past) is ∙ told_both own more past)) sound.own) b
 
 -- of a delivery and of a time-out
 module _ (start : List Disk) (t : Turn) (sound : Sound start t) (serial : ℕ) where

@@ -18,7 +18,6 @@ use Rattle.sbp_laws.specs.MediaLaw.{is_push_note, is_told_note}
 use Rattle.sbp_laws.specs.NoteKinds.{is_cleared_note, is_cut_note, is_end_note, is_failure_note, is_operation_note, of_kind}
 use Rattle.sbp_laws.specs.SentRequests.{ArePackets, IsAsked}
 use Rattle.sbp_world.proofs.Common.{untrue}
-use Rattle.turn_laws.specs.AgentRequests.{BeginAs}
 use Rattle.turn_laws.proofs.LaterTerms.{Clean}
 use Rattle.turn_laws.proofs.PresentOrbs.{told_one}
 use Rattle.turn_laws.proofs.RequestLabels.{AreOf}
@@ -209,11 +208,3 @@ asked_exactly node (notes.Sent serial generation from to bytes ∷ rest) (want �
       asked_exactly node rest requests (said note ∷ past) (sent_clean serial q t clean) behind b.1,
     )
 asked_exactly node (note ∷ rest) requests past clean own b = absurd b
-
--- so packets begin where those are the first
-pub begin_as : (node : ℕ) (first more : List Note) (requests : List Request) (past : List Moment) → ArePackets past node first requests → BeginAs past node (first ++ more) requests
-begin_as node [] more [] past h = tt
-begin_as node [] more (want ∷ requests) past h = absurd h
-begin_as node (notes.Sent serial generation from to bytes ∷ first) more [] past h = absurd h
-begin_as node (notes.Sent serial generation from to bytes ∷ first) more (want ∷ requests) past h = (h.0, begin_as node first more requests (said (notes.Sent serial generation from to bytes) ∷ past) h.1)
-begin_as node (note ∷ first) more requests past h = absurd h

@@ -34,9 +34,6 @@ pub mod ActEntries
 pub mod HostRequests
 pub mod Together
 pub mod RunsEnd
-pub mod AgentRequests
-pub mod PushRequests
-pub mod ManagerRequests
 pub mod TargetRequests
 pub mod OtherRequests
 pub mod Told

@@ -2,9 +2,7 @@
 ghost use Rattle.turn_laws.specs.AbortOwners.{AbortOwnersLaw};
 ghost use Rattle.turn_laws.specs.Aborts.{AbortsLaw};
 ghost use Rattle.turn_laws.specs.ActEntries.{ActionRunLaw};
-ghost use Rattle.turn_laws.specs.ActRequests.{ActRequestsLaw};
 ghost use Rattle.turn_laws.specs.Actions.{ActionsLaw};
-ghost use Rattle.turn_laws.specs.AgentRequests.{AgentRequestsLaw};
 ghost use Rattle.turn_laws.specs.Alone.{AloneLaw};
 ghost use Rattle.turn_laws.specs.Announced.{AnnouncedLaw};
 ghost use Rattle.turn_laws.specs.Answers.{AnsweredLaw};
@@ -19,23 +17,18 @@ ghost use Rattle.turn_laws.specs.Ends.{EndsLaw};
 ghost use Rattle.turn_laws.specs.Failing.{FailingLaw};
 ghost use Rattle.turn_laws.specs.Failures.{FailuresLaw};
 ghost use Rattle.turn_laws.specs.Faults.{FaultsLaw};
-ghost use Rattle.turn_laws.specs.HostRequests.{HostRequestsLaw};
 ghost use Rattle.turn_laws.specs.Judgement.{JudgementRunLaw};
 ghost use Rattle.turn_laws.specs.Login.{LoginRunLaw};
-ghost use Rattle.turn_laws.specs.ManagerRequests.{ManagerRequestsLaw};
 ghost use Rattle.turn_laws.specs.Once.{OnceLaw};
 ghost use Rattle.turn_laws.specs.Operations.{ReadsEndLaw};
 ghost use Rattle.turn_laws.specs.Ordered.{OrderedLaw};
-ghost use Rattle.turn_laws.specs.OtherRequests.{OtherRequestsLaw};
 ghost use Rattle.turn_laws.specs.Packets.{PacketsLaw};
 ghost use Rattle.turn_laws.specs.Requests.{RequestsRunLaw};
 ghost use Rattle.turn_laws.specs.RunsEnd.{RunsEndLaw};
-ghost use Rattle.turn_laws.specs.PushRequests.{PushRequestsLaw};
 ghost use Rattle.turn_laws.specs.PushTold.{PushToldLaw};
 ghost use Rattle.turn_laws.specs.Pushes.{PushesLaw};
 ghost use Rattle.turn_laws.specs.Silent.{SilentLaw};
 ghost use Rattle.turn_laws.specs.Statuses.{StatusesLaw};
-ghost use Rattle.turn_laws.specs.TargetRequests.{TargetRequestsLaw};
 ghost use Rattle.turn_laws.specs.Told.{ToldLaw};
 ghost use Rattle.turn_laws.specs.UnderWay.{AfterLaw, RomsWaitLaw, TargetWaitsLaw};
 ghost use Rattle.turn_laws.specs.Unserved.{UnservedLaw};
@@ -288,16 +281,6 @@ pub fn actions_are_done_or_refused()
     ensures { ActionsLaw }
 {}
 
-/// In each turn of every run that begins with an action of an initiator, whatever anybody injected, exactly the
-/// request is sent that the action asks for, if no row refuses it and it asks for one: a read of the ROM or of
-/// AGENT_STATE, a write of AGENT_RESET, of UNSOLICITED_STATUS_ENABLE, of ORB_POINTER with the address of the first ORB
-/// of the list, of DOORBELL with the running number, or to MANAGEMENT_AGENT of the address of its management ORB, with
-/// the lowest label that serves it. So much of `requests` of the sent law.
-#[tactic(auto, using(crate::proofs::ActRequests::act_requests_law))]
-pub fn actions_send_their_requests()
-    ensures { ActRequestsLaw }
-{}
-
 /// The action law holds of the journal of every run, whatever anybody injected: each line brings what the law says of it,
 /// behind what stood before it, an action the refusal with the least number that holds, and nothing else, or its notes and
 /// its request, a line of the bus its deliveries, its end or its refusal; and in each turn the effects stand in one order,
@@ -305,55 +288,6 @@ pub fn actions_send_their_requests()
 #[tactic(auto, using(crate::proofs::ActEntries::action_run_law))]
 pub fn actions_are_lawful()
     ensures { ActionRunLaw }
-{}
-
-/// In each turn of every run, whatever anybody injected, the packets behind the response begin with the requests that
-/// an agent of the target has, where the laws have some: that of its step, or, where that finds no label, the status of
-/// the ORB that fails so; then the read ahead of the next ORB, where 16 labels are left. Each has the next serial, goes
-/// in the target's generation to the initiator of the login, and is spelled canonically under the lowest label that
-/// serves it; of a chunk that its medium did not tell the number of its bytes is due. So much of `requests` of the sent
-/// law: not what is sent behind them.
-#[tactic(auto, using(crate::proofs::AgentRequests::agent_requests_law))]
-pub fn agents_send_their_requests()
-    ensures { AgentRequestsLaw }
-{}
-
-/// In each turn of every run that is for the management operation, whatever anybody injected, the packets behind the
-/// response are exactly its request, where it asks for something and that finds a label to its initiator: the read of its
-/// ORB as it starts, and at a response what its step then asks for. A time-out asks for nothing, and a write that finds
-/// an operation under way neither. It has the next serial, goes in the target's generation to the initiator of the
-/// operation, and is spelled canonically under the lowest label that serves it: of `requests` of the sent law the turns of
-/// the operation.
-#[tactic(auto, using(crate::proofs::ManagerRequests::manager_requests_law))]
-pub fn operations_send_their_requests()
-    ensures { ManagerRequestsLaw }
-{}
-
-/// In each turn of every run, whatever anybody injected, the last packets are the writes of unsolicited statuses that the
-/// media law has in it: one to each login with `unsolicited`, by rising place, of the block to its FIFO, each with the
-/// next serial, in the target's generation, to the initiator of the login, and spelled canonically under the lowest label
-/// that serves it: of `requests` of the sent law those of unsolicited statuses.
-#[tactic(auto, using(crate::proofs::PushRequests::push_requests_law))]
-pub fn unsolicited_statuses_are_sent_where_due()
-    ensures { PushRequestsLaw }
-{}
-
-/// In each turn of every run that the target has, whatever anybody injected, the packets behind its response are exactly
-/// its requests, in their order, and no more: those of an agent, as `agents_send_their_requests` has them, that of the
-/// management operation, and those of unsolicited statuses. A turn has none where it is for nobody. Of `requests` of the
-/// sent law the turns of the target: those in which it gets a packet, or one of its transactions times out.
-#[tactic(auto, using(crate::proofs::TargetRequests::target_requests_law))]
-pub fn targets_send_their_requests()
-    ensures { TargetRequestsLaw }
-{}
-
-/// In each turn of every run in which nobody is to ask, whatever anybody injected, no node sends anything behind its
-/// response: with a reset that a node sees, a second, the time-out of an initiator's transaction, the end of a settle, and
-/// a line that is no action. An injected packet is no node's. Of `requests` of the sent law these turns, in which it has
-/// none; each packet that a node gets is somebody's.
-#[tactic(auto, using(crate::proofs::OtherRequests::other_requests_law))]
-pub fn other_turns_send_nothing()
-    ensures { OtherRequestsLaw }
 {}
 
 /// In each turn of every run, whatever anybody injected, `told` stands exactly where an initiator got a packet whose row
@@ -371,15 +305,6 @@ pub fn initiators_are_told_by_the_row()
 #[tactic(auto, using(crate::proofs::PushTold::push_told_law))]
 pub fn unsolicited_statuses_are_told()
     ensures { PushToldLaw }
-{}
-
-/// In each turn of every run in which an initiator gets a packet, whatever anybody injected, it sends exactly its next
-/// read of a ROM: behind the answer with a quadlet to the latest read of a `rom` operation, where fewer than 256 were
-/// read, the read of the quadlet behind it, with the lowest label that serves it; and else nothing but its response to
-/// a request. It is `requests` of the sent law, of the turns that begin so.
-#[tactic(auto, using(crate::proofs::HostRequests::host_requests_law))]
-pub fn initiators_read_roms_on()
-    ensures { HostRequestsLaw }
 {}
 
 /// In each turn of every run, whatever anybody injected, behind its response exactly those requests are sent that an
